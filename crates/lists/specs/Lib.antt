@@ -1,0 +1,3 @@
+-- Plain lists, and nothing of graphs.
+pub mod Lists
+pub mod Areas

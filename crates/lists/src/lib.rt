@@ -1,0 +1,1 @@
+// Plain lists: what they are as sets, tables and areas is in specs/. It knows nothing of graphs.

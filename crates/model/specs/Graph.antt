@@ -1,0 +1,52 @@
+-- 01, "The graph record" and "lib.rs": the graph as plain lists with no padding, and what is read off it. Assumes nothing.
+use mathlib.Core.Bool.{Bool, true, false, _&&_}
+use mathlib.Core.List.{List, [], _∷_}
+use Prim.Native.Nat.{ℕ, zero, suc, _+_, _-_}
+use lib.ListN.{length, getD, drop}
+use lib.Dec.{leb, ltb}
+use Rattle.lists.specs.Lists.{all, filter, count, upto, sum, same}
+
+-- Run starts (one more than runs; the first is the first held event, the last is `len`), parent runs grouped by run, the frontier,
+-- a seen length per run, and `changed_from`. The marks are no field: 01 defines them by the others
+pub record Graph : Type 0 where
+  pub starts : List ℕ
+  pub parents : List (List ℕ)
+  pub frontier : List ℕ
+  pub seen : List ℕ
+  pub changed : ℕ
+
+unfoldable pub runs : Graph → ℕ
+runs g = length (g .parents)
+
+-- a run's first event; at the run count, `len`
+unfoldable pub start : Graph → ℕ → ℕ
+start g r = getD (g .starts) r 0
+
+unfoldable pub firstHeld : Graph → ℕ
+firstHeld g = start g 0
+
+unfoldable pub len : Graph → ℕ
+len g = start g (runs g)
+
+-- the parent entries
+unfoldable pub entries : Graph → ℕ
+entries g = sum (λ ps. length ps) (g .parents)
+
+-- the run that holds event e: the last that starts at e or before
+unfoldable pub containing : Graph → ℕ → ℕ
+containing g e = count (λ s. leb s e) (g .starts) - 1
+
+-- "Run r is marked exactly when every run from r on has seen at least r's start"
+unfoldable pub marked : Graph → ℕ → Bool
+marked g r = all (λ s. leb (start g r) s) (drop r (g .seen))
+
+unfoldable pub marks : Graph → List ℕ
+marks g = filter (marked g) (upto (runs g))
+
+-- of a list of events, those that are held
+unfoldable pub held : Graph → List ℕ → List ℕ
+held g es = filter (λ e. leb (firstHeld g) e) es
+
+-- "With runs held and the parents just the last event"
+unfoldable pub extends : Graph → List ℕ → Bool
+extends g ps = ltb 0 (runs g) && same ps ((len g - 1) ∷ [])

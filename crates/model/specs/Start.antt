@@ -1,0 +1,72 @@
+-- 01, "pushes and run starts": `start_run_at` and `take_changed_from`, on every input. Assumes nothing.
+use mathlib.Core.Bool.{Bool, true, false, not, _&&_, _||_}
+use mathlib.Core.List.{List, [], _∷_}
+use Prim.Native.Nat.{ℕ, zero, suc, _+_}
+use lib.Dec.{leb, ltb, eqb}
+use Rattle.model.specs.declared.record.CausalGraph.{CausalGraph}
+use Rattle.model.specs.declared.answers.Started.{Started}
+use Rattle.model.specs.declared.answers.Taken.{Taken}
+use Rattle.model.specs.declared.answers.BoolAnswer.the-variants.{Told, Refused as RefusedBool}
+use Rattle.model.specs.declared.answers.RunAnswer.the-variants.{Run, Refused as RefusedRun}
+use Rattle.model.specs.declared.answers.Refusal.the-variants.{Broken, TooManyRuns, TooManyEntries}
+use Rattle.model.specs.declared.answers.Refusal.{Refusal}
+use Rattle.model.specs.declared.answers.Outcome.{Outcome}
+use Rattle.model.specs.declared.answers.Outcome.the-variants.{Done, Refused}
+use Rattle.model.specs.Refusals.{firstOf}
+use Rattle.model.specs.Graph.{Graph, runs, start, firstHeld, len, entries, containing, marked}
+use Rattle.model.specs.Record.{view, store}
+use Rattle.model.specs.Broken.{broken}
+use Rattle.model.specs.Split.{split}
+
+-- What a run start comes to: an answer with nothing done, or a split
+pub data Starting : Type 0 where
+  answers : Bool → Starting
+  splitting : Starting
+
+-- "r is marked and r is last or r+1 marked"
+unfoldable pub alone : Graph → ℕ → Bool
+alone g r = marked g r && (eqb (suc r) (runs g) || marked g (suc r))
+
+-- "false if `at` is at most the first held event or at least `len`. At a run's start: true exactly if unmarked. Inside run r: false if
+-- r is marked and r is last or r+1 marked; else split, true"
+unfoldable pub starting : Graph → ℕ → Starting
+starting g at =
+    let r = containing g at in
+    elim (leb at (firstHeld g) || leb (len g) at) [
+      | true ↦ answers false
+      | false ↦ elim (eqb (start g r) at) [ true ↦ answers (not (marked g r)) | false ↦ elim (alone g r) [ true ↦ answers false | false ↦ splitting ] ]
+    ]
+
+-- A split takes one run and one entry: refusals 6 and 7
+unfoldable pub splitOutcome : Graph → Outcome
+splitOutcome g = firstOf ((ltb 512 (runs g + 1), TooManyRuns) ∷ (ltb 2048 (entries g + 1), TooManyEntries) ∷ [])
+
+unfoldable pub told : CausalGraph → Bool → Started
+told g b = record { graph = g; answer = Told b }
+
+-- "Graph unchanged"
+unfoldable pub startRefused : CausalGraph → Refusal → Started
+startRefused g r = record { graph = g; answer = RefusedBool r }
+
+-- `start_run_at(at)`
+unfoldable pub startRunAtOf : CausalGraph → ℕ → Started
+startRunAtOf g at =
+    let a = view g in
+    elim (broken g) [
+      | true ↦ startRefused g Broken
+      | false ↦ elim (starting a at) [
+        | answers b ↦ told g b
+        | splitting ↦ elim (splitOutcome a) [ Done ↦ told (store (split a (containing a at) at)) true | Refused r ↦ startRefused g r ]
+      ]
+    ]
+
+-- "`take_changed_from` gives `changed_from` and sets it to the run count"
+unfoldable pub taken : Graph → Graph
+taken g = record { starts = g .starts; parents = g .parents; frontier = g .frontier; seen = g .seen; changed = runs g }
+
+-- `take_changed_from()`
+unfoldable pub takeChangedFromOf : CausalGraph → Taken
+takeChangedFromOf g = elim (broken g) [
+  | true ↦ record { graph = g; answer = RefusedRun Broken }
+  | false ↦ record { graph = store (taken (view g)); answer = Run (g .«changed_from») }
+]

@@ -1,0 +1,108 @@
+// What the calls of 01 answer. `specs/Refusals.antt` gives 01's number of each refusal.
+use crate::record::CausalGraph;
+use crate::record::EventIndex;
+use crate::record::EventRunIndex;
+
+// 01, "What a refused call gives": a variant for each row of the table, named by its case.
+pub enum Refusal {
+    Broken,
+    NoEvents,
+    NotRising,
+    UnknownEvent,
+    TooManyEvents,
+    TooManyRuns,
+    TooManyEntries,
+    FrontierTooLong,
+    Outside,
+    Unmarked,
+    ListTooShort,
+    KnownTooLong,
+    RowsTooLong,
+    BookTooShort,
+    BookTooLong,
+    UnknownKind,
+}
+
+// Done, or refused.
+pub enum Outcome {
+    Done,
+    Refused(Refusal),
+}
+
+// An event; a range of events, first and end, exclusive; a run; a truth.
+pub enum EventAnswer {
+    Event(EventIndex),
+    Refused(Refusal),
+}
+
+pub enum EventsAnswer {
+    Events(EventIndex, EventIndex),
+    Refused(Refusal),
+}
+
+pub enum RunAnswer {
+    Run(EventRunIndex),
+    Refused(Refusal),
+}
+
+pub enum BoolAnswer {
+    Told(bool),
+    Refused(Refusal),
+}
+
+// The graph that `after` makes; refused, that of `new`.
+pub struct Made {
+    pub graph: CausalGraph,
+    pub outcome: Outcome,
+}
+
+// The graph after a push, and the new events.
+pub struct Pushed {
+    pub graph: CausalGraph,
+    pub answer: EventsAnswer,
+}
+
+// The graph after a run start, and what was told.
+pub struct Started {
+    pub graph: CausalGraph,
+    pub answer: BoolAnswer,
+}
+
+// The graph after a take, and the run taken.
+pub struct Taken {
+    pub graph: CausalGraph,
+    pub answer: RunAnswer,
+}
+
+// A run's parents (runs) or the frontier (events): `count` of them, then zeros.
+pub struct Listed {
+    pub items: [u32; 512],
+    pub count: usize,
+    pub outcome: Outcome,
+}
+
+// How many whole records were written into a lent list.
+pub struct Written {
+    pub count: usize,
+    pub outcome: Outcome,
+}
+
+// How many steps a walk or a full replay wrote, and how many events its written retreats and advances hold.
+pub struct Walked {
+    pub count: u64,
+    pub moved: u64,
+    pub outcome: Outcome,
+}
+
+// What became of a book: all of it taken; refused; or its push `k` refused.
+pub enum BookAnswer {
+    Whole,
+    Refused(Refusal),
+    PushRefused(Refusal, u32),
+}
+
+// The graph that a book gives, as far as it was taken.
+pub struct BookRead {
+    pub graph: CausalGraph,
+    pub answer: BookAnswer,
+}

@@ -1,0 +1,339 @@
+//! Document 01 as plain, slow code, written from its sentences and not from the Rust.
+//! Refusals are 01's numbers. Refusals 1, 11 and 13 to 16 are not here: this graph is never broken,
+//! and lists are as long as need be.
+
+/// Kind, first run, end run: a cut range or a step.
+pub type Triple = [u32; 3];
+pub const LINEAR: u32 = 0;
+pub const CONCURRENT: u32 = 1;
+pub const RETREAT: u32 = 0;
+pub const ADVANCE: u32 = 1;
+pub const APPLY: u32 = 2;
+pub const OPEN: u32 = 3;
+
+#[derive(Clone, Debug)]
+pub struct Graph {
+    /// One more than runs.
+    pub starts: Vec<u32>,
+    /// Each run's parent runs.
+    pub parents: Vec<Vec<u32>>,
+    pub frontier: Vec<u32>,
+    pub seen: Vec<u32>,
+    pub changed: u32,
+}
+
+pub struct Walked {
+    pub rows: Vec<Vec<u32>>,
+    pub steps: Vec<Triple>,
+}
+
+fn rising(list: &[u32]) -> bool {
+    list.windows(2).all(|pair| pair[0] < pair[1])
+}
+
+impl Graph {
+    pub fn new() -> Self {
+        Graph { starts: vec![0], parents: vec![], frontier: vec![], seen: vec![], changed: 0 }
+    }
+
+    /// Refused, the graph is `new`'s.
+    pub fn after(events: u32, frontier: &[u32]) -> Result<Self, u32> {
+        if !rising(frontier) {
+            return Err(3);
+        }
+        if frontier.iter().any(|&event| event >= events) {
+            return Err(4);
+        }
+        if frontier.len() > 512 {
+            return Err(8);
+        }
+        Ok(Graph { starts: vec![events], frontier: frontier.to_vec(), ..Graph::new() })
+    }
+
+    pub fn runs(&self) -> usize {
+        self.parents.len()
+    }
+
+    pub fn first_held(&self) -> u32 {
+        self.starts[0]
+    }
+
+    pub fn len(&self) -> u32 {
+        self.starts[self.runs()]
+    }
+
+    pub fn entries(&self) -> usize {
+        self.parents.iter().map(|parents| parents.len()).sum()
+    }
+
+    pub fn marked(&self, run: usize) -> bool {
+        self.seen[run..].iter().all(|&seen| seen >= self.starts[run])
+    }
+
+    pub fn marks(&self) -> Vec<u32> {
+        (0..self.runs()).filter(|&run| self.marked(run)).map(|run| run as u32).collect()
+    }
+
+    pub fn extends_last_event(&self, parents: &[u32]) -> bool {
+        self.runs() > 0 && parents == [self.len() - 1]
+    }
+
+    fn seen_after(&self, run: usize) -> u32 {
+        if self.seen[run] == self.starts[run] { self.starts[run + 1] } else { self.seen[run] }
+    }
+
+    fn split(&mut self, run: usize, at: u32) {
+        self.changed = self.changed.min(run as u32);
+        for parent in self.parents.iter_mut().flatten() {
+            if *parent >= run as u32 {
+                *parent += 1;
+            }
+        }
+        self.parents.insert(run + 1, vec![run as u32]);
+        self.seen.insert(run + 1, if self.seen[run] == self.starts[run] { at } else { self.seen[run] });
+        self.starts.insert(run + 1, at);
+    }
+
+    /// The first new event and the end.
+    pub fn push(&mut self, parents: &[u32], len: u32) -> Result<(u32, u32), u32> {
+        let start = self.len();
+        if len == 0 {
+            return Err(2);
+        }
+        if !rising(parents) {
+            return Err(3);
+        }
+        if parents.iter().any(|&parent| parent >= start) {
+            return Err(4);
+        }
+        let end = start.checked_add(len).ok_or(5u32)?;
+        if self.extends_last_event(parents) {
+            let last = self.runs() - 1;
+            self.changed = self.changed.min(last as u32);
+            self.starts[last + 1] = end;
+            self.frontier.retain(|&event| event != start - 1);
+            self.frontier.push(end - 1);
+            return Ok((start, end));
+        }
+
+        let held: Vec<u32> = parents.iter().copied().filter(|&parent| parent >= self.first_held()).collect();
+        // The starts hold the graph's end too.
+        let splits = held.iter().filter(|&&parent| self.starts.binary_search(&(parent + 1)).is_err()).count();
+        let staying: Vec<u32> = self.frontier.iter().copied().filter(|event| !parents.contains(event)).collect();
+        if self.runs() + splits + 1 > 512 {
+            return Err(6);
+        }
+        if self.entries() + splits + held.len() > 2048 {
+            return Err(7);
+        }
+        if staying.len() + 1 > 512 {
+            return Err(8);
+        }
+
+        let marked_starts: Vec<u32> = self.marks().iter().map(|&run| self.starts[run as usize]).collect();
+        for &parent in &held {
+            if let Err(place) = self.starts.binary_search(&(parent + 1)) {
+                self.split(place - 1, parent + 1);
+            }
+        }
+        let ending_in = |&parent: &u32| self.starts.binary_search(&(parent + 1)).unwrap() - 1;
+        let parent_runs: Vec<usize> = held.iter().map(ending_in).collect();
+        let seen = if parents == self.frontier {
+            start
+        } else {
+            parent_runs.iter().map(|&run| self.seen_after(run)).max().unwrap_or(self.first_held())
+        };
+        self.changed = self.changed.min(self.runs() as u32);
+        self.parents.push(parent_runs.iter().map(|&run| run as u32).collect());
+        self.starts.push(end);
+        self.seen.push(seen);
+        for run in 0..self.runs() {
+            if marked_starts.contains(&self.starts[run]) && !self.marked(run) {
+                self.changed = self.changed.min(run as u32);
+            }
+        }
+        self.frontier = staying;
+        self.frontier.push(end - 1);
+        Ok((start, end))
+    }
+
+    pub fn start_run_at(&mut self, at: u32) -> Result<bool, u32> {
+        if at <= self.first_held() || at >= self.len() {
+            return Ok(false);
+        }
+        match self.starts.binary_search(&at) {
+            Ok(run) => Ok(!self.marked(run)),
+            Err(place) => {
+                let run = place - 1;
+                if self.marked(run) && (run + 1 == self.runs() || self.marked(run + 1)) {
+                    return Ok(false);
+                }
+                if self.runs() + 1 > 512 {
+                    return Err(6);
+                }
+                if self.entries() + 1 > 2048 {
+                    return Err(7);
+                }
+                self.split(run, at);
+                Ok(true)
+            }
+        }
+    }
+
+    pub fn take_changed_from(&mut self) -> u32 {
+        let runs = self.runs() as u32;
+        std::mem::replace(&mut self.changed, runs)
+    }
+
+    pub fn start(&self, run: u32) -> Result<u32, u32> {
+        self.starts.get(run as usize).copied().ok_or(9)
+    }
+
+    pub fn events(&self, run: u32) -> Result<(u32, u32), u32> {
+        if (run as usize) < self.runs() { Ok((self.starts[run as usize], self.starts[run as usize + 1])) } else { Err(9) }
+    }
+
+    pub fn parents_of(&self, run: u32) -> Result<&[u32], u32> {
+        self.parents.get(run as usize).map(|parents| &parents[..]).ok_or(9)
+    }
+
+    pub fn containing(&self, event: u32) -> Result<u32, u32> {
+        (0..self.runs()).find(|&run| self.starts[run] <= event && event < self.starts[run + 1]).map(|run| run as u32).ok_or(9)
+    }
+
+    pub fn cut(&self, from: u32) -> Result<Vec<Triple>, u32> {
+        let runs = self.runs() as u32;
+        if runs == 0 {
+            return Ok(vec![]);
+        }
+        if from >= runs {
+            return Err(9);
+        }
+        if !self.marked(from as usize) {
+            return Err(10);
+        }
+        let marks: Vec<u32> = self.marks().into_iter().filter(|&run| run >= from).collect();
+        let mut ranges: Vec<Triple> = vec![];
+        for (i, &first) in marks.iter().enumerate() {
+            let end = marks.get(i + 1).copied().unwrap_or(runs);
+            if end > first + 1 {
+                ranges.push([CONCURRENT, first, end]);
+            } else if ranges.last().is_some_and(|range| range[0] == LINEAR) {
+                ranges.last_mut().unwrap()[2] = end;
+            } else {
+                ranges.push([LINEAR, first, end]);
+            }
+        }
+        Ok(ranges)
+    }
+
+    pub fn walk(&self, from: u32, to: u32, known: u32, first: u32) -> Result<Walked, u32> {
+        if from > to || to as usize > self.runs() {
+            return Err(9);
+        }
+        if known > to - from {
+            return Err(12);
+        }
+        let (count, known) = ((to - from) as usize, known as usize);
+        let first = (first as usize).max(known);
+        let events = |run: usize| (self.starts[from as usize + run] - self.starts[from as usize], self.starts[from as usize + run + 1] - self.starts[from as usize]);
+        let parents: Vec<Vec<usize>> = (0..count)
+            .map(|run| self.parents[from as usize + run].iter().filter(|&&p| p >= from).map(|&p| (p - from) as usize).collect())
+            .collect();
+
+        // Each run's history in the range, as a set.
+        let mut history: Vec<Vec<bool>> = vec![];
+        for run in 0..count {
+            let mut set = vec![false; count];
+            for &p in &parents[run] {
+                set[p] = true;
+                for earlier in 0..p {
+                    set[earlier] |= history[p][earlier];
+                }
+            }
+            history.push(set);
+        }
+
+        let (mut chains, mut rows): (Vec<Vec<usize>>, Vec<Vec<u32>>) = (vec![], vec![]);
+        for run in 0..count {
+            let joined = chains.iter().position(|chain| chain.iter().all(|&member| history[run][member])).unwrap_or_else(|| {
+                chains.push(vec![]);
+                chains.len() - 1
+            });
+            rows.push(chains.iter().map(|chain| chain.iter().filter(|&&member| history[run][member]).count() as u32).collect());
+            chains[joined].push(run);
+        }
+
+        let all = self.starts[to as usize] - self.starts[from as usize];
+        let per_bit = all.div_ceil(127).max(1);
+        let mut cover = vec![[false; 127]; count];
+        for run in (0..count).rev() {
+            for bit in events(run).0 / per_bit..events(run).1.div_ceil(per_bit) {
+                cover[run][bit as usize] = true;
+            }
+            for child in run + 1..count {
+                if parents[child].contains(&run) {
+                    for bit in 0..127 {
+                        cover[run][bit] |= cover[child][bit];
+                    }
+                }
+            }
+        }
+        let weight: Vec<usize> = cover.iter().map(|bits| bits.iter().filter(|&&bit| bit).count()).collect();
+
+        let mut visited: Vec<bool> = (0..count).map(|run| run < known).collect();
+        let mut current = visited.clone();
+        let mut last = None;
+        let (mut ready, mut steps): (Vec<usize>, Vec<Triple>) = (vec![], vec![]);
+        loop {
+            let rest_open = (known..first.min(count)).all(|run| visited[run]);
+            for run in known..count {
+                let is_ready = !visited[run] && parents[run].iter().all(|&p| visited[p]) && (run < first || rest_open);
+                if is_ready && !ready.contains(&run) {
+                    ready.push(run);
+                }
+            }
+            let mut best: Option<(u64, usize, usize)> = None;
+            for at in (ready.len().saturating_sub(64)..ready.len()).rev() {
+                let run = ready[at];
+                let cost = if last.is_some_and(|last| parents[run] == [last]) {
+                    0
+                } else if best.is_some_and(|best| best.0 == 0) {
+                    continue;
+                } else {
+                    (0..count).filter(|&r| current[r] != history[run][r]).map(|r| (events(r).1 - events(r).0) as u64).sum()
+                };
+                if best.is_none_or(|best| (cost, weight[run]) < (best.0, best.1)) {
+                    best = Some((cost, weight[run], at));
+                }
+            }
+            let Some((_, _, at)) = best else { break };
+            let run = ready.remove(at);
+            for (kind, leaving, entering) in [(RETREAT, &current, &history[run]), (ADVANCE, &history[run], &current)] {
+                for chain in &chains {
+                    let mut open = false;
+                    for &member in chain.iter().filter(|&&member| leaving[member] && !entering[member]) {
+                        let member = from + member as u32;
+                        match steps.last_mut() {
+                            Some(step) if open && step[2] == member => step[2] = member + 1,
+                            _ => steps.push([kind, member, member + 1]),
+                        }
+                        open = true;
+                    }
+                }
+            }
+            steps.push([APPLY, from + run as u32, from + run as u32 + 1]);
+            current = history[run].clone();
+            current[run] = true;
+            visited[run] = true;
+            last = Some(run);
+        }
+        Ok(Walked { rows, steps })
+    }
+
+    /// The events in the steps' retreats and advances.
+    pub fn moved(&self, steps: &[Triple]) -> u64 {
+        let events = |step: &Triple| (self.starts[step[2] as usize] - self.starts[step[1] as usize]) as u64;
+        steps.iter().filter(|step| step[0] == RETREAT || step[0] == ADVANCE).map(events).sum()
+    }
+}
