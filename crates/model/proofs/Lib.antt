@@ -1,3 +1,4 @@
 -- The laws of the definitions.
 pub mod Computed
 pub mod Everything
+pub mod Exact

@@ -1,0 +1,59 @@
+-- Numbers between two bounds, and how many there are. Assumes nothing.
+use mathlib.Core.Path.{_≡_, refl, sym, ap, _∙_, subst, fun-ext}
+use mathlib.Core.Logic.{_⊎_, inl, inr, _↔_}
+use mathlib.Core.Bool.{Bool, true, false, not, cond, _&&_, _||_, false≢true}
+use mathlib.Core.List.{List, [], _∷_, _++_, map, append-assoc}
+use Prim.Native.Nat.{ℕ, zero, suc, _+_, _-_, _*_, _≤_, _<_, min, max}
+use native.Mathlib.Omega.{arith}
+use native.Mathlib.Nat.{zero-add, add-zero}
+use lib.ListN.{length, getD, take, drop, length-append, List·getD-append, List·getD-map, List·getD-eq-default, length-map, length-take, length-drop}
+use lib.Seq.{getD-append-seam, getD-take, getD-drop, take-at, drop-at}
+use lib.Dec.{leb, ltb, eqb}
+use borrow.Author.Tests.{ltb-true, ltb-false, leb-true, leb-false, eqb-true, eqb-false, lt-ltb, le-ltb, le-leb, lt-leb, eq-eqb, ne-eqb}
+use Rattle.lists.specs.Lists.{bit, any, all, filter, count, sum, concat, reverse, insertAt, from, upto, mem, occurs, same, rising, below, largest, least}
+use Rattle.lists.proofs.Truth.{lt-or-le, eq-or-not, false-true, and-left, and-right, and-both, or-cases, or-false, or-assoc, or-left, or-right, bool-iff, bit-true, bit-false, bit-le, bit-inj, eqb-sym}
+
+abbrev pub within : ℕ × ℕ → ℕ → Bool
+within s r = leb (s .0) r && ltb r (s .1)
+
+pub within-in : (a b r : ℕ) → a ≤ r → r < b → within (a, b) r ≡ true
+within-in a b r p q = and-both (leb a r) (ltb r b) (le-leb a r p) (lt-ltb r b q)
+
+pub within-before : (a b r : ℕ) → r < a → within (a, b) r ≡ false
+within-before a b r p = rw (lt-leb a r p)
+
+pub within-after : (a b r : ℕ) → b ≤ r → within (a, b) r ≡ false
+within-after a b r p = rw (le-ltb r b p) (go (leb a r))
+  where
+    go : (t : Bool) → t && false ≡ false
+    go true = refl
+    go false = refl
+
+-- A stretch one longer in front
+pub longer : (m y r : ℕ) → m < y → bit (within (m, y) r) ≡ bit (eqb m r) + bit (within (suc m, y) r)
+longer m y r h = go (lt-or-le r m) (eq-or-not m r) (lt-or-le r y)
+  where
+    go : (r < m) ⊎ (m ≤ r) → (m ≡ r) ⊎ (m ≡ r → ⊥) → (r < y) ⊎ (y ≤ r) → bit (within (m, y) r) ≡ bit (eqb m r) + bit (within (suc m, y) r)
+    go (inl p) q c = rw (within-before m y r p, within-before (suc m) y r (omega arith), ne-eqb m r (λ e. omega arith))
+    go (inr p) (inl q) c = rw (within-in m y r p (omega arith), within-before (suc m) y r (omega arith), eq-eqb m r q)
+    go (inr p) (inr q) (inl c) = rw (within-in m y r p c, within-in (suc m) y r (omega arith) c, ne-eqb m r q)
+    go (inr p) (inr q) (inr c) = rw (within-after m y r c, within-after (suc m) y r c, ne-eqb m r q)
+
+pub none-within : (a r : ℕ) → within (a, a) r ≡ false
+none-within a r = go (lt-or-le r a)
+  where
+    go : (r < a) ⊎ (a ≤ r) → within (a, a) r ≡ false
+    go (inl p) = within-before a a r p
+    go (inr p) = within-after a a r p
+
+-- How many of a stretch of numbers lie between two bounds
+pub count-between : (p q a k : ℕ) → count (λ e. within (p, q) e) (from a k) ≡ min q (a + k) - max p a
+unfolding count from
+count-between p q a zero = omega arith
+count-between p q a (suc k) = go (lt-or-le a p) (lt-or-le a q) (count-between p q (suc a) k)
+  where
+    go : (a < p) ⊎ (p ≤ a) → (a < q) ⊎ (q ≤ a) → count (λ e. within (p, q) e) (from (suc a) k) ≡ min q (suc a + k) - max p (suc a) →
+        bit (within (p, q) a) + count (λ e. within (p, q) e) (from (suc a) k) ≡ min q (a + suc k) - max p a
+    go (inl x) y ih = rw (within-before p q a x) (omega arith)
+    go (inr x) (inl y) ih = rw (within-in p q a x y) (omega arith)
+    go (inr x) (inr y) ih = rw (within-after p q a y) (omega arith)

@@ -1,0 +1,50 @@
+-- What holds of each number of a list. Assumes nothing.
+use mathlib.Core.Path.{_≡_, refl, sym, ap, _∙_, subst, fun-ext}
+use mathlib.Core.Logic.{_⊎_, inl, inr, _↔_}
+use mathlib.Core.Bool.{Bool, true, false, not, cond, _&&_, _||_, false≢true}
+use mathlib.Core.List.{List, [], _∷_, _++_, map, append-assoc}
+use Prim.Native.Nat.{ℕ, zero, suc, _+_, _-_, _*_, _≤_, _<_, min, max}
+use native.Mathlib.Omega.{arith}
+use native.Mathlib.Nat.{zero-add, add-zero}
+use lib.ListN.{length, getD, take, drop, length-append, List·getD-append, List·getD-map, List·getD-eq-default, length-map, length-take, length-drop}
+use lib.Seq.{getD-append-seam, getD-take, getD-drop, take-at, drop-at}
+use lib.Dec.{leb, ltb, eqb}
+use borrow.Author.Tests.{ltb-true, ltb-false, leb-true, leb-false, eqb-true, eqb-false, lt-ltb, le-ltb, le-leb, lt-leb, eq-eqb, ne-eqb}
+use Rattle.lists.specs.Lists.{bit, any, all, filter, count, sum, concat, reverse, insertAt, from, upto, mem, occurs, same, rising, below, largest, least}
+use Rattle.lists.proofs.Truth.{lt-or-le, eq-or-not, false-true, and-left, and-right, and-both, or-cases, or-false, or-assoc, or-left, or-right, bool-iff, bit-true, bit-false, bit-le, bit-inj, eqb-sym}
+
+abbrev pub All : (ℕ → Type 0) → List ℕ → Type 0
+All P [] = Unit {0}
+All P (x ∷ xs) = P x × All P xs
+
+pub all-map : {P Q : ℕ → Type 0} → ((x : ℕ) → P x → Q x) → (xs : List ℕ) → All P xs → All Q xs
+all-map f [] h = tt
+all-map f (x ∷ xs) h = (f x (h .0), all-map f xs (h .1))
+
+pub all-append : (P : ℕ → Type 0) (xs ys : List ℕ) → All P xs → All P ys → All P (xs ++ ys)
+all-append P [] ys h k = k
+all-append P (x ∷ xs) ys h k = (h .0, all-append P xs ys (h .1) k)
+
+pub all-filter : (P : ℕ → Type 0) (p : ℕ → Bool) (xs : List ℕ) → All P xs → All P (filter p xs)
+unfolding filter
+all-filter P p [] h = tt
+all-filter P p (x ∷ xs) h = go (p x) (all-filter P p xs (h .1))
+  where
+    go : (t : Bool) → All P (filter p xs) → All P (cond t (x ∷ filter p xs) (filter p xs))
+    go true k = (h .0, k)
+    go false k = k
+
+pub all-from : (a n : ℕ) → All (λ x. x < a + n) (from a n)
+unfolding from
+all-from a zero = tt
+all-from a (suc n) = (omega arith, all-map (λ x h. omega arith) (from (suc a) n) (all-from (suc a) n))
+
+pub all-take : (P : ℕ → Type 0) (n : ℕ) (xs : List ℕ) → All P xs → All P (take n xs)
+all-take P zero xs h = tt
+all-take P (suc n) [] h = tt
+all-take P (suc n) (x ∷ xs) h = (h .0, all-take P n xs (h .1))
+
+pub all-reverse : (P : ℕ → Type 0) (done xs : List ℕ) → All P done → All P xs → All P (reverse done xs)
+unfolding reverse
+all-reverse P done [] d h = d
+all-reverse P done (x ∷ xs) d h = all-reverse P (x ∷ done) xs (h .0, d) (h .1)

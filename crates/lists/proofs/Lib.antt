@@ -1,0 +1,6 @@
+-- The laws of lists.
+pub mod Truth
+pub mod Between
+pub mod Members
+pub mod Rising
+pub mod Each
