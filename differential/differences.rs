@@ -159,7 +159,7 @@ fn against_the_paper() -> bool {
         }
         let marked: Vec<u32> = calls::rust_marks(&rust).iter().map(|&run| rust.runs().start(run)).collect();
         let of_paper = critical(calls, rust.first_held_event());
-        println!("    starts of marked runs: {marked:?}\n    critical versions in the paper's sense lie before: {of_paper:?}\n");
+        println!("    starts of marked runs: {marked:?}\n    critical in the paper's sense, among the held events, before: {of_paper:?}\n");
         good &= differ == (marked != of_paper) && marked.iter().all(|start| of_paper.contains(start));
     };
     let two_roots = [New, push(&[], 1), push(&[], 1)];
@@ -171,7 +171,7 @@ fn against_the_paper() -> bool {
     compare("Parents that are not concurrent (0 is an ancestor of 1): taken", &[New, push(&[], 1), push(&[0], 1), push(&[0, 1], 1)], false);
     compare("Parents that stand for the frontier's version but are not its list: critical, not marked", &[New, push(&[], 1), push(&[], 2), push(&[0, 1, 2], 1)], true);
     compare("The same version by the frontier's list: marked", &[New, push(&[], 1), push(&[], 2), push(&[0, 2], 1)], false);
-    compare("Events before the first held count as seen by all, named or not", &[After(1, vec![0]), push(&[], 1)], false);
+    compare("Events before the first held count as seen by all: in the paper 1, which names no parent, is concurrent with 0", &[After(1, vec![0]), push(&[], 1)], false);
     good
 }
 

@@ -1,17 +1,10 @@
 -- What holds of each number of a list. Assumes nothing.
-use mathlib.Core.Path.{_≡_, refl, sym, ap, _∙_, subst, fun-ext}
-use mathlib.Core.Logic.{_⊎_, inl, inr, _↔_}
-use mathlib.Core.Bool.{Bool, true, false, not, cond, _&&_, _||_, false≢true}
-use mathlib.Core.List.{List, [], _∷_, _++_, map, append-assoc}
-use Prim.Native.Nat.{ℕ, zero, suc, _+_, _-_, _*_, _≤_, _<_, min, max}
+use mathlib.Core.Bool.{Bool, true, false, cond}
+use mathlib.Core.List.{List, [], _∷_, _++_}
+use Prim.Native.Nat.{ℕ, zero, suc, _+_, _<_}
 use native.Mathlib.Omega.{arith}
-use native.Mathlib.Nat.{zero-add, add-zero}
-use lib.ListN.{length, getD, take, drop, length-append, List·getD-append, List·getD-map, List·getD-eq-default, length-map, length-take, length-drop}
-use lib.Seq.{getD-append-seam, getD-take, getD-drop, take-at, drop-at}
-use lib.Dec.{leb, ltb, eqb}
-use borrow.Author.Tests.{ltb-true, ltb-false, leb-true, leb-false, eqb-true, eqb-false, lt-ltb, le-ltb, le-leb, lt-leb, eq-eqb, ne-eqb}
-use Rattle.lists.specs.Lists.{bit, any, all, filter, count, sum, concat, reverse, insertAt, from, upto, mem, occurs, same, rising, below, largest, least}
-use Rattle.lists.proofs.Truth.{lt-or-le, eq-or-not, false-true, and-left, and-right, and-both, or-cases, or-false, or-assoc, or-left, or-right, bool-iff, bit-true, bit-false, bit-le, bit-inj, eqb-sym}
+use lib.ListN.{take}
+use Rattle.lists.specs.Lists.{filter, reverse, from}
 
 abbrev pub All : (ℕ → Type 0) → List ℕ → Type 0
 All P [] = Unit {0}

@@ -1,6 +1,6 @@
 -- Steps followed on the plain set with ancestors by computing: what the proof of demand 3 works with. Assumes nothing.
 use mathlib.Core.Path.{_≡_}
-use mathlib.Core.Bool.{Bool, true, false, _&&_}
+use mathlib.Core.Bool.{true, false, _&&_}
 use mathlib.Core.List.{List, [], _∷_}
 use Prim.Native.Nat.{ℕ, suc, _+_}
 use Rattle.lists.specs.Lists.{bit}

@@ -1,6 +1,5 @@
 -- 01, "Our forms for each place": "Where an answer is an enum, a definition gives this paper's number and values for each of its cases".
 -- The first of each is 0, or the refusal's number; values that a refusal does not give are 0. Assumes nothing.
-use mathlib.Core.Bool.{Bool, true, false}
 use mathlib.Core.List.{List, [], _∷_}
 use Prim.Native.Nat.{ℕ, suc}
 use Rattle.lists.specs.Lists.{bit}

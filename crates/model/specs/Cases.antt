@@ -1,14 +1,13 @@
 -- 01, "Contracts and cases": C1 to C11 in a single statement. Assumes nothing.
 use mathlib.Core.Path.{_≡_}
-use mathlib.Core.Bool.{Bool, true, false}
-use mathlib.Core.List.{List, [], _∷_, _++_, map}
-use Prim.Native.Nat.{ℕ, zero, suc, _+_, _*_, _/_, _%_}
+use mathlib.Core.List.{List, [], _∷_, map}
+use Prim.Native.Nat.{ℕ, _*_, _/_, _%_}
 use lib.ListN.{take, replicate}
 use Rattle.lists.specs.Lists.{concat}
 use Rattle.model.specs.declared.record.CausalGraph.{CausalGraph}
 use Rattle.model.specs.Answers.{outcomeNumber, eventsNumbers, boolNumbers, runNumbers}
 use Rattle.model.specs.Fresh.{newOf}
-use Rattle.model.specs.Walk.{WalkResult, walkOf}
+use Rattle.model.specs.Walk.{walkOf}
 use Rattle.model.specs.Book.{bookOf}
 use Rattle.model.specs.Print.{ascii, replayText}
 use Rattle.model.specs.Log.{Call, push, startRunAt, takeChangedFrom, Answer, answer}

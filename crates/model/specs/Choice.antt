@@ -1,8 +1,8 @@
 -- 01, "walk.rs": what a walk knows of its range, which runs are ready, and which one it visits next. Assumes nothing.
 use mathlib.Core.Bool.{Bool, true, false, not, cond, _&&_, _||_}
-use mathlib.Core.List.{List, [], _∷_, _++_}
+use mathlib.Core.List.{List, [], _∷_}
 use mathlib.Core.Option.{Option, none, some}
-use Prim.Native.Nat.{ℕ, zero, suc, _+_, _-_}
+use Prim.Native.Nat.{ℕ, _+_, _-_}
 use lib.ListN.{length, getD, take}
 use lib.Dec.{ltb, eqb}
 use Rattle.lists.specs.Lists.{all, filter, sum, reverse, from, upto, mem, same}

@@ -1,7 +1,7 @@
 -- 01, "walk.rs": covers and weights. A cover is a set of the range's 127ths. Assumes nothing.
 use mathlib.Core.Bool.{Bool, true, false, _&&_, _||_}
 use mathlib.Core.List.{List, [], _∷_, map}
-use Prim.Native.Nat.{ℕ, zero, suc, _/_, max}
+use Prim.Native.Nat.{ℕ, suc, _/_, max}
 use lib.ListN.{length, getD}
 use lib.Dec.{leb, ltb}
 use Rattle.lists.specs.Lists.{count, upto, mem, ceil}

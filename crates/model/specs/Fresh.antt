@@ -1,5 +1,5 @@
 -- 01, "pushes and run starts": `new` and `after`. Assumes nothing.
-use mathlib.Core.Bool.{Bool, true, false, not}
+use mathlib.Core.Bool.{not}
 use mathlib.Core.List.{List, [], _∷_}
 use Prim.Native.Nat.{ℕ}
 use lib.ListN.{length}

@@ -1,7 +1,7 @@
 -- 01, "The graph record" and "lib.rs": the graph as plain lists with no padding, and what is read off it. Assumes nothing.
-use mathlib.Core.Bool.{Bool, true, false, _&&_}
+use mathlib.Core.Bool.{Bool, _&&_}
 use mathlib.Core.List.{List, [], _∷_}
-use Prim.Native.Nat.{ℕ, zero, suc, _+_, _-_}
+use Prim.Native.Nat.{ℕ, _-_}
 use lib.ListN.{length, getD, drop}
 use lib.Dec.{leb, ltb}
 use Rattle.lists.specs.Lists.{all, filter, count, upto, sum, same}

@@ -1,7 +1,7 @@
 -- Ancestors among runs: a run's history. Assumes nothing.
-use mathlib.Core.Bool.{Bool, true, false, _||_}
+use mathlib.Core.Bool.{Bool, _||_}
 use mathlib.Core.List.{List, [], _∷_, _++_}
-use Prim.Native.Nat.{ℕ, zero, suc}
+use Prim.Native.Nat.{ℕ}
 use lib.ListN.{length, getD}
 use lib.Dec.{ltb, eqb}
 use Rattle.lists.specs.Lists.{any, filter, upto, mem}

@@ -1,7 +1,7 @@
 -- 01, "pushes and run starts": the lookups, on every input. Assumes nothing.
-use mathlib.Core.Bool.{Bool, true, false, not, _&&_}
+use mathlib.Core.Bool.{Bool, false, not, _&&_}
 use mathlib.Core.List.{List, [], _∷_}
-use Prim.Native.Nat.{ℕ, zero, suc, _+_}
+use Prim.Native.Nat.{ℕ, suc}
 use lib.ListN.{length, getD}
 use lib.Dec.{leb, ltb, eqb}
 use Rattle.lists.specs.Areas.{pad}
@@ -15,12 +15,11 @@ use Rattle.model.specs.declared.answers.RunAnswer.the-variants.{Run, Ref
 use Rattle.model.specs.declared.answers.BoolAnswer.{BoolAnswer}
 use Rattle.model.specs.declared.answers.BoolAnswer.the-variants.{Told, Refused as RefusedBool}
 use Rattle.model.specs.declared.answers.Listed.{Listed}
-use Rattle.model.specs.declared.answers.Refusal.{Refusal}
 use Rattle.model.specs.declared.answers.Refusal.the-variants.{Broken, Outside}
 use Rattle.model.specs.declared.answers.Outcome.{Outcome}
 use Rattle.model.specs.declared.answers.Outcome.the-variants.{Done, Refused}
 use Rattle.model.specs.Refusals.{firstOf}
-use Rattle.model.specs.Graph.{Graph, runs, start, firstHeld, len, containing, extends}
+use Rattle.model.specs.Graph.{runs, start, firstHeld, len, containing, extends}
 use Rattle.model.specs.Record.{view}
 use Rattle.model.specs.Broken.{broken}
 

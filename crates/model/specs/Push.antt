@@ -1,23 +1,14 @@
 -- 01, "pushes and run starts": `push`, what it answers and the graph it leaves, on every input. Assumes nothing.
-use mathlib.Core.Bool.{Bool, true, false, not, cond, _&&_}
+use mathlib.Core.Bool.{true, false, not, cond, _&&_}
 use mathlib.Core.List.{List, [], _∷_, _++_, map}
-use Prim.Native.Nat.{ℕ, zero, suc, _+_, _-_, min}
+use Prim.Native.Nat.{ℕ, suc, _+_, _-_, min}
 use lib.ListN.{length, getD, take}
-use lib.Dec.{leb, ltb, eqb}
+use lib.Dec.{ltb, eqb}
 use Rattle.lists.specs.Lists.{filter, mem, same, rising, below, largest, least}
 use Rattle.model.specs.declared.record.CausalGraph.{CausalGraph}
 use Rattle.model.specs.declared.answers.Pushed.{Pushed}
 use Rattle.model.specs.declared.answers.EventsAnswer.the-variants.{Events, Refused as RefusedEvents}
-use Rattle.model.specs.declared.answers.Refusal.the-variants.{
-  Broken,
-  NoEvents,
-  NotRising,
-  UnknownEvent,
-  TooManyEvents,
-  TooManyRuns,
-  TooManyEntries,
-  FrontierTooLong,
-}
+use Rattle.model.specs.declared.answers.Refusal.the-variants.{Broken, NoEvents, NotRising, UnknownEvent, TooManyEvents, TooManyRuns, TooManyEntries, FrontierTooLong}
 use Rattle.model.specs.declared.answers.Refusal.{Refusal}
 use Rattle.model.specs.declared.answers.Outcome.{Outcome}
 use Rattle.model.specs.declared.answers.Outcome.the-variants.{Done, Refused}

@@ -1,8 +1,8 @@
 -- 01, "walk.rs": a range of runs, numbered from 0 within it, and its chains and rows. Assumes nothing.
-use mathlib.Core.Bool.{Bool, true, false}
+use mathlib.Core.Bool.{true, false}
 use mathlib.Core.List.{List, [], _∷_, _++_, map}
-use Prim.Native.Nat.{ℕ, zero, suc, _-_}
-use lib.ListN.{length, take, drop}
+use Prim.Native.Nat.{ℕ, suc, _-_}
+use lib.ListN.{take, drop}
 use lib.Dec.{leb}
 use Rattle.lists.specs.Lists.{all, filter, count, mem}
 use Rattle.model.specs.Graph.{Graph, start}

@@ -1,7 +1,6 @@
 -- 01, "The graph record": how a `CausalGraph` holds a graph. Assumes nothing.
 use mathlib.Core.Path.{_≡_}
-use mathlib.Core.List.{List, [], _∷_}
-use Prim.Native.Nat.{ℕ, zero, suc, _+_}
+use Prim.Native.Nat.{_+_}
 use lib.ListN.{length, take}
 use Rattle.lists.specs.Lists.{concat}
 use Rattle.lists.specs.Areas.{pad, groupStarts, groups}

@@ -3,24 +3,7 @@ use Prim.Native.Nat.{ℕ}
 use mathlib.Core.Bool.{Bool, cond}
 use mathlib.Core.List.{List, [], _∷_}
 use Rattle.model.specs.declared.answers.Refusal.{Refusal}
-use Rattle.model.specs.declared.answers.Refusal.the-variants.{
-  Broken,
-  NoEvents,
-  NotRising,
-  UnknownEvent,
-  TooManyEvents,
-  TooManyRuns,
-  TooManyEntries,
-  FrontierTooLong,
-  Outside,
-  Unmarked,
-  ListTooShort,
-  KnownTooLong,
-  RowsTooLong,
-  BookTooShort,
-  BookTooLong,
-  UnknownKind,
-}
+use Rattle.model.specs.declared.answers.Refusal.the-variants.{Broken, NoEvents, NotRising, UnknownEvent, TooManyEvents, TooManyRuns, TooManyEntries, FrontierTooLong, Outside, Unmarked, ListTooShort, KnownTooLong, RowsTooLong, BookTooShort, BookTooLong, UnknownKind}
 use Rattle.model.specs.declared.answers.Outcome.{Outcome}
 use Rattle.model.specs.declared.answers.Outcome.the-variants.{Done, Refused}
 

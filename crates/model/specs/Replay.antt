@@ -1,7 +1,7 @@
 -- 01, "Full replay and the plain set": full replay, what it answers and what it leaves in the lent lists, on every input. Assumes nothing.
-use mathlib.Core.Bool.{Bool, true, false}
+use mathlib.Core.Bool.{true, false}
 use mathlib.Core.List.{List, [], _∷_, _++_, map}
-use Prim.Native.Nat.{ℕ, zero, suc, _-_, _/_}
+use Prim.Native.Nat.{ℕ, _-_, _/_}
 use lib.ListN.{length, take}
 use lib.Dec.{ltb, eqb}
 use Rattle.lists.specs.Lists.{from}

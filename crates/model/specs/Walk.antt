@@ -2,7 +2,7 @@
 -- nothing.
 use mathlib.Core.Bool.{Bool, true, false, cond, _||_}
 use mathlib.Core.List.{List, [], _∷_}
-use Prim.Native.Nat.{ℕ, zero, suc, _-_, _/_}
+use Prim.Native.Nat.{ℕ, _-_, _/_}
 use lib.ListN.{length, take}
 use lib.Dec.{ltb}
 use Rattle.lists.specs.Lists.{concat}
