@@ -171,6 +171,7 @@ fn against_the_paper() -> bool {
     compare("Parents that are not concurrent (0 is an ancestor of 1): taken", &[New, push(&[], 1), push(&[0], 1), push(&[0, 1], 1)], false);
     compare("Parents that stand for the frontier's version but are not its list: critical, not marked", &[New, push(&[], 1), push(&[], 2), push(&[0, 1, 2], 1)], true);
     compare("The same version by the frontier's list: marked", &[New, push(&[], 1), push(&[], 2), push(&[0, 2], 1)], false);
+    compare("All held events seen, but the frontier has one more that is not held: critical, not marked", &[After(1, vec![0]), push(&[], 1), push(&[], 1), push(&[1, 2], 1)], true);
     compare("Events before the first held count as seen by all: in the paper 1, which names no parent, is concurrent with 0", &[After(1, vec![0]), push(&[], 1)], false);
     good
 }

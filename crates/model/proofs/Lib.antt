@@ -2,3 +2,7 @@
 pub mod Computed
 pub mod Everything
 pub mod Exact
+pub mod Ancestry
+pub mod Histories
+pub mod Runs
+pub mod Tied

@@ -12,7 +12,7 @@ unfoldable pub at : List (List ℕ) → ℕ → List ℕ
 at t r = getD t r []
 
 -- Runs as the paper's graph: each run with its parent runs
-unfoldable pub runGraph : List (List ℕ) → EventGraph
+abbrev pub runGraph : List (List ℕ) → EventGraph
 runGraph parents = record { isEvent = λ r. ltb r (length parents); parents = at parents }
 
 -- m is one of the parents, or in the history of one

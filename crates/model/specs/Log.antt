@@ -127,5 +127,5 @@ unfoldable pub heldBefore : Log → ℕ → ℕ → Bool
 heldBefore l n e = leb (l .firstHeld) e && ltb e n
 
 -- The log as the paper's graph: "the held events (f to n-1)", and "following parents" among them
-unfoldable pub eventGraph : Log → EventGraph
+abbrev pub eventGraph : Log → EventGraph
 eventGraph l = record { isEvent = heldBefore l (l .next); parents = λ e. heldOf l (l .parents e) }
