@@ -6,3 +6,5 @@ pub mod Ancestry
 pub mod Histories
 pub mod Runs
 pub mod Tied
+pub mod Rooms
+pub mod RoomsReplay
