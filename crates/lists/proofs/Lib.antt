@@ -4,3 +4,5 @@ pub mod Between
 pub mod Members
 pub mod Rising
 pub mod Each
+pub mod Pads
+pub mod Groups

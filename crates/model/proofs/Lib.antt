@@ -8,3 +8,7 @@ pub mod Runs
 pub mod Tied
 pub mod Rooms
 pub mod RoomsReplay
+pub mod Agreeing
+pub mod Reading
+pub mod Stored
+pub mod Begins
