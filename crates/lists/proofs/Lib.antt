@@ -6,3 +6,4 @@ pub mod Rising
 pub mod Each
 pub mod Pads
 pub mod Groups
+pub mod Filters

@@ -35,7 +35,7 @@ sumBy l counted (apply r ∷ ss) s base =
 sumBy l counted (opened a b ∷ ss) s base = sumBy l counted ss (heldBefore l (runStart l a)) (heldBefore l (runStart l a))
 
 -- Steps that apply each run that is due exactly once and no other, rightly, from the set s, and move so many events
-pub record Done (l : Log) (counted due : Events) (ss : List Step) (s : Events) (moved : ℕ) : Type 0 where
+pub record Followed (l : Log) (counted due : Events) (ss : List Step) (s : Events) (moved : ℕ) : Type 0 where
   pub once : (r : ℕ) → times r ss ≡ bit (due r)
   pub right : Exact l counted ss s
   pub moves : moved ≡ sumBy l counted ss s s

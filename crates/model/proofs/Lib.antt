@@ -12,3 +12,17 @@ pub mod Agreeing
 pub mod Reading
 pub mod Stored
 pub mod Begins
+pub mod Moves
+pub mod Following
+pub mod Choosing
+pub mod Visiting
+pub mod Kahn
+pub mod Once
+pub mod Moved
+pub mod Seen
+pub mod Walking
+pub mod Tiling
+pub mod Replaying
+pub mod Lasting
+pub mod Takes
+pub mod Fronts

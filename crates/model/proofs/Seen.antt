@@ -1,0 +1,109 @@
+-- What a graph keeps with its plain log: the runs, seen lengths that tell the truth, and a frontier above every held event. Assumes
+-- nothing.
+use mathlib.Core.Path.{_≡_, refl, sym, ap, _∙_, subst, fun-ext}
+use mathlib.Core.Logic.{_⊎_, inl, inr, _↔_}
+use mathlib.Core.Bool.{Bool, true, false, not, cond, _&&_, _||_}
+use mathlib.Core.List.{List, [], _∷_, _++_, map, append-assoc}
+use Prim.Native.Nat.{ℕ, zero, suc, _+_, _-_, _*_, _≤_, _<_, min, max}
+use native.Mathlib.Omega.{arith}
+use native.Mathlib.Nat.{zero-add, add-zero}
+use lib.ListN.{length, getD, take, drop, length-append, length-drop, length-map, List·getD-append, List·getD-map, List·getD-eq-default}
+use lib.Seq.{getD-append-seam, take-at}
+use lib.Dec.{leb, ltb, eqb}
+use borrow.Author.Tests.{ltb-true, ltb-false, leb-true, leb-false, eqb-true, eqb-false, lt-ltb, le-ltb, le-leb, lt-leb, eq-eqb, ne-eqb}
+use Rattle.lists.specs.Lists.{bit, any, all, filter, mem, count, same, rising, below, largest, insertAt}
+use Rattle.lists.proofs.Truth.{lt-or-le, eq-or-not, false-true, and-left, and-right, and-both, or-cases, or-left, or-right, or-first, or-last, bool-iff}
+use Rattle.lists.proofs.Members.{count-append, mem-append, any-intro, any-elim, any-same, mem-filter, filter-mem, mem-map, map-mem, mem-index, getD-mem, mem-one, same-eq, all-at}
+use Rattle.lists.proofs.Rising.{Up, up-le, up-low, up-high, up-count, none-below, count-below, up-more, up-append}
+use Rattle.model.specs.EventGraph.{EventGraph, reaches}
+use Rattle.model.specs.Graph.{Graph, start, runs, len, firstHeld, containing, held}
+use Rattle.model.specs.Log.{Log, runStart, heldOf, eventGraph}
+use Rattle.model.proofs.Ancestry.{Lower}
+use Rattle.model.proofs.Exact.{ancestors}
+use Rattle.model.proofs.Runs.{Edged}
+use Rattle.model.proofs.Tied.{Tied}
+
+-- What the seen lengths say is so
+pub record Seen (g : Graph) (l : Log) : Type 0 where
+  pub size : length (g .seen) ≡ length (l .edges)
+  pub least : (r : ℕ) → r < length (l .edges) → l .firstHeld ≤ getD (g .seen) r 0
+  pub most : (r : ℕ) → r < length (l .edges) → getD (g .seen) r 0 ≤ runStart l r
+  pub sound : (r e : ℕ) → r < length (l .edges) → l .firstHeld ≤ e → e < getD (g .seen) r 0 → ancestors l (runStart l r) e ≡ true
+
+-- Every held event is in the frontier or an ancestor of one that is
+pub record Front (g : Graph) (l : Log) : Type 0 where
+  pub below : (q : ℕ) → mem q (g .frontier) ≡ true → q < l .next
+  pub covers : (e : ℕ) → l .firstHeld ≤ e → e < l .next →
+      (q : ℕ) × (mem q (g .frontier) ≡ true) × (l .firstHeld ≤ q) × ((e ≡ q) ⊎ (ancestors l q e ≡ true))
+
+-- What every call keeps; the parents of an event are lower numbers, and only events of the log have any
+pub record Inv (g : Graph) (l : Log) : Type 0 where
+  pub tied : Tied g l
+  pub seen : Seen g l
+  pub front : Front g l
+  pub lower : (e p : ℕ) → mem p (l .parents e) ≡ true → (p < e) × (e < l .next)
+
+module _ (g : Graph) (l : Log) (t : Tied g l) where
+  -- The graph's runs start where the log's do
+  pub start-is : (r : ℕ) → r ≤ length (l .edges) → start g r ≡ runStart l r
+  unfolding start runStart
+  start-is r le = rw (t .starts) (go (l .edges) r le)
+    where
+      go : (xs : List ℕ) (r : ℕ) → r ≤ length xs → getD (xs ++ l .next ∷ []) r 0 ≡ getD xs r (l .next)
+      go [] zero le = refl
+      go [] (suc r) le = absurd (omega arith)
+      go (x ∷ xs) zero le = refl
+      go (x ∷ xs) (suc r) le = go xs r (omega arith)
+
+  pub len-tied : len g ≡ l .next
+  unfolding len runs runStart
+  len-tied = rw (t .rows) (start-is (length (l .edges)) (omega arith) ∙ List·getD-eq-default (l .edges) (l .next) (omega arith))
+
+  pub first-tied : firstHeld g ≡ l .firstHeld
+  unfolding firstHeld
+  first-tied = start-is 0 (omega arith) ∙ t .edged .first
+
+  pub held-tied : (ps : List ℕ) → held g ps ≡ heldOf l ps
+  unfolding held heldOf
+  held-tied ps = rw first-tied
+
+  -- The run of a held event, by the log's edges
+  pub containing-is : (p : ℕ) → p < l .next → l .firstHeld ≤ p → suc (containing g p) ≡ count (λ s. leb s p) (l .edges)
+  unfolding containing
+  containing-is p lt le = rw (t .starts, count-append (λ s. leb s p) (l .edges) (l .next ∷ []))
+      (omega (arith, count-last (l .next) p lt, some-edge l (t .edged) p lt le))
+    where
+      count-last : (n p : ℕ) → p < n → count (λ s. leb s p) (n ∷ []) ≡ 0
+      count-last n p q = unfold count in rw (lt-leb n p q)
+
+      some-edge : (l : Log) → Edged l → (p : ℕ) → p < l .next → l .firstHeld ≤ p → 0 < count (λ s. leb s p) (l .edges)
+      some-edge l E p lt le = unfold runStart in ltb-true 0 (count (λ s. leb s p) (l .edges))
+          (sym (up-count (l .firstHeld) (l .edges) (l .next) (E .up) 0 p lt) ∙ le-leb (getD (l .edges) 0 (l .next)) p (omega (arith, E .first)))
+
+-- More room reaches as far
+pub reaches-more : (k j : ℕ) (G : EventGraph) (x e : ℕ) → k ≤ j → reaches k G x e ≡ true → reaches j G x e ≡ true
+unfolding reaches
+reaches-more zero j G x e le h = false-true h
+reaches-more (suc k) zero G x e le h = absurd (omega arith)
+reaches-more (suc k) (suc j) G x e le h =
+    let a : (y : ℕ) × (mem y (G .parents x) ≡ true) × (eqb e y || reaches k G y e ≡ true) = any-elim (λ q. eqb e q || reaches k G q e) (G .parents x) h in
+    any-intro (λ q. eqb e q || reaches j G q e) (G .parents x) (a .0) (a .1)
+    (more (eqb e (a .0)) (reaches k G (a .0) e) (reaches j G (a .0) e) (λ z. reaches-more k j G (a .0) e (omega arith) z) (a .2))
+  where
+    more : (x y z : Bool) → (y ≡ true → z ≡ true) → x || y ≡ true → x || z ≡ true
+    more true y z f h = refl
+    more false y z f h = f h
+
+-- One step along a parent
+pub reach-step : (k j : ℕ) (G : EventGraph) (x e q : ℕ) → mem q (G .parents x) ≡ true → (e ≡ q) ⊎ (reaches k G q e ≡ true) → suc k ≤ j → reaches j G x e ≡ true
+unfolding reaches
+reach-step k j G x e q m c le = reaches-more (suc k) j G x e le (any-intro (λ y. eqb e y || reaches k G y e) (G .parents x) q m (go c))
+  where
+    go : (e ≡ q) ⊎ (reaches k G q e ≡ true) → eqb e q || reaches k G q e ≡ true
+    go (inl z) = rw (eq-eqb e q z)
+    go (inr z) = or-right (eqb e q) z
+
+-- The parents that the log's ancestors go by are lower numbers
+pub lower-tied : (l : Log) → ((e p : ℕ) → mem p (l .parents e) ≡ true → (p < e) × (e < l .next)) → Lower (eventGraph l)
+unfolding heldOf
+lower-tied l h e p m = (h e p ((mem-filter (λ q. leb (l .firstHeld) q) p (l .parents e) m) .0)) .0
