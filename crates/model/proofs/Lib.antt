@@ -26,3 +26,14 @@ pub mod Replaying
 pub mod Lasting
 pub mod Takes
 pub mod Fronts
+pub mod Results
+pub mod Tests
+pub mod Inserting
+pub mod Edges
+pub mod Splitting
+pub mod Ending
+pub mod Adding
+pub mod Joining
+pub mod Pushing
+pub mod Growing
+pub mod Keeping

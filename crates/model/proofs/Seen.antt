@@ -1,20 +1,18 @@
 -- What a graph keeps with its plain log: the runs, seen lengths that tell the truth, and a frontier above every held event. Assumes
 -- nothing.
-use mathlib.Core.Path.{_≡_, refl, sym, ap, _∙_, subst, fun-ext}
-use mathlib.Core.Logic.{_⊎_, inl, inr, _↔_}
-use mathlib.Core.Bool.{Bool, true, false, not, cond, _&&_, _||_}
-use mathlib.Core.List.{List, [], _∷_, _++_, map, append-assoc}
-use Prim.Native.Nat.{ℕ, zero, suc, _+_, _-_, _*_, _≤_, _<_, min, max}
+use mathlib.Core.Path.{_≡_, refl, sym, _∙_}
+use mathlib.Core.Logic.{_⊎_, inl, inr}
+use mathlib.Core.Bool.{Bool, true, false, _||_}
+use mathlib.Core.List.{List, [], _∷_, _++_}
+use Prim.Native.Nat.{ℕ, zero, suc, _≤_, _<_}
 use native.Mathlib.Omega.{arith}
-use native.Mathlib.Nat.{zero-add, add-zero}
-use lib.ListN.{length, getD, take, drop, length-append, length-drop, length-map, List·getD-append, List·getD-map, List·getD-eq-default}
-use lib.Seq.{getD-append-seam, take-at}
-use lib.Dec.{leb, ltb, eqb}
-use borrow.Author.Tests.{ltb-true, ltb-false, leb-true, leb-false, eqb-true, eqb-false, lt-ltb, le-ltb, le-leb, lt-leb, eq-eqb, ne-eqb}
-use Rattle.lists.specs.Lists.{bit, any, all, filter, mem, count, same, rising, below, largest, insertAt}
-use Rattle.lists.proofs.Truth.{lt-or-le, eq-or-not, false-true, and-left, and-right, and-both, or-cases, or-left, or-right, or-first, or-last, bool-iff}
-use Rattle.lists.proofs.Members.{count-append, mem-append, any-intro, any-elim, any-same, mem-filter, filter-mem, mem-map, map-mem, mem-index, getD-mem, mem-one, same-eq, all-at}
-use Rattle.lists.proofs.Rising.{Up, up-le, up-low, up-high, up-count, none-below, count-below, up-more, up-append}
+use lib.ListN.{length, getD, List·getD-eq-default}
+use lib.Dec.{leb, eqb}
+use borrow.Author.Tests.{ltb-true, le-leb, lt-leb, eq-eqb}
+use Rattle.lists.specs.Lists.{mem, count}
+use Rattle.lists.proofs.Truth.{false-true, or-right}
+use Rattle.lists.proofs.Members.{count-append, any-intro, any-elim, mem-filter}
+use Rattle.lists.proofs.Rising.{up-count}
 use Rattle.model.specs.EventGraph.{EventGraph, reaches}
 use Rattle.model.specs.Graph.{Graph, start, runs, len, firstHeld, containing, held}
 use Rattle.model.specs.Log.{Log, runStart, heldOf, eventGraph}
@@ -55,6 +53,7 @@ module _ (g : Graph) (l : Log) (t : Tied g l) where
       go (x ∷ xs) zero le = refl
       go (x ∷ xs) (suc r) le = go xs r (omega arith)
 
+  -- They have the same next event, first held event and held parents
   pub len-tied : len g ≡ l .next
   unfolding len runs runStart
   len-tied = rw (t .rows) (start-is (length (l .edges)) (omega arith) ∙ List·getD-eq-default (l .edges) (l .next) (omega arith))
