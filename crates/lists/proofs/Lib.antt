@@ -7,3 +7,5 @@ pub mod Each
 pub mod Pads
 pub mod Groups
 pub mod Filters
+pub mod Inserts
+pub mod Ordered

@@ -1,6 +1,6 @@
 -- Steps that are right by computing are right by the paper's paths, and their sums are the same. Assumes nothing.
 use mathlib.Core.Path.{_≡_, refl, sym, ap, ap₂, _∙_, fun-ext}
-use mathlib.Core.Bool.{Bool, true, false, _&&_}
+use mathlib.Core.Bool.{true, _&&_}
 use mathlib.Core.List.{List, [], _∷_}
 use Prim.Native.Nat.{ℕ, suc, _+_}
 use Rattle.lists.proofs.Truth.{and-left, and-right, and-both}

@@ -37,3 +37,13 @@ pub mod Joining
 pub mod Pushing
 pub mod Growing
 pub mod Keeping
+pub mod FormedReads
+pub mod FormedSplits
+pub mod FormedSplitAll
+pub mod FormedJoins
+pub mod FormedPush
+pub mod FormedCalls
+pub mod Calls
+pub mod Demand
+pub mod Critical
+pub mod Good

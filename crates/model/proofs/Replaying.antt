@@ -73,10 +73,10 @@ module _ (g : Graph) (l : Log) (t : Tied g l) (S : Seen g l) where
   full = heldBefore l (l .next)
 
   -- Every run from r on has seen all before r
-  abbrev Marked : ℕ → Type 0
+  abbrev pub Marked : ℕ → Type 0
   Marked r = (r < length (l .edges)) × ((s : ℕ) → r ≤ s → s < length (l .edges) → runStart l r ≤ getD (g .seen) s 0)
 
-  marked-is : (r : ℕ) → r < length (l .edges) → marked g r ≡ true → Marked r
+  pub marked-is : (r : ℕ) → r < length (l .edges) → marked g r ≡ true → Marked r
   unfolding marked start
   marked-is r lt h = (
     lt,
@@ -98,7 +98,7 @@ module _ (g : Graph) (l : Log) (t : Tied g l) (S : Seen g l) where
       let b : runOf l e < r = reach-below (g .parents) (t .below) ((ancestors-are g l t r e lt h) .0 a) in
       omega (arith, (in-run g l t e h) .1, mono g l t (suc (runOf l e)) r b)
 
-  held-is : (n e : ℕ) → l .firstHeld ≤ e → e < n → heldBefore l n e ≡ true
+  pub held-is : (n e : ℕ) → l .firstHeld ≤ e → e < n → heldBefore l n e ≡ true
   unfolding heldBefore
   held-is n e p q = and-both (leb (l .firstHeld) e) (ltb e n) (le-leb (l .firstHeld) e p) (lt-ltb e n q)
 

@@ -1,19 +1,18 @@
 -- What walks and full replays of a record that is not broken leave written, followed on the plain set. Assumes nothing.
 use mathlib.Core.Path.{_≡_, refl, sym, ap, _∙_, subst}
-use mathlib.Core.Bool.{Bool, true, false, cond, _&&_, _||_}
-use mathlib.Core.List.{List, []}
-use Prim.Native.Nat.{ℕ, _+_, _-_, _*_, _/_, _≤_}
+use mathlib.Core.Bool.{Bool, true, false, cond, _&&_}
+use mathlib.Core.List.{List}
+use Prim.Native.Nat.{ℕ, _+_, _-_, _/_, _≤_}
 use native.Mathlib.Omega.{arith}
 use lib.ListN.{length, take}
 use lib.Seq.{take-all}
 use lib.Dec.{leb, ltb}
-use borrow.Author.Tests.{ltb-false, le-ltb}
+use borrow.Author.Tests.{ltb-false}
 use Rattle.lists.proofs.Truth.{false-true, or-first, or-last}
 use Rattle.model.specs.declared.record.CausalGraph.{CausalGraph}
 use Rattle.model.specs.declared.answers.Outcome.{Outcome}
 use Rattle.model.specs.declared.answers.Outcome.the-variants.{Done, Refused}
 use Rattle.model.specs.declared.answers.Refusal.the-variants.{Broken, RowsTooLong, ListTooShort}
-use Rattle.model.specs.Refusals.{firstOf}
 use Rattle.model.specs.Graph.{Graph, runs}
 use Rattle.model.specs.Record.{view}
 use Rattle.model.specs.Broken.{broken}

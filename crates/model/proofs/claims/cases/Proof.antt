@@ -1,4 +1,4 @@
--- `model::claims::cases` meets its contract: the cases hold by computing. Assumes nothing.
+-- `model::claims::cases` meets its contract. Assumes nothing.
 use Rattle.model.proofs.Computed.{cases}
 use Rattle.model.proofs.claims.cases.Statement.{statement}
 use Rattle.model.proofs.claims.cases.Tie as tie

@@ -1,0 +1,123 @@
+-- What a well-formed graph has: starts that rise to `len`, the run of each held event, bounds on what runs have seen. Assumes nothing.
+use mathlib.Core.Path.{_≡_, refl, sym, _∙_}
+use mathlib.Core.Bool.{true, _&&_}
+use mathlib.Core.List.{List, [], _∷_}
+use Prim.Native.Nat.{ℕ, zero, suc, _-_, _≤_, _<_}
+use native.Mathlib.Omega.{arith}
+use lib.ListN.{length, getD}
+use lib.Dec.{leb, ltb, eqb}
+use borrow.Author.Tests.{ltb-true, ltb-false, leb-true, leb-false, eqb-true, lt-ltb, le-ltb, le-leb, lt-leb, ne-eqb}
+use Rattle.lists.specs.Lists.{count, mem, rising, below}
+use Rattle.lists.proofs.Truth.{false-true, and-left, and-right}
+use Rattle.lists.proofs.Members.{mem-index, getD-mem}
+use Rattle.lists.proofs.Ordered.{rising-getD, rising-count, cond-within}
+use Rattle.model.specs.Graph.{Graph, runs, start, firstHeld, len, containing}
+use Rattle.model.specs.Broken.{WellFormed, frontierFits, seenFits}
+use Rattle.model.specs.Split.{ends}
+use Rattle.model.specs.Push.{seenAfter}
+
+-- Each seen length that fits lies between its bounds
+pub seenFits-at : (f : ℕ) (xs ss : List ℕ) → seenFits f xs ss ≡ true → (i : ℕ) → i < length ss → (f ≤ getD ss i 0) × (getD ss i 0 ≤ getD xs i 0)
+unfolding seenFits
+seenFits-at f xs [] e i h = absurd (omega arith)
+seenFits-at f [] (s ∷ ss) e i h = false-true e
+seenFits-at f (x ∷ xs) (s ∷ ss) e zero h =
+    let p : leb f s && leb s x ≡ true = and-left (leb f s && leb s x) (seenFits f xs ss) e in
+    (leb-true f s (and-left (leb f s) (leb s x) p), leb-true s x (and-right (leb f s) (leb s x) p))
+seenFits-at f (x ∷ xs) (s ∷ ss) e (suc i) h = seenFits-at f xs ss (and-right (leb f s && leb s x) (seenFits f xs ss) e) i (omega arith)
+
+module _ (g : Graph) (formed : WellFormed g) where
+  -- Starts never fall, from the first held event to `len`
+  pub start-mono : (r q : ℕ) → r ≤ q → q ≤ runs g → start g r ≤ start g q
+  unfolding start
+  start-mono r q h k = rising-getD (g .starts) (formed .starts) r q h (omega (arith, formed .starts-count))
+
+  pub start-len : (r : ℕ) → r ≤ runs g → start g r ≤ len g
+  unfolding len
+  start-len r h = start-mono r (runs g) h (omega arith)
+
+  pub first-start : (r : ℕ) → r ≤ runs g → firstHeld g ≤ start g r
+  unfolding firstHeld
+  first-start r h = start-mono 0 r (omega arith) h
+
+  pub first-len : firstHeld g ≤ len g
+  first-len = unfold len in first-start (runs g) (omega arith)
+
+  -- As many starts are at most e as tell which are
+  pub start-count : (r e : ℕ) → r ≤ runs g → leb (start g r) e ≡ ltb r (count (λ s. leb s e) (g .starts))
+  unfolding start
+  start-count r e h = rising-count (g .starts) (formed .starts) r e (omega (arith, formed .starts-count))
+
+  count-first : (e : ℕ) → firstHeld g ≤ e → 0 < count (λ s. leb s e) (g .starts)
+  unfolding firstHeld
+  count-first e h = ltb-true 0 (count (λ s. leb s e) (g .starts)) (sym (start-count 0 e (omega arith)) ∙ le-leb (start g 0) e h)
+
+  count-last : (e : ℕ) → e < len g → count (λ s. leb s e) (g .starts) ≤ runs g
+  unfolding len
+  count-last e h = ltb-false (runs g) (count (λ s. leb s e) (g .starts)) (sym (start-count (runs g) e (omega arith)) ∙ lt-leb (start g (runs g)) e h)
+
+  -- A held event lies in the run that contains it
+  pub containing-in : (e : ℕ) → firstHeld g ≤ e → e < len g →
+      (containing g e < runs g) × (start g (containing g e) ≤ e) × (e < start g (suc (containing g e)))
+  unfolding containing
+  containing-in e f l = go (count (λ s. leb s e) (g .starts)) refl (count-first e f) (count-last e l)
+    where
+      go : (n : ℕ) → count (λ s. leb s e) (g .starts) ≡ n → 0 < n → n ≤ runs g →
+          (n - 1 < runs g) × (start g (n - 1) ≤ e) × (e < start g (suc (n - 1)))
+      go n q h k = (
+        omega arith,
+        leb-true (start g (n - 1)) e (start-count (n - 1) e (omega arith) ∙ lt-ltb (n - 1) (count (λ s. leb s e) (g .starts)) (omega arith)),
+        leb-false (start g (suc (n - 1))) e (start-count (suc (n - 1)) e (omega arith) ∙ le-ltb (suc (n - 1)) _ (omega arith)),
+      )
+
+  -- Where a run ends after p, a later event lies in a later run
+  pub containing-less : (p q : ℕ) → firstHeld g ≤ p → p < q → q < len g → ends g p ≡ true → containing g p < containing g q
+  unfolding containing ends start
+  containing-less p q f l h e =
+      let w : (j : ℕ) × (j < length (g .starts)) × (getD (g .starts) j 0 ≡ suc p) = mem-index (suc p) 0 (g .starts) e in
+      let i : w .0 ≤ runs g = omega (arith, w .1, formed .starts-count) in
+      let v : start g (w .0) ≡ suc p = w .2 in
+      let above = ltb-false (w .0) (count (λ s. leb s p) (g .starts)) (sym (start-count (w .0) p i) ∙ lt-leb (start g (w .0)) p (omega (arith, v))) in
+      let under = ltb-true (w .0) (count (λ s. leb s q) (g .starts)) (sym (start-count (w .0) q i) ∙ le-leb (start g (w .0)) q (omega (arith, v))) in
+      omega (arith, above, under, count-first p f)
+
+  -- What a run has seen lies between the first held event and its start
+  pub seen-within : (r : ℕ) → r < runs g → (firstHeld g ≤ getD (g .seen) r 0) × (getD (g .seen) r 0 ≤ start g r)
+  seen-within r h = unfold start in seenFits-at (firstHeld g) (g .starts) (g .seen) (formed .seen) r (omega (arith, formed .seen-count))
+
+  -- and "seen after" it between the first held event and `len`
+  pub seenAfter-within : (r : ℕ) → r < runs g → (firstHeld g ≤ seenAfter g r) × (seenAfter g r ≤ len g)
+  unfolding seenAfter
+  seenAfter-within r h =
+      let s = seen-within r h in
+      cond-within
+      (firstHeld g)
+      (len g)
+      (start g (suc r))
+      (getD (g .seen) r 0)
+      (eqb (getD (g .seen) r 0) (start g r))
+      (first-start (suc r) (omega arith), start-len (suc r) (omega arith))
+      (s .0, omega (arith, s .1, start-len r (omega arith)))
+
+  -- The frontier rises, below `len`
+  frontier-order : rising (g .frontier) && below (len g) (g .frontier) ≡ true
+  unfolding frontierFits
+  frontier-order = and-left (rising (g .frontier) && below (len g) (g .frontier)) _ (formed .frontier)
+
+  pub frontier-rising : rising (g .frontier) ≡ true
+  frontier-rising = and-left (rising (g .frontier)) (below (len g) (g .frontier)) frontier-order
+
+  pub frontier-below : below (len g) (g .frontier) ≡ true
+  frontier-below = and-right (rising (g .frontier)) (below (len g) (g .frontier)) frontier-order
+
+  -- where there are runs the last event is in it
+  pub frontier-last : 0 < runs g → mem (len g - 1) (g .frontier) ≡ true
+  unfolding frontierFits
+  frontier-last h =
+      let f : List ℕ = g .frontier in
+      let e = and-right (rising f && below (len g) f) _ (formed .frontier) in
+      let q : ltb 0 (length f) && eqb (suc (getD f (length f - 1) 0)) (len g) ≡ true = rw (ne-eqb (runs g) 0 (λ z. omega arith)) at e in
+      let n = ltb-true 0 (length f) (and-left (ltb 0 (length f)) (eqb (suc (getD f (length f - 1) 0)) (len g)) q) in
+      let l = eqb-true (suc (getD f (length f - 1) 0)) (len g) (and-right (ltb 0 (length f)) (eqb (suc (getD f (length f - 1) 0)) (len g)) q) in
+      let v : len g - 1 ≡ getD f (length f - 1) 0 = omega arith in
+      rw v (getD-mem f (length f - 1) 0 (omega arith))
