@@ -1,10 +1,10 @@
 -- Groups beside their flat form with starts: from the one to the other and back. Assumes nothing.
-use mathlib.Core.Path.{_≡_, refl, ap, _∙_, sym}
+use mathlib.Core.Path.{_≡_, refl, sym, ap, _∙_}
 use mathlib.Core.Bool.{true}
 use mathlib.Core.List.{List, [], _∷_, _++_, append-assoc}
 use Prim.Native.Nat.{ℕ, zero, suc, _+_, _-_, _≤_, _<_}
-use native.Mathlib.Nat.{sub-zero, zero-sub, suc-sub-suc}
 use native.Mathlib.Omega.{arith}
+use native.Mathlib.Nat.{sub-zero, zero-sub, suc-sub-suc}
 use lib.ListN.{length, take, drop, getD, length-append, length-take, length-drop, take-append-drop}
 use lib.Seq.{take-append-seam, drop-at, drop-drop, drop-length, take-nil, drop-nil, take-take}
 use lib.Dec.{leb}
@@ -13,8 +13,7 @@ use Rattle.lists.specs.Lists.{sum, concat}
 use Rattle.lists.specs.Areas.{groupStarts, part, groups, climbs}
 use Rattle.lists.proofs.Truth.{false-true, and-left, and-right}
 
--- The flat list
-
+-- The flat list of groups after groups, and of groups cut in two
 pub concat-append : (xs ys : List (List ℕ)) → concat (xs ++ ys) ≡ concat xs ++ concat ys
 unfolding concat
 concat-append [] ys = refl
@@ -23,25 +22,25 @@ concat-append (x ∷ xs) ys = rw (concat-append xs ys, append-assoc)
 pub concat-split : (at : ℕ) (xs : List (List ℕ)) → concat xs ≡ concat (take at xs) ++ concat (drop at xs)
 concat-split at xs = ap concat (sym (take-append-drop at xs)) ∙ concat-append (take at xs) (drop at xs)
 
--- the flat list is as long as the groups together
+-- The flat list is as long as the groups together
 pub length-concat : (xs : List (List ℕ)) → length (concat xs) ≡ sum (λ x. length x) xs
 unfolding concat sum
 length-concat [] = refl
 length-concat (x ∷ xs) = omega (arith, length-append x (concat xs), length-concat xs)
 
--- The starts
-
+-- A start more than there are groups
 pub length-group-starts : (n : ℕ) (xs : List (List ℕ)) → length (groupStarts n xs) ≡ suc (length xs)
 unfolding groupStarts
 length-group-starts n [] = refl
 length-group-starts n (x ∷ xs) = ap suc (length-group-starts (n + length x) xs)
 
+-- The first group starts at n
 pub first-group-start : (n : ℕ) (xs : List (List ℕ)) → getD (groupStarts n xs) 0 0 ≡ n
 unfolding groupStarts
 first-group-start n [] = refl
 first-group-start n (x ∷ xs) = refl
 
--- a group starts where the groups before it end
+-- A group starts where the groups before it end
 pub group-start-at : (n at : ℕ) (xs : List (List ℕ)) → at ≤ length xs → getD (groupStarts n xs) at 0 ≡ n + length (concat (take at xs))
 unfolding groupStarts concat
 group-start-at n zero [] h = omega arith
@@ -64,14 +63,13 @@ climbs-group-starts n (x ∷ xs) =
     step a b m [] h e = rw (le-leb a b h) e
     step a b m (y ∷ ys) h e = rw (le-leb a b h) e
 
--- the starts of all groups climb to the end of the flat list
+-- The starts of all groups climb to the end of the flat list
 pub climbs-whole : (xs : List (List ℕ)) → climbs (length (concat xs)) (groupStarts 0 xs) ≡ true
 climbs-whole xs =
     let z : 0 + length (concat xs) ≡ length (concat xs) = omega arith in
     rw z at (climbs-group-starts 0 xs)
 
--- Starts that climb
-
+-- Starts that climb never pass the end, and never fall
 pub climbs-low : (n s : ℕ) (ts : List ℕ) → climbs n (s ∷ ts) ≡ true → s ≤ n
 unfolding climbs
 climbs-low n s [] e = omega (arith, eqb-true s n e)
@@ -86,8 +84,7 @@ climbs-at n (s ∷ t ∷ ts) e zero h =
     (leb-true s t (and-left (leb s t) (climbs n (t ∷ ts)) e), climbs-low n t ts (and-right (leb s t) (climbs n (t ∷ ts)) e))
 climbs-at n (s ∷ t ∷ ts) e (suc r) h = climbs-at n (t ∷ ts) (and-right (leb s t) (climbs n (t ∷ ts)) e) r (omega arith)
 
--- Parts of a list
-
+-- A part is as long as it says
 pub length-part : (s t : ℕ) (l : List ℕ) → s ≤ t → t ≤ length l → s + length (part s t l) ≡ t
 unfolding part
 length-part s t l h k = simp (length-take, length-drop) (omega arith)
@@ -98,7 +95,7 @@ drop-take (suc s) zero l = rw (zero-sub, drop-nil)
 drop-take (suc s) (suc e) [] = rw (take-nil)
 drop-take (suc s) (suc e) (x ∷ l) = rw suc-sub-suc (drop-take s e l)
 
--- a part that ends by place e is a part of the first e items
+-- A part that ends by place e is a part of the first e items
 pub part-take : (s t e : ℕ) (l : List ℕ) → t ≤ e → part s t (take e l) ≡ part s t l
 unfolding part
 part-take s t e l h = rw (drop-take s e l) (take-take (t - s) (e - s) (drop s l) (omega arith))
@@ -108,8 +105,6 @@ unfolding part
 part-at n before x rest e =
     let k : n + length x - n ≡ length x = omega arith in
     rw (k, drop-at before (x ++ rest) n e, take-append-seam)
-
--- From groups to the flat list and back
 
 groups-step : (n m : ℕ) (xs : List (List ℕ)) (items : List ℕ) → groups (n ∷ groupStarts m xs) items ≡ part n m items ∷ groups (groupStarts m xs) items
 unfolding groups groupStarts
@@ -125,16 +120,17 @@ groups-from n before (x ∷ xs) e =
     let r : groups (groupStarts (n + length x) xs) (before ++ (x ++ concat xs)) ≡ xs = rw append-assoc at (groups-from (n + length x) (before ++ x) xs m) in
     groups-step n (n + length x) xs (before ++ (x ++ concat xs)) ∙ rw (p, r)
 
--- the groups between the starts of some groups are those groups
+-- The groups between the starts of some groups are those groups
 pub groups-concat : (xs : List (List ℕ)) → groups (groupStarts 0 xs) (concat xs) ≡ xs
 groups-concat xs = groups-from 0 [] xs refl
 
+-- There is a group between each start and the next
 pub length-groups : (s : ℕ) (ts items : List ℕ) → length (groups (s ∷ ts) items) ≡ length ts
 unfolding groups
 length-groups s [] items = refl
 length-groups s (t ∷ ts) items = ap suc (length-groups t ts items)
 
--- a group is the part between its start and the next
+-- A group is the part between its start and the next
 pub group-at : (ss items : List ℕ) (r : ℕ) → suc r < length ss → getD (groups ss items) r [] ≡ part (getD ss r 0) (getD ss (suc r) 0) items
 unfolding groups
 group-at [] items r h = absurd (omega arith)
@@ -142,7 +138,7 @@ group-at (s ∷ []) items r h = absurd (omega arith)
 group-at (s ∷ t ∷ ts) items zero h = refl
 group-at (s ∷ t ∷ ts) items (suc r) h = group-at (t ∷ ts) items r (omega arith)
 
--- starts that climb are the starts of the groups between them
+-- Starts that climb are the starts of the groups between them
 pub starts-groups : (items : List ℕ) (s : ℕ) (ts : List ℕ) → climbs (length items) (s ∷ ts) ≡ true → groupStarts s (groups (s ∷ ts) items) ≡ s ∷ ts
 unfolding groupStarts groups climbs
 starts-groups items s [] e = refl
@@ -151,7 +147,7 @@ starts-groups items s (t ∷ ts) e =
     let q = length-part s t items (leb-true s t (and-left (leb s t) (climbs (length items) (t ∷ ts)) e)) (climbs-low (length items) t ts p) in
     ap (λ (l : List ℕ). s ∷ l) (rw q (starts-groups items t ts p))
 
--- the groups between starts that climb are together the items from the first start on
+-- The groups between starts that climb are together the items from the first start on
 pub concat-groups : (items : List ℕ) (s : ℕ) (ts : List ℕ) → climbs (length items) (s ∷ ts) ≡ true → concat (groups (s ∷ ts) items) ≡ drop s items
 unfolding concat groups climbs part
 concat-groups items s [] e = rw (eqb-true s (length items) e) (sym (drop-length items))

@@ -1,25 +1,25 @@
--- Lists with one item put in: their lengths, items, members, sums and order. Assumes nothing.
-use mathlib.Core.Path.{_≡_, refl, ap}
+-- Lists with one item put in: their lengths, items, members, sums, tests and order. Assumes nothing.
+use mathlib.Core.Path.{_≡_, refl, ap, _∙_}
 use mathlib.Core.Logic.{_⊎_, inl, inr}
-use mathlib.Core.Bool.{Bool, true, false, _||_}
-use mathlib.Core.List.{List, [], _∷_}
+use mathlib.Core.Bool.{Bool, true, false, _&&_, _||_}
+use mathlib.Core.List.{List, [], _∷_, _++_}
 use Prim.Native.Nat.{ℕ, zero, suc, _+_, _≤_, _<_}
 use native.Mathlib.Omega.{arith}
-use lib.ListN.{length, getD}
+use lib.ListN.{length, getD, drop}
 use lib.Dec.{ltb, eqb}
-use borrow.Author.Tests.{lt-ltb, eq-eqb, ne-eqb, eqb-true}
-use Rattle.lists.specs.Lists.{sum, insertAt, mem, rising}
-use Rattle.lists.proofs.Truth.{false-true, and-left, and-right, and-both, or-cases, or-left, or-right}
+use borrow.Author.Tests.{lt-ltb, eq-eqb, ne-eqb}
+use Rattle.lists.specs.Lists.{all, sum, insertAt, mem, rising}
+use Rattle.lists.proofs.Truth.{false-true, and-left, and-right, and-both, and-swap, or-cases, or-left, or-right}
 
 module _ {ℓ} {A : Type ℓ} where
-  -- one item more
+  -- One item more
   pub insert-length : (i : ℕ) (x : A) (l : List A) → length (insertAt i x l) ≡ suc (length l)
   unfolding insertAt
   insert-length zero x l = refl
   insert-length (suc i) x [] = refl
   insert-length (suc i) x (y ∷ l) = ap suc (insert-length i x l)
 
-  -- the items before it stay where they are
+  -- The items before it stay where they are
   pub insert-before : (i j : ℕ) (x d : A) (l : List A) → j < i → i ≤ length l → getD (insertAt i x l) j d ≡ getD l j d
   unfolding insertAt
   insert-before zero j x d l h k = absurd (omega arith)
@@ -27,7 +27,7 @@ module _ {ℓ} {A : Type ℓ} where
   insert-before (suc i) zero x d (y ∷ l) h k = refl
   insert-before (suc i) (suc j) x d (y ∷ l) h k = insert-before i j x d l (omega arith) (omega arith)
 
-  -- it stands at its place
+  -- It stands at its place
   pub insert-at : (i : ℕ) (x d : A) (l : List A) → i ≤ length l → getD (insertAt i x l) i d ≡ x
   unfolding insertAt
   insert-at zero x d l h = refl
@@ -42,30 +42,32 @@ module _ {ℓ} {A : Type ℓ} where
   insert-after (suc i) (suc j) x d [] h k = absurd (omega arith)
   insert-after (suc i) (suc j) x d (y ∷ l) h k = insert-after i j x d l (omega arith) (omega arith)
 
+  -- One put into the first of two lists
+  pub insert-append : (i : ℕ) (x : A) (l r : List A) → i ≤ length l → insertAt i x (l ++ r) ≡ insertAt i x l ++ r
+  unfolding insertAt
+  insert-append zero x l r le = refl
+  insert-append (suc i) x [] r le = absurd (omega arith)
+  insert-append (suc i) x (y ∷ ys) r le = ap {B = List A} (λ t. y ∷ t) (insert-append i x ys r (omega arith))
+
+  -- A sum over it
   pub insert-sum : (f : A → ℕ) (i : ℕ) (x : A) (l : List A) → sum f (insertAt i x l) ≡ f x + sum f l
   unfolding insertAt sum
   insert-sum f zero x l = refl
   insert-sum f (suc i) x [] = refl
   insert-sum f (suc i) x (y ∷ l) = omega (arith, insert-sum f i x l)
 
--- Members of a list with one item in front
-pub mem-first : (p : ℕ) (ps : List ℕ) → mem p (p ∷ ps) ≡ true
-unfolding mem
-mem-first p ps = or-left (mem p ps) (eq-eqb p p refl)
+  -- A test of all its items from a place at or before the new one
+  pub all-insert : (p : A → Bool) (q i : ℕ) (x : A) (l : List A) → q ≤ i → i ≤ length l → all p (drop q (insertAt i x l)) ≡ p x && all p (drop q l)
+  unfolding all insertAt
+  all-insert p zero zero x l h k = refl
+  all-insert p zero (suc i) x [] h k = absurd (omega arith)
+  all-insert p zero (suc i) x (y ∷ ys) h k =
+      ap (λ (t : Bool). p y && t) (all-insert p zero i x ys (omega arith) (omega arith)) ∙ and-swap (p y) (p x) (all p ys)
+  all-insert p (suc q) zero x l h k = absurd (omega arith)
+  all-insert p (suc q) (suc i) x [] h k = absurd (omega arith)
+  all-insert p (suc q) (suc i) x (y ∷ ys) h k = all-insert p q i x ys (omega arith) (omega arith)
 
-pub mem-rest : (p q : ℕ) (ps : List ℕ) → mem q ps ≡ true → mem q (p ∷ ps) ≡ true
-unfolding mem
-mem-rest p q ps m = or-right (eqb q p) m
-
-pub mem-either : (p q : ℕ) (ps : List ℕ) → mem q (p ∷ ps) ≡ true → (q ≡ p) ⊎ (mem q ps ≡ true)
-unfolding mem
-mem-either p q ps m = go (or-cases (eqb q p) (mem q ps) m)
-  where
-    go : (eqb q p ≡ true) ⊎ (mem q ps ≡ true) → (q ≡ p) ⊎ (mem q ps ≡ true)
-    go (inl e) = inl (eqb-true q p e)
-    go (inr k) = inr k
-
--- the item put in is a member
+-- The item put in is a member
 pub insert-new : (i x : ℕ) (l : List ℕ) → mem x (insertAt i x l) ≡ true
 unfolding insertAt mem
 insert-new zero x l = or-left (mem x l) (eq-eqb x x refl)
@@ -79,6 +81,7 @@ insert-other zero x z l h = rw (ne-eqb z x h)
 insert-other (suc i) x z [] h = rw (ne-eqb z x h)
 insert-other (suc i) x z (y ∷ l) h = ap (λ (b : Bool). eqb z y || b) (insert-other i x z l h)
 
+-- Members stay members
 pub insert-keeps : (i x z : ℕ) (l : List ℕ) → mem z l ≡ true → mem z (insertAt i x l) ≡ true
 unfolding insertAt mem
 insert-keeps zero x z l m = or-right (eqb z x) m

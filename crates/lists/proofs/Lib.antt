@@ -1,11 +1,15 @@
 -- The laws of lists.
+-- Truth, order, bounds
 pub mod Truth
 pub mod Between
+-- Lists of numbers: members, counts, order
 pub mod Members
-pub mod Rising
+pub mod Counts
 pub mod Each
+pub mod Rising
+pub mod Bounds
+-- Lists of any items
+pub mod Inserts
+-- Lists in areas
 pub mod Pads
 pub mod Groups
-pub mod Filters
-pub mod Inserts
-pub mod Ordered

@@ -1,20 +1,18 @@
--- Lists with zeros after them, and words written from the start of a lent list. Assumes nothing.
-use mathlib.Core.Path.{_≡_, refl, ap, _∙_, sym}
-use mathlib.Core.Bool.{true}
+-- Lists with zeros after them, words written from the start of a lent list, and records that fit into it. Assumes nothing.
+use mathlib.Core.Path.{_≡_, refl, sym, ap, _∙_}
+use mathlib.Core.Bool.{Bool, true, false}
 use mathlib.Core.List.{List, [], _∷_, _++_}
 use Prim.Native.Nat.{ℕ, zero, suc, _+_, _-_, _≤_, _<_}
 use native.Mathlib.Omega.{arith}
 use lib.ListN.{length, take, drop, getD, replicate, length-append, length-take, length-drop, length-replicate, take-append-drop, List·getD-append}
 use lib.Seq.{take-at, drop-at, getD-append-add, getD-drop}
-use lib.Dec.{eqb}
-use borrow.Author.Tests.{eqb-true}
-use Rattle.lists.specs.Lists.{all}
-use Rattle.lists.specs.Areas.{zeros, pad, over}
+use lib.Dec.{leb, eqb}
+use borrow.Author.Tests.{leb-true, eqb-true}
+use Rattle.lists.specs.Lists.{all, concat}
+use Rattle.lists.specs.Areas.{zeros, pad, over, fitting}
 use Rattle.lists.proofs.Truth.{and-left, and-right}
 
--- Zeros
-
--- a list of zeros is known by its length
+-- A list of zeros is known by its length
 pub zeros-are : (l : List ℕ) → zeros l ≡ true → l ≡ replicate (length l) 0
 unfolding zeros all
 zeros-are [] e = refl
@@ -27,14 +25,13 @@ unfolding zeros all
 zeros-replicate zero = refl
 zeros-replicate (suc n) = zeros-replicate n
 
--- a read of zeros gives 0, inside and past the end
+-- A read of zeros gives 0, inside and past the end
 pub zeros-get : (n k : ℕ) → getD {A = ℕ} (replicate n 0) k 0 ≡ 0
 zeros-get zero k = refl
 zeros-get (suc n) zero = refl
 zeros-get (suc n) (suc k) = zeros-get n k
 
--- A list with zeros after it
-
+-- A list with zeros after it: its length, the list in front, the zeros behind
 pub length-pad : (m : ℕ) (l : List ℕ) → length l ≤ m → length (pad m l) ≡ m
 unfolding pad
 length-pad m l h = simp (length-append, length-replicate) (omega arith)
@@ -50,7 +47,7 @@ drop-pad n m l e = drop-at l (replicate (m - length l) 0) n (sym e) ∙ ap (λ (
 pub zeros-past-pad : (n m : ℕ) (l : List ℕ) → n ≡ length l → zeros (drop n (pad m l)) ≡ true
 zeros-past-pad n m l e = rw (drop-pad n m l e) (zeros-replicate (m - n))
 
--- a read of the padded list is a read of the list
+-- A read of the padded list is a read of the list
 pub get-pad : (m : ℕ) (l : List ℕ) (k : ℕ) → getD (pad m l) k 0 ≡ getD l k 0
 unfolding pad
 get-pad m [] k = zeros-get (m - 0) k
@@ -69,8 +66,7 @@ padded m n a l q h e t =
     let k : length (drop n a) ≡ m - length l = rw (← t) (simp (length-take, length-drop) (omega arith)) in
     sym (take-append-drop n a) ∙ rw (← k, ← zeros-are (drop n a) e, t)
 
--- Words written from the start of a lent list
-
+-- Words written from the start of a lent list: none, the length, the words in front, the rest behind
 pub over-none : (lent : List ℕ) → over [] lent ≡ lent
 unfolding over
 over-none lent = refl
@@ -87,14 +83,25 @@ pub drop-over : (words lent : List ℕ) (n : ℕ) → length words ≡ n → dro
 unfolding over
 drop-over words lent n e = drop-at words (drop (length words) lent) n e ∙ ap (λ (k : ℕ). drop k lent) e
 
--- a read of what was written
+-- A read of what was written
 pub get-over : (words lent : List ℕ) (k : ℕ) → k < length words → getD (over words lent) k 0 ≡ getD words k 0
 unfolding over
 get-over words lent k h = List·getD-append words (drop (length words) lent) 0 k h
 
--- a read past what was written
+-- A read past what was written
 pub get-past-over : (words lent : List ℕ) (k : ℕ) → length words ≤ k → getD (over words lent) k 0 ≡ getD lent k 0
 unfolding over
 get-past-over words lent k h =
     let e : length words + (k - length words) ≡ k = omega arith in
     ap (λ (j : ℕ). getD (words ++ drop (length words) lent) j 0) (sym e) ∙ getD-append-add words (drop (length words) lent) (k - length words) 0 ∙ getD-drop (length words) lent (k - length words) 0 ∙ ap (λ (j : ℕ). getD lent j 0) e
+
+-- The whole records that fit take no more room than there is
+pub fitting-fit : (room : ℕ) (rs : List (List ℕ)) → length (concat (fitting room rs)) ≤ room
+unfolding fitting concat
+fitting-fit room [] = omega arith
+fitting-fit room (r ∷ rs) = go (leb (length r) room) refl (fitting-fit (room - length r) rs)
+  where
+    go : (t : Bool) → leb (length r) room ≡ t → length (concat (fitting (room - length r) rs)) ≤ room - length r →
+        length {A = ℕ} (concat (elim t as (λ _. List (List ℕ)) [ true ↦ r ∷ fitting (room - length r) rs | false ↦ [] ])) ≤ room
+    go true e ih = omega (arith, leb-true (length r) room e, ih, length-append r (concat (fitting (room - length r) rs)))
+    go false e ih = omega arith

@@ -9,14 +9,14 @@ use lib.Dec.{leb, ltb, eqb}
 use borrow.Author.Tests.{lt-ltb, le-ltb, le-leb, eq-eqb, ne-eqb}
 use Rattle.lists.specs.Lists.{any, mem}
 use Rattle.lists.proofs.Truth.{lt-or-le, eq-or-not, or-cases, or-left, or-right}
-use Rattle.lists.proofs.Members.{mem-append, any-same, mem-filter, filter-mem, mem-one}
-use Rattle.lists.proofs.Rising.{up-le}
+use Rattle.lists.proofs.Members.{mem-one, mem-append, mem-filter, filter-mem, any-same}
 use Rattle.model.specs.EventGraph.{reaches, ancestor}
 use Rattle.model.specs.Graph.{Graph, len}
 use Rattle.model.specs.Push.{staying}
 use Rattle.model.specs.Log.{Log, heldOf, eventGraph}
 use Rattle.model.proofs.Exact.{ancestors}
-use Rattle.model.proofs.Seen.{Front, Inv, len-tied, lower-tied, reach-step}
+use Rattle.model.proofs.Runs.{first-next}
+use Rattle.model.proofs.Seen.{Front, ParentsLower, Inv, len-tied, reach-step, lower-tied}
 
 -- The log with n more events, the first of which has the parents ps, and with the edges es
 abbrev pub added : Log → List ℕ → ℕ → List ℕ → Log
@@ -27,12 +27,29 @@ added l ps n es = record {
   edges = es;
 }
 
+-- Where an event stands against the next one and n more
+pub data Stands (next n e : ℕ) : Type 0 where
+  old : e < next → Stands next n e
+  first : e ≡ next → Stands next n e
+  later : next < e → e < next + n → Stands next n e
+  past : next < e → next + n ≤ e → Stands next n e
+
+pub stands : (next n e : ℕ) → Stands next n e
+stands next n e = go (lt-or-le e next) (eq-or-not e next) (lt-or-le e (next + n))
+  where
+    go : (e < next) ⊎ (next ≤ e) → (e ≡ next) ⊎ (e ≡ next → ⊥) → (e < next + n) ⊎ (next + n ≤ e) → Stands next n e
+    go (inl p) q r = old p
+    go (inr p) (inl q) r = first q
+    go (inr p) (inr q) (inl r) = later (omega arith) r
+    go (inr p) (inr q) (inr r) = past (omega arith) r
+
+-- The parents of the events before, of the first new one and of the later ones
 module _ (l : Log) (ps : List ℕ) (n : ℕ) (es : List ℕ) where
   pub old-parents : (e : ℕ) → e < l .next → added l ps n es .parents e ≡ l .parents e
   old-parents e lt = rw (ne-eqb e (l .next) (λ q. omega arith), le-ltb (l .next) e (omega arith))
 
-  pub own-parents : added l ps n es .parents (l .next) ≡ ps
-  own-parents = rw (eq-eqb (l .next) (l .next) refl)
+  pub own-parents : (e : ℕ) → e ≡ l .next → added l ps n es .parents e ≡ ps
+  own-parents e q = rw (eq-eqb e (l .next) q)
 
   pub later-parents : (e : ℕ) → l .next < e → e < l .next + n → added l ps n es .parents e ≡ (e - 1) ∷ []
   later-parents e p q = rw (ne-eqb e (l .next) (λ z. omega arith), lt-ltb (l .next) e p, lt-ltb e (l .next + n) q)
@@ -40,31 +57,25 @@ module _ (l : Log) (ps : List ℕ) (n : ℕ) (es : List ℕ) where
   past-parents : (e : ℕ) → l .next < e → l .next + n ≤ e → added l ps n es .parents e ≡ l .parents e
   past-parents e p q = rw (ne-eqb e (l .next) (λ z. omega arith), lt-ltb (l .next) e p, le-ltb e (l .next + n) q)
 
+  -- Parents stay lower numbers
+  pub added-lower : ParentsLower l → ((p : ℕ) → mem p ps ≡ true → p < l .next) → 0 < n → ParentsLower (added l ps n es)
+  added-lower lower known pos e p m = go (stands (l .next) n e)
+    where
+      among : {xs : List ℕ} → added l ps n es .parents e ≡ xs → mem p xs ≡ true
+      among k = subst (λ (xs : List ℕ). mem p xs ≡ true) k m
+
+      kept : added l ps n es .parents e ≡ l .parents e → (p < e) × (e < l .next + n)
+      kept k = let z : (p < e) × (e < l .next) = lower e p (among k) in (z .0, omega (arith, z .1))
+
+      go : Stands (l .next) n e → (p < e) × (e < l .next + n)
+      go (old a) = kept (old-parents e a)
+      go (first a) = (omega (arith, known p (among (own-parents e a))), omega arith)
+      go (later a b) = let k : p ≡ e - 1 = mem-one p (e - 1) (among (later-parents e a b)) in (omega arith, b)
+      go (past a b) = kept (past-parents e a b)
+
 module _ (g : Graph) (l : Log) (v : Inv g l) (ps : List ℕ) (n : ℕ) (pos : 0 < n) (known : (p : ℕ) → mem p ps ≡ true → p < l .next) (es : List ℕ) where
   abbrev l₂ : Log
   l₂ = added l ps n es
-
-  -- Parents stay lower numbers
-  pub added-lower : (e p : ℕ) → mem p (l₂ .parents e) ≡ true → (p < e) × (e < l .next + n)
-  added-lower e p m = go (lt-or-le e (l .next)) (eq-or-not e (l .next)) (lt-or-le e (l .next + n))
-    where
-      old : l₂ .parents e ≡ l .parents e → (p < e) × (e < l .next + n)
-      old k =
-          let z : (p < e) × (e < l .next) = v .lower e p (subst (λ (xs : List ℕ). mem p xs ≡ true) k m) in
-          (z .0, omega (arith, z .1))
-
-      above : l .next ≤ e → (e ≡ l .next → ⊥) → l .next < e
-      above a b = omega arith
-
-      go : (e < l .next) ⊎ (l .next ≤ e) → (e ≡ l .next) ⊎ (e ≡ l .next → ⊥) → (e < l .next + n) ⊎ (l .next + n ≤ e) → (p < e) × (e < l .next + n)
-      go (inl a) b c = old (old-parents l ps n es e a)
-      go (inr a) (inl b) c =
-          let k : mem p ps ≡ true = subst (λ (xs : List ℕ). mem p xs ≡ true) (own-parents l ps n es) (subst (λ (x : ℕ). mem p (l₂ .parents x) ≡ true) b m) in
-          (omega (arith, known p k), omega arith)
-      go (inr a) (inr b) (inl c) =
-          let k : p ≡ e - 1 = mem-one p (e - 1) (subst (λ (xs : List ℕ). mem p xs ≡ true) (later-parents l ps n es e (above a b) c) m) in
-          (omega (arith, above a b), c)
-      go (inr a) (inr b) (inr c) = old (past-parents l ps n es e (above a b) c)
 
   -- What the events before lead to stays
   pub old-reaches : (k x e : ℕ) → x < l .next → reaches k (eventGraph l₂) x e ≡ reaches k (eventGraph l) x e
@@ -80,7 +91,7 @@ module _ (g : Graph) (l : Log) (v : Inv g l) (ps : List ℕ) (n : ℕ) (pos : 0 
       reaches j (eventGraph l₂) (l .next) e ≡ true
   unfolding ancestors ancestor heldOf
   from-own p e m h c j le = reach-step p j (eventGraph l₂) (l .next) e p
-      (subst (λ (ys : List ℕ). mem p (heldOf l ys) ≡ true) (sym (own-parents l ps n es)) (filter-mem (λ q. leb (l .firstHeld) q) p ps m (le-leb (l .firstHeld) p h)))
+      (subst (λ (ys : List ℕ). mem p (heldOf l ys) ≡ true) (sym (own-parents l ps n es (l .next) refl)) (filter-mem (λ q. leb (l .firstHeld) q) p ps m (le-leb (l .firstHeld) p h)))
       (go c) (omega (arith, known p m))
     where
       go : (e ≡ p) ⊎ (reaches p (eventGraph l) p e ≡ true) → (e ≡ p) ⊎ (reaches p (eventGraph l₂) p e ≡ true)
@@ -90,9 +101,6 @@ module _ (g : Graph) (l : Log) (v : Inv g l) (ps : List ℕ) (n : ℕ) (pos : 0 
   -- The new last event
   abbrev top : ℕ
   top = l .next + n - 1
-
-  least : l .firstHeld ≤ l .next
-  least = up-le (l .firstHeld) (l .edges) (l .next) (v .tied .edged .up)
 
   -- Up the new events, one by one
   climb : (d y e : ℕ) → l .next ≤ y → y + d < l .next + n → (e ≡ y) ⊎ (reaches y (eventGraph l₂) y e ≡ true) →
@@ -106,7 +114,7 @@ module _ (g : Graph) (l : Log) (v : Inv g l) (ps : List ℕ) (n : ℕ) (pos : 0 
     where
       in-one : l₂ .parents (suc (y + d)) ≡ (y + d) ∷ [] → mem (y + d) (heldOf l₂ (l₂ .parents (suc (y + d)))) ≡ true
       in-one p = unfold heldOf in filter-mem (λ q. leb (l .firstHeld) q) (y + d) (l₂ .parents (suc (y + d)))
-          (subst (λ (xs : List ℕ). mem (y + d) xs ≡ true) (sym p) (unfold mem in rw (eq-eqb (y + d) (y + d) refl))) (le-leb (l .firstHeld) (y + d) (omega (arith, least)))
+          (subst (λ (xs : List ℕ). mem (y + d) xs ≡ true) (sym p) (unfold mem in rw (eq-eqb (y + d) (y + d) refl))) (le-leb (l .firstHeld) (y + d) (omega (arith, first-next l (v .tied .edged))))
 
   to-top : (y e : ℕ) → l .next ≤ y → y < l .next + n → (e ≡ y) ⊎ (reaches y (eventGraph l₂) y e ≡ true) → (e ≡ top) ⊎ (reaches top (eventGraph l₂) top e ≡ true)
   to-top y e a b h = subst (λ (k : ℕ). (e ≡ k) ⊎ (reaches k (eventGraph l₂) k e ≡ true)) (omega arith) (climb (top - y) y e a (omega arith) h)
@@ -140,7 +148,7 @@ module _ (g : Graph) (l : Log) (v : Inv g l) (ps : List ℕ) (n : ℕ) (pos : 0 
       top-in = rw (frontier-is, mem-append top (staying g ps) (top ∷ [])) (or-right (mem top (staying g ps)) (unfold mem in rw (eq-eqb top top refl)))
 
       by-top : (e : ℕ) → (e ≡ top) ⊎ (reaches top (eventGraph l₂) top e ≡ true) → Covered e
-      by-top e c = (top, top-in, omega (arith, least), c)
+      by-top e c = (top, top-in, omega (arith, first-next l (v .tied .edged)), c)
 
       older : (e x : ℕ) → mem x (g .frontier) ≡ true → l .firstHeld ≤ x → (e ≡ x) ⊎ (ancestors l x e ≡ true) → (b : Bool) → mem x ps ≡ b → Covered e
       older e x m h c true z = by-top e (to-top (l .next) e (omega arith) (omega arith) (inr (from-own x e z h c (l .next) (omega arith))))

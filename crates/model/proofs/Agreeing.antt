@@ -8,8 +8,8 @@ use Rattle.model.specs.EventGraph.{ancestor}
 use Rattle.model.specs.Steps.{Step, retreat, advance, opened, apply}
 use Rattle.model.specs.Log.{Log, runStart, inRuns, heldBefore, eventGraph}
 use Rattle.model.specs.PlainSet.{Events, minus, plus, apart, IsAncestors, Right, movedBy}
-use Rattle.model.proofs.Exact.{ancestors, wanted, Exact, sumBy}
 use Rattle.model.proofs.Ancestry.{Lower, ancestor-iff}
+use Rattle.model.proofs.Exact.{ancestors, wanted, Exact, sumBy}
 
 module _ (l : Log) (lower : Lower (eventGraph l)) where
   ancestors-of : (counted : Events) (r : ℕ) (s : Events) → ((e : ℕ) → s e ≡ wanted l counted r e) → IsAncestors l counted r s

@@ -38,6 +38,7 @@ reaches-path G (suc k) e p h = go (any-elim (λ q. eqb p q || reaches k G q p) (
         cases (inl q) = rw (eqb-true p (t .0) q) (parent (t .1))
         cases (inr q) = further (t .1) (ih (t .0) q)
 
+-- A path is found where there is room for it
 pub path-reaches : (G : EventGraph) → Lower G → {p e : ℕ} → HappenedBefore G p e → (k : ℕ) → e ≤ k → reaches k G e p ≡ true
 unfolding reaches
 path-reaches G low {p} {e} (parent h) zero le = absurd (omega (arith, low e p h))

@@ -1,43 +1,22 @@
 -- `new` and `after`: a fresh graph is well-formed and within the limits, and what the two calls give is held and not broken. Assumes
 -- nothing.
-use mathlib.Core.Path.{_≡_, refl, subst}
-use mathlib.Core.Bool.{Bool, true, false, cond}
-use mathlib.Core.List.{List, [], _∷_}
+use mathlib.Core.Path.{_≡_, refl}
+use mathlib.Core.Bool.{true, false}
+use mathlib.Core.List.{List, []}
 use Prim.Native.Nat.{ℕ, _≤_}
 use native.Mathlib.Omega.{arith}
 use lib.ListN.{length}
 use borrow.Author.Tests.{ltb-false, not-false}
 use Rattle.lists.specs.Lists.{all, sum, rising, below}
 use Rattle.model.specs.declared.answers.Made.{Made}
-use Rattle.model.specs.declared.answers.Refusal.{Refusal}
 use Rattle.model.specs.declared.answers.Outcome.{Outcome}
 use Rattle.model.specs.declared.answers.Outcome.the-variants.{Done, Refused}
-use Rattle.model.specs.Refusals.{firstOf}
 use Rattle.model.specs.Graph.{runs, start, firstHeld, len, entries}
 use Rattle.model.specs.Record.{store}
 use Rattle.model.specs.Broken.{parentsFit, frontierFits, seenFits, broken, WellFormed, Limits, Held}
 use Rattle.model.specs.Fresh.{fresh, newOf, afterOutcome, afterOf}
 use Rattle.model.proofs.Stored.{held-store, not-broken}
-
--- Calls that are not refused
-
-abbrev IsDone : Outcome → Type 0
-IsDone Done = Unit {0}
-IsDone (Refused r) = ⊥
-
-pub refused-not-done : (r : Refusal) → Refused r ≡ Done → ⊥
-refused-not-done r e = subst (λ (o : Outcome). IsDone o → ⊥) e (λ x. x) tt
-
--- where no refusal applies, the first does not, and none of the later
-pub passed : (t : Bool × Refusal) (ts : List (Bool × Refusal)) → firstOf (t ∷ ts) ≡ Done → (t .0 ≡ false) × (firstOf ts ≡ Done)
-unfolding firstOf
-passed t ts e = go (t .0) e
-  where
-    go : (b : Bool) → cond b (Refused (t .1)) (firstOf ts) ≡ Done → (b ≡ false) × (firstOf ts ≡ Done)
-    go true q = absurd (refused-not-done (t .1) q)
-    go false q = (refl, q)
-
--- Fresh graphs
+use Rattle.model.proofs.Tests.{passed}
 
 -- A graph with no runs is well-formed if its frontier is rising and below its events
 pub fresh-formed : (events : ℕ) (frontier : List ℕ) → rising frontier ≡ true → below events frontier ≡ true → WellFormed (fresh events frontier)
@@ -52,7 +31,7 @@ fresh-formed events frontier r b = record {
   changed = omega arith;
 }
 
--- .. and within the limits if its frontier is
+-- and within the limits if its frontier is
 pub fresh-limits : (events : ℕ) (frontier : List ℕ) → length frontier ≤ 512 → Limits (fresh events frontier)
 unfolding fresh runs entries sum
 fresh-limits events frontier h = record { runs = omega arith; entries = omega arith; frontier = h }
@@ -65,7 +44,7 @@ new-held = held-store (fresh 0 []) (fresh-formed 0 [] refl refl) (fresh-limits 0
 pub new-unbroken : broken newOf ≡ false
 new-unbroken = not-broken newOf new-held
 
--- what an `after` that is not refused was given
+-- What an `after` that is not refused was given
 pub after-passed :
     (events : ℕ) (frontier : List ℕ) → afterOutcome events frontier ≡ Done → (rising frontier ≡ true) × (below events frontier ≡ true) × (length frontier ≤ 512)
 unfolding afterOutcome

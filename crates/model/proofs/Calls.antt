@@ -47,6 +47,7 @@ module _ (P : Graph → Log → Type 0) (K : Keeps P) where
   }
 
   module _ (g : CausalGraph) (l : Log) (G : Kept P g l) where
+    -- A push, a run start and a take, on the record
     push-keeps : (ps : List ℕ) (n : ℕ) → Kept P (pushOf g ps n .graph) (note l (push ps n) (pushOf g ps n .answer))
     unfolding pushOf pushed pushRefused note
     push-keeps ps n = go (broken g) (pushOutcome (view g) ps n) refl

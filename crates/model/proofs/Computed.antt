@@ -3,6 +3,7 @@ use mathlib.Core.Path.{refl}
 use Rattle.model.specs.Cases.{Cases}
 use Rattle.model.proofs.Everything.{everything}
 
+-- All the cases
 pub cases : Cases
 unfolding everything
 cases = record {

@@ -1,41 +1,27 @@
 -- A marked run starts at a critical version: the events before it with no child before it make one. Assumes nothing.
-use mathlib.Core.Path.{_≡_, refl, sym, ap, _∙_}
+use mathlib.Core.Path.{_≡_, refl}
 use mathlib.Core.Logic.{_⊎_, inl, inr, _↔_}
-use mathlib.Core.Bool.{Bool, true, false, not, _&&_}
-use mathlib.Core.List.{List, [], _∷_}
+use mathlib.Core.Bool.{Bool, true, false, not}
+use mathlib.Core.List.{List}
 use Prim.Native.Nat.{ℕ, zero, suc, _+_, _-_, _≤_, _<_}
 use native.Mathlib.Omega.{arith}
 use lib.ListN.{length, getD}
-use lib.Dec.{leb, ltb, eqb}
-use borrow.Author.Tests.{leb-true, eq-eqb}
-use Rattle.lists.specs.Lists.{bit, all, filter, from, mem}
-use Rattle.lists.proofs.Truth.{lt-or-le, false-true, and-left, or-left, or-right}
-use Rattle.lists.proofs.Between.{within-in}
-use Rattle.lists.proofs.Members.{mem-occurs, occurs-from, mem-from, all-at, mem-filter, filter-mem, count-le}
+use lib.Dec.{leb}
+use borrow.Author.Tests.{leb-true, not-false}
+use Rattle.lists.specs.Lists.{all, filter, from, mem}
+use Rattle.lists.proofs.Truth.{lt-or-le, false-true}
+use Rattle.lists.proofs.Members.{mem-filter, filter-mem, all-at, all-fails}
+use Rattle.lists.proofs.Counts.{mem-from, from-mem, count-le}
+use Rattle.lists.proofs.Each.{members}
 use Rattle.model.specs.EventGraph.{EventGraph, HappenedBefore, parent, further, ancestor, InEvents, CriticalAt}
 use Rattle.model.specs.Graph.{Graph, marked}
 use Rattle.model.specs.Log.{Log, runStart, heldOf, heldBefore, eventGraph}
 use Rattle.model.proofs.Ancestry.{Lower, before-lower, before-trans, ancestor-iff}
 use Rattle.model.proofs.Exact.{ancestors}
-use Rattle.model.proofs.Runs.{runOf}
+use Rattle.model.proofs.Runs.{held-is, held-bounds, runOf}
 use Rattle.model.proofs.Tied.{Tied, high, mono, down, in-run}
 use Rattle.model.proofs.Seen.{Seen, reaches-more}
-use Rattle.model.proofs.Replaying.{marked-is, held-is}
-
-from-mem : (x a n : ℕ) → a ≤ x → x < a + n → mem x (from a n) ≡ true
-from-mem x a n p q = mem-occurs x (from a n) ∙ ap (ltb 0) (occurs-from x a n ∙ ap bit (within-in a (a + n) x p q))
-
--- Where not each one passes, one fails
-all-fails : (p : ℕ → Bool) (xs : List ℕ) → all p xs ≡ false → (x : ℕ) × (mem x xs ≡ true) × (p x ≡ false)
-unfolding all mem
-all-fails p [] h = false-true (sym h)
-all-fails p (y ∷ ys) h = go (p y) refl h (λ k. all-fails p ys k)
-  where
-    go : (b : Bool) → p y ≡ b → b && all p ys ≡ false → (all p ys ≡ false → (x : ℕ) × (mem x ys ≡ true) × (p x ≡ false)) →
-        (x : ℕ) × (mem x (y ∷ ys) ≡ true) × (p x ≡ false)
-    go true e k ih =
-        let r : (x : ℕ) × (mem x ys ≡ true) × (p x ≡ false) = ih k in (r .0, or-right (eqb (r .0) y) (r .1), r .2)
-    go false e k ih = (y, or-left (mem y ys) (eq-eqb y y refl), e)
+use Rattle.model.proofs.Marked.{marked-is}
 
 -- What happened before an event has a child at that event or before it
 child : (G : EventGraph) → Lower G → {a b : ℕ} → HappenedBefore G a b → (c : ℕ) × (mem a (G .parents c) ≡ true) × (c ≤ b)
@@ -78,13 +64,9 @@ module _ (G : EventGraph) (low : Lower G) (f s : ℕ) (held : (e p : ℕ) → me
       go false h ih =
           let c : (c : ℕ) × (mem c (from f (s - f)) ≡ true) × (not (mem e (G .parents c)) ≡ false) = all-fails (λ c. not (mem e (G .parents c))) (from f (s - f)) h in
           let i : (f ≤ c .0) × (c .0 < f + (s - f)) = mem-from (c .0) f (s - f) (c .1) in
-          let m : mem e (G .parents (c .0)) ≡ true = not-not (mem e (G .parents (c .0))) (c .2) in
+          let m : mem e (G .parents (c .0)) ≡ true = not-false (mem e (G .parents (c .0))) (c .2) in
           onward (c .0) m (ih (c .0) (omega (arith, low (c .0) e m)) (i .0) (omega (arith, i .0, i .1)))
         where
-          not-not : (b : Bool) → not b ≡ false → b ≡ true
-          not-not true h = refl
-          not-not false h = sym h
-
           onward : (c : ℕ) → mem e (G .parents c) ≡ true → InEvents G tops c → InEvents G tops e
           onward c m (inl n) = inr (c, n, parent m)
           onward c m (inr t) = inr (t .0, t .1, before-trans G (parent m) (t .2))
@@ -100,10 +82,6 @@ module _ (G : EventGraph) (low : Lower G) (f s : ℕ) (held : (e p : ℕ) → me
 parents-held : (l : Log) (e p : ℕ) → mem p (eventGraph l .parents e) ≡ true → l .firstHeld ≤ p
 unfolding heldOf
 parents-held l e p m = leb-true (l .firstHeld) p ((mem-filter (λ q. leb (l .firstHeld) q) p (l .parents e) m) .1)
-
-held-first : (l : Log) (e : ℕ) → heldBefore l (l .next) e ≡ true → l .firstHeld ≤ e
-unfolding heldBefore
-held-first l e h = leb-true (l .firstHeld) e (and-left (leb (l .firstHeld) e) (ltb e (l .next)) h)
 
 module _ (g : Graph) (l : Log) (t : Tied g l) (S : Seen g l) (lower : Lower (eventGraph l)) where
   -- Each held event before a marked run happened before each at or past its start
@@ -136,7 +114,7 @@ marks-critical g l t S lower r lt m = record {
     };
     parts = λ a b u h v. all-before g l t S lower r lt m a b ((is-in a) .0 u .0) ((is-in a) .0 u .1) h (past b h v (lt-or-le b (runStart l r)));
   };
-  before = λ e. (held-before e, λ u. (is-in e) .1 (held-first l e (u .0), u .1));
+  before = λ e. (held-before e, λ u. (is-in e) .1 (held-bounds l (l .next) e (u .0) .0, u .1));
 }
   where
     vs : List ℕ
@@ -148,8 +126,8 @@ marks-critical g l t S lower r lt m = record {
     held-before : (e : ℕ) → InEvents (eventGraph l) vs e → (heldBefore l (l .next) e ≡ true) × (e < runStart l r)
     held-before e u =
         let i : (l .firstHeld ≤ e) × (e < runStart l r) = (is-in e) .0 u in
-        (held-is g l t S (l .next) e (i .0) (omega (arith, i .1, high g l t r)), i .1)
+        (held-is l (l .next) e (i .0) (omega (arith, i .1, high g l t r)), i .1)
 
     past : (b : ℕ) → heldBefore l (l .next) b ≡ true → ¬ InEvents (eventGraph l) vs b → (b < runStart l r) ⊎ (runStart l r ≤ b) → runStart l r ≤ b
-    past b h v (inl c) = absurd (v ((is-in b) .1 (held-first l b h, c)))
+    past b h v (inl c) = absurd (v ((is-in b) .1 (held-bounds l (l .next) b h .0, c)))
     past b h v (inr c) = c

@@ -1,4 +1,4 @@
--- Demand 3 and what stands beside it, proved. Assumes nothing.
+-- Demand 3, and what stands beside it. Assumes nothing.
 use mathlib.Core.Path.{_≡_, ap, _∙_}
 use mathlib.Core.Bool.{false}
 use mathlib.Core.List.{List}
@@ -18,12 +18,12 @@ use Rattle.model.specs.Log.{Log, runCount, madeBy}
 use Rattle.model.specs.Claim.{RowRoom, StepRoom, Claimed, Claim, Beside}
 use Rattle.model.proofs.Stored.{not-broken}
 use Rattle.model.proofs.Keeping.{lower-of}
+use Rattle.model.proofs.Critical.{marks-critical}
 use Rattle.model.proofs.Rooms.{walk-done}
 use Rattle.model.proofs.RoomsReplay.{replay-done}
 use Rattle.model.proofs.Results.{walk-done-is, replay-is, walks-follow, replays-follow}
 use Rattle.model.proofs.Calls.{Kept}
 use Rattle.model.proofs.Good.{Good, made-good, since-fresh, since-take}
-use Rattle.model.proofs.Critical.{marks-critical}
 
 module _ (g : CausalGraph) (l : Log) (G : Kept Good g l) where
   unbroken : broken g ≡ false
@@ -49,7 +49,7 @@ module _ (g : CausalGraph) (l : Log) (G : Kept Good g l) where
     le-ltb (b - a) known (omega arith),
   )
 
-  -- .. and a walk of a known prefix of a range inside the graph
+  -- and so is a walk of a known prefix of a range inside the graph
   walk-has-room : (a b known first : ℕ) (rows steps : List ℕ) → a + known ≤ b → b ≤ runCount l → RowRoom ≤ length rows → StepRoom ≤ length steps →
       (walkOf g a b known first rows steps) .0 .outcome ≡ Done
   walk-has-room a b known first rows steps p q x y =

@@ -56,6 +56,7 @@ mem-edge x at (y ∷ ys) m = go (eqb at y) (ltb at y) (λ k. mem-edge x at ys k)
     go false true ih m = or-last (eqb x at) (eqb x y || mem x ys) m
     go false false ih m = rw (or-first (eqb x y) (mem x (edge at ys)) m, ih (or-last (eqb x y) (mem x (edge at ys)) m))
 
+-- What is an edge already changes nothing
 pub edge-member : (lo : ℕ) (xs : List ℕ) (n e : ℕ) → Up lo xs n → mem e xs ≡ true → edge e xs ≡ xs
 unfolding edge mem
 edge-member lo [] n e h m = false-true m

@@ -7,7 +7,7 @@ use native.Mathlib.Omega.{arith}
 use lib.Dec.{leb, eqb}
 use borrow.Author.Tests.{eqb-false, eq-eqb}
 use Rattle.lists.specs.Lists.{mem, count}
-use Rattle.lists.proofs.Truth.{or-right, or-first, or-last}
+use Rattle.lists.proofs.Truth.{lt-of-ne, or-right, or-first, or-last}
 use Rattle.lists.proofs.Members.{mem-append}
 use Rattle.lists.proofs.Rising.{up-append}
 use Rattle.model.specs.EventGraph.{ancestor}
@@ -23,7 +23,7 @@ split-front : (g : Graph) (l : Log) (r a : ℕ) → Front g l → Front (split g
 unfolding split logStart ancestors ancestor heldOf heldBefore
 split-front g l r a f = record { below = f .below; covers = f .covers }
 
--- A split inside run r
+-- A split inside run r keeps all
 pub split-inv : (g : Graph) (l : Log) → Inv g l → (a r : ℕ) → l .firstHeld < a → a < l .next → mem a (l .edges) ≡ false →
     suc r ≡ count (λ s. leb s a) (l .edges) → Inv (split g r a) (logStart l a)
 split-inv g l v a r lo hi new run = record {
@@ -70,12 +70,9 @@ splits-keep (p ∷ ps) g l v h =
     go false m ih₁ ih₂ =
         let k : mem (suc p) (l .edges) || mem (suc p) (l .next ∷ []) ≡ false = sym (mem-append (suc p) (l .edges) (l .next ∷ [])) ∙ (rw (v .tied .starts) at m) in
         let fresh-edge : mem (suc p) (l .edges) ≡ false = or-first (mem (suc p) (l .edges)) (mem (suc p) (l .next ∷ [])) k in
-        let hi : suc p < l .next = apart (eqb-false (suc p) (l .next) (or-first (eqb (suc p) (l .next)) false (or-last (mem (suc p) (l .edges)) (mem (suc p) (l .next ∷ [])) k))) in
+        let hi : suc p < l .next = lt-of-ne (suc p) (l .next) (omega (arith, here .1)) (eqb-false (suc p) (l .next) (or-first (eqb (suc p) (l .next)) false (or-last (mem (suc p) (l .edges)) (mem (suc p) (l .next ∷ [])) k))) in
         let run : suc (containing g p) ≡ count (λ s. leb s (suc p)) (l .edges) = containing-is g l (v .tied) p (here .1) (here .0) ∙ sym (count-skip p (l .edges) fresh-edge) in
         let v′ : Inv (split g (containing g p) (suc p)) (logStart l (suc p)) = split-inv g l v (suc p) (containing g p) (omega (arith, here .0)) hi fresh-edge run in
         let r : (es : List ℕ) × Inv (splitAfter (split g (containing g p) (suc p)) ps) (withEdges l es) ×
         (es ++ l .next ∷ [] ≡ edgesAt (map suc ps) (edge (suc p) (l .edges) ++ l .next ∷ [])) = ih₂ v′ rest in
         (r .0, r .1, r .2 ∙ ap (λ (xs : List ℕ). edgesAt (map suc ps) xs) (sym (edge-append (l .edges) (l .next) (suc p) hi)))
-      where
-        apart : (suc p ≡ l .next → ⊥) → suc p < l .next
-        apart z = omega (arith, here .1)

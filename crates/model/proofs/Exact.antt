@@ -1,13 +1,15 @@
--- Steps followed on the plain set with ancestors by computing: what the proof of demand 3 works with. Assumes nothing.
-use mathlib.Core.Path.{_≡_}
+-- Steps followed on the plain set, with ancestors by computing, and steps after steps. Assumes nothing.
+use mathlib.Core.Path.{_≡_, _∙_}
 use mathlib.Core.Bool.{true, false, _&&_}
-use mathlib.Core.List.{List, [], _∷_}
+use mathlib.Core.List.{List, [], _∷_, _++_}
 use Prim.Native.Nat.{ℕ, suc, _+_}
+use native.Mathlib.Omega.{arith}
 use Rattle.lists.specs.Lists.{bit}
 use Rattle.model.specs.EventGraph.{ancestor}
-use Rattle.model.specs.Steps.{Step, retreat, advance, opened, apply}
+use Rattle.model.specs.Steps.{Step, retreat, advance, opened, apply, movedIn}
 use Rattle.model.specs.Log.{Log, runStart, inRuns, heldBefore, eventGraph}
 use Rattle.model.specs.PlainSet.{Events, minus, plus, apart, times}
+use Rattle.model.specs.Graph.{Graph}
 
 -- An event's ancestors
 unfoldable pub ancestors : Log → ℕ → Events
@@ -39,3 +41,39 @@ pub record Followed (l : Log) (counted due : Events) (ss : List Step) (s : Event
   pub once : (r : ℕ) → times r ss ≡ bit (due r)
   pub right : Exact l counted ss s
   pub moves : moved ≡ sumBy l counted ss s s
+
+-- Steps after which right ones come, whatever the set, are right with them
+pub exact-append : (l : Log) (c : Events) (xs ys : List Step) (s : Events) → Exact l c xs s → ((u : Events) → Exact l c ys u) → Exact l c (xs ++ ys) s
+unfolding Exact
+exact-append l c [] ys s h k = k s
+exact-append l c (retreat a b ∷ xs) ys s h k = (h .0, exact-append l c xs ys (minus s (inRuns l a b)) (h .1) k)
+exact-append l c (advance a b ∷ xs) ys s h k = (h .0, exact-append l c xs ys (plus s (inRuns l a b)) (h .1) k)
+exact-append l c (apply r ∷ xs) ys s h k = (h .0, exact-append l c xs ys (plus s (inRuns l r (suc r))) (h .1) k)
+exact-append l c (opened a b ∷ xs) ys s h k = exact-append l c xs ys (heldBefore l (runStart l a)) h k
+
+-- and their sums add up
+pub sum-append : (l : Log) (c : Events) (xs ys : List Step) (s base : Events) (m : ℕ) → ((u v : Events) → sumBy l c ys u v ≡ m) →
+    sumBy l c (xs ++ ys) s base ≡ sumBy l c xs s base + m
+unfolding sumBy
+sum-append l c [] ys s base m k = k s base ∙ omega arith
+sum-append l c (retreat a b ∷ xs) ys s base m k = sum-append l c xs ys (minus s (inRuns l a b)) base m k
+sum-append l c (advance a b ∷ xs) ys s base m k = sum-append l c xs ys (plus s (inRuns l a b)) base m k
+sum-append l c (apply r ∷ xs) ys s base m k = omega (arith, sum-append l c xs ys (plus s (inRuns l r (suc r))) (plus s (inRuns l r (suc r))) m k)
+sum-append l c (opened a b ∷ xs) ys s base m k = sum-append l c xs ys (heldBefore l (runStart l a)) (heldBefore l (runStart l a)) m k
+
+-- So do the times that a run is applied, and the events in the moves
+pub times-append : (q : ℕ) (xs ys : List Step) → times q (xs ++ ys) ≡ times q xs + times q ys
+unfolding times
+times-append q [] ys = omega arith
+times-append q (retreat a b ∷ xs) ys = times-append q xs ys
+times-append q (advance a b ∷ xs) ys = times-append q xs ys
+times-append q (apply r ∷ xs) ys = omega (arith, times-append q xs ys)
+times-append q (opened a b ∷ xs) ys = times-append q xs ys
+
+pub moved-append : (g : Graph) (xs ys : List Step) → movedIn g (xs ++ ys) ≡ movedIn g xs + movedIn g ys
+unfolding movedIn
+moved-append g [] ys = omega arith
+moved-append g (retreat a b ∷ xs) ys = omega (arith, moved-append g xs ys)
+moved-append g (advance a b ∷ xs) ys = omega (arith, moved-append g xs ys)
+moved-append g (apply r ∷ xs) ys = moved-append g xs ys
+moved-append g (opened a b ∷ xs) ys = moved-append g xs ys

@@ -9,7 +9,7 @@ use lib.ListN.{length}
 use lib.Dec.{leb, ltb, eqb}
 use borrow.Author.Tests.{eqb-true, lt-ltb, le-leb, lt-leb, eq-eqb, ne-eqb}
 use Rattle.lists.specs.Lists.{bit, filter, count, mem}
-use Rattle.lists.proofs.Truth.{lt-or-le, eq-or-not, false-true, or-false, bit-inj, bit-true, bit-false, bit-le}
+use Rattle.lists.proofs.Truth.{lt-or-le, eq-or-not, false-true, cond-same, or-false, bit-inj, bit-true, bit-false, bit-le}
 use Rattle.lists.proofs.Between.{within, within-in, within-before, within-after}
 use Rattle.lists.proofs.Members.{mem-append}
 use Rattle.model.specs.Range.{chainsFrom}
@@ -128,11 +128,7 @@ module _ (l : Log) (runOf : ℕ → ℕ) (isHeld : Events) (a : ℕ) (N : Number
   -- An event is in as many moves as its run
   holds-is : (e : ℕ) (ms : List (ℕ × ℕ)) → holds l a e ms ≡ cond (isHeld e && leb a (runOf e)) (held (runOf e - a) ms) 0
   unfolding holds held count
-  holds-is e [] = go (isHeld e && leb a (runOf e))
-    where
-      go : (t : Bool) → _≡_ {A = ℕ} 0 (cond t 0 0)
-      go true = refl
-      go false = refl
+  holds-is e [] = sym (cond-same (isHeld e && leb a (runOf e)) 0)
   holds-is e (m ∷ ms) =
       rw (N .splits (a + m .0) (a + m .1) e, local (m .0) (m .1) (runOf e), holds-is e ms)
       (go (isHeld e) (leb a (runOf e)) (within m (runOf e - a)) (held (runOf e - a) ms))

@@ -1,74 +1,96 @@
--- `start_run_at`, `take_changed_from`, `new` and an accepted `after` give graphs that are well-formed and within the limits. Assumes nothing.
+-- `start_run_at` and `take_changed_from` keep a graph well-formed and within the limits. Assumes nothing.
 use mathlib.Core.Path.{_≡_, refl, ap}
 use mathlib.Core.Bool.{Bool, true, false, not, _||_}
-use mathlib.Core.List.{List, []}
-use Prim.Native.Nat.{ℕ, _+_, _≤_, _<_}
+use Prim.Native.Nat.{ℕ, suc, _+_, _<_}
 use native.Mathlib.Omega.{arith}
-use lib.ListN.{length}
-use lib.Dec.{leb, ltb, eqb}
-use borrow.Author.Tests.{ltb-false, leb-false, eqb-false, not-false}
-use Rattle.lists.specs.Lists.{all, sum, rising, below}
-use Rattle.lists.proofs.Truth.{false-true, or-first, or-last}
-use Rattle.model.specs.declared.answers.Refusal.the-variants.{NotRising, UnknownEvent, TooManyRuns, TooManyEntries, FrontierTooLong}
+use lib.Dec.{leb, eqb}
+use borrow.Author.Tests.{ltb-false, leb-false, eqb-true, eqb-false}
+use Rattle.lists.proofs.Truth.{lt-of-ne, false-true, or-first, or-last}
 use Rattle.model.specs.declared.answers.Outcome.the-variants.{Done}
-use Rattle.model.specs.Refusals.{firstOf}
 use Rattle.model.specs.Graph.{Graph, runs, start, firstHeld, len, entries, containing, marked}
-use Rattle.model.specs.Broken.{WellFormed, Limits, frontierFits, parentsFit, seenFits}
+use Rattle.model.specs.Broken.{WellFormed, Limits}
 use Rattle.model.specs.Split.{split}
 use Rattle.model.specs.Start.{Starting, answers, splitting, alone, starting, splitOutcome, taken}
-use Rattle.model.specs.Fresh.{fresh, afterOutcome}
-use Rattle.model.proofs.Tests.{firstOf-done}
+use Rattle.model.proofs.Tests.{passed}
 use Rattle.model.proofs.FormedReads.{containing-in}
 use Rattle.model.proofs.FormedSplits.{split-runs, split-entries, split-formed}
 
--- A run start that splits lies inside a run, after its first event
+-- What the tests of a run start come to: outside, at a run's start, of a run that stands alone; and the answer at a run's start
+abbrev started : (outside begins lone unmarked : Bool) → Starting
+started outside begins lone unmarked = elim outside as (λ _. Starting) [
+  | true ↦ answers false
+  | false ↦ elim begins as (λ _. Starting) [
+    | true ↦ answers unmarked
+    | false ↦ elim lone as (λ _. Starting) [ true ↦ answers false | false ↦ splitting ]
+  ]
+]
+
 abbrev splits-run : Starting → Bool
 splits-run (answers b) = false
 splits-run splitting = true
 
+abbrev tells-true : Starting → Bool
+tells-true (answers b) = b
+tells-true splitting = false
+
+not-outside : (g : Graph) (at : ℕ) → leb at (firstHeld g) || leb (len g) at ≡ false → (firstHeld g < at) × (at < len g)
+not-outside g at e = (
+  leb-false at (firstHeld g) (or-first (leb at (firstHeld g)) (leb (len g) at) e),
+  leb-false (len g) at (or-last (leb at (firstHeld g)) (leb (len g) at) e),
+)
+
+-- A run start that splits has passed each test: it is past the first held event, before `len` and at no run's start
 pub starting-inside : (g : Graph) (at : ℕ) → starting g at ≡ splitting →
     (firstHeld g < at) × (at < len g) × (start g (containing g at) ≡ at → ⊥) × (alone g (containing g at) ≡ false)
 unfolding starting
 starting-inside g at e =
-    let w = go (leb at (firstHeld g) || leb (len g) at) (eqb (start g (containing g at)) at) (alone g (containing g at)) e in (
-      leb-false at (firstHeld g) (or-first (leb at (firstHeld g)) (leb (len g) at) (w .0)),
-      leb-false (len g) at (or-last (leb at (firstHeld g)) (leb (len g) at) (w .0)),
-      eqb-false (start g (containing g at)) at (w .1),
-      w .2,
-    )
+    let r = containing g at in
+    let w = go (leb at (firstHeld g) || leb (len g) at) (eqb (start g r) at) (alone g r) (not (marked g r)) e in
+    let i = not-outside g at (w .0) in
+    (i .0, i .1, eqb-false (start g r) at (w .1), w .2)
   where
-    go :
-        (a b c : Bool) →
-        elim a as (λ _. Starting) [
-          | true ↦ answers false
-          | false ↦ elim b as (λ _. Starting) [
-            | true ↦ answers (not (marked g (containing g at)))
-            | false ↦ elim c as (λ _. Starting) [ true ↦ answers false | false ↦ splitting ]
-          ]
-        ] ≡ splitting →
-        (a ≡ false) × (b ≡ false) × (c ≡ false)
-    go true b c q = false-true (ap splits-run q)
-    go false true c q = false-true (ap splits-run q)
-    go false false true q = false-true (ap splits-run q)
-    go false false false q = (refl, refl, refl)
+    go : (a b c d : Bool) → started a b c d ≡ splitting → (a ≡ false) × (b ≡ false) × (c ≡ false)
+    go true b c d q = false-true (ap splits-run q)
+    go false true c d q = false-true (ap splits-run q)
+    go false false true d q = false-true (ap splits-run q)
+    go false false false d q = (refl, refl, refl)
+
+-- One told true is past the first held event, before `len` and at a run's start
+pub starting-told : (g : Graph) (at : ℕ) → starting g at ≡ answers true → (firstHeld g < at) × (at < len g) × (start g (containing g at) ≡ at)
+unfolding starting
+starting-told g at e =
+    let r = containing g at in
+    let w = go (leb at (firstHeld g) || leb (len g) at) (eqb (start g r) at) (alone g r) (not (marked g r)) e in
+    let i = not-outside g at (w .0) in
+    (i .0, i .1, eqb-true (start g r) at (w .1))
+  where
+    go : (a b c d : Bool) → started a b c d ≡ answers true → (a ≡ false) × (b ≡ true)
+    go true b c d q = false-true (ap tells-true q)
+    go false true c d q = (refl, refl)
+    go false false true d q = false-true (ap tells-true q)
+    go false false false d q = false-true (ap tells-true q)
+
+-- One that splits lies inside a run, after the run's first event
+pub start-inside : (g : Graph) → WellFormed g → (at : ℕ) → starting g at ≡ splitting →
+    (containing g at < runs g) × (start g (containing g at) < at) × (at < start g (suc (containing g at)))
+start-inside g formed at e =
+    let w = starting-inside g at e in
+    let c = containing-in g formed at (omega (arith, w .0)) (w .1) in
+    (c .0, lt-of-ne (start g (containing g at)) at (c .1) (w .2), c .2)
 
 -- A run start keeps the graph well-formed
 pub start-formed : (g : Graph) → WellFormed g → (at : ℕ) → starting g at ≡ splitting → WellFormed (split g (containing g at) at)
 start-formed g formed at e =
-    let w = starting-inside g at e in
-    let c = containing-in g formed at (omega (arith, w .0)) (w .1) in
-    split-formed g formed (containing g at) at (c .0) (below-of-ne (start g (containing g at)) at (c .1) (w .2)) (c .2)
-  where
-    below-of-ne : (a b : ℕ) → a ≤ b → (a ≡ b → ⊥) → a < b
-    below-of-ne a b h n = omega arith
+    let c = start-inside g formed at e in
+    split-formed g formed (containing g at) at (c .0) (c .1) (c .2)
 
 -- and within the limits
 pub start-limits : (g : Graph) → WellFormed g → Limits g → (at : ℕ) → starting g at ≡ splitting → splitOutcome g ≡ Done →
     Limits (split g (containing g at) at)
 unfolding splitOutcome
 start-limits g formed l at e d =
-    let t₁ = firstOf-done (ltb 512 (runs g + 1)) TooManyRuns _ d in
-    let t₂ = firstOf-done (ltb 2048 (entries g + 1)) TooManyEntries _ (t₁ .1) in
+    let t₁ = passed _ _ d in
+    let t₂ = passed _ _ (t₁ .1) in
     let r = containing g at in
     record {
       runs = omega (arith, split-runs g r at, ltb-false 512 (runs g + 1) (t₁ .0));
@@ -92,45 +114,3 @@ taken-formed g f = record {
 pub taken-limits : (g : Graph) → Limits g → Limits (taken g)
 unfolding taken runs entries
 taken-limits g l = record { runs = l .runs; entries = l .entries; frontier = l .frontier }
-
--- A fresh graph that is not refused is well-formed
-pub fresh-formed : (events : ℕ) (frontier : List ℕ) → afterOutcome events frontier ≡ Done → WellFormed (fresh events frontier)
-unfolding afterOutcome
-fresh-formed events frontier d =
-    let t₁ = firstOf-done (not (rising frontier)) NotRising _ d in
-    let t₂ = firstOf-done (not (below events frontier)) UnknownEvent _ (t₁ .1) in
-    made (not-false (rising frontier) (t₁ .0)) (not-false (below events frontier) (t₂ .0))
-  where
-    made : rising frontier ≡ true → below events frontier ≡ true → WellFormed (fresh events frontier)
-    made r b = unfold fresh runs len start firstHeld rising parentsFit frontierFits seenFits in record {
-      starts-count = refl;
-      seen-count = refl;
-      starts = refl;
-      parents = refl;
-      frontier = rw (r, b);
-      seen = refl;
-      changed = omega arith;
-    }
-
--- and within the limits
-pub fresh-limits : (events : ℕ) (frontier : List ℕ) → afterOutcome events frontier ≡ Done → Limits (fresh events frontier)
-unfolding afterOutcome
-fresh-limits events frontier d =
-    let t₁ = firstOf-done (not (rising frontier)) NotRising _ d in
-    let t₂ = firstOf-done (not (below events frontier)) UnknownEvent _ (t₁ .1) in
-    let t₃ = firstOf-done (ltb 512 (length frontier)) FrontierTooLong _ (t₂ .1) in
-    made (ltb-false 512 (length frontier) (t₃ .0))
-  where
-    made : length frontier ≤ 512 → Limits (fresh events frontier)
-    made h = unfold fresh runs entries sum in record { runs = omega arith; entries = omega arith; frontier = h }
-
--- `new`
-new-done : afterOutcome 0 [] ≡ Done
-unfolding afterOutcome firstOf rising below all
-new-done = refl
-
-pub new-formed : WellFormed (fresh 0 [])
-new-formed = fresh-formed 0 [] new-done
-
-pub new-limits : Limits (fresh 0 [])
-new-limits = fresh-limits 0 [] new-done

@@ -10,14 +10,16 @@ use lib.Dec.{leb, ltb, eqb}
 use borrow.Author.Tests.{lt-ltb, le-leb, eq-eqb}
 use Rattle.lists.specs.Lists.{mem, rising, below, same, filter}
 use Rattle.lists.proofs.Truth.{and-left, and-right, and-both, or-right}
-use Rattle.lists.proofs.Members.{map-mem, mem-filter}
-use Rattle.lists.proofs.Ordered.{rising-snoc, rising-filter, rising-map, rising-take, below-of, below-at, below-getD, below-snoc, cond-within, largest-within, least-le, length-snoc, sum-snoc}
+use Rattle.lists.proofs.Between.{cond-within}
+use Rattle.lists.proofs.Members.{mem-filter, map-mem}
+use Rattle.lists.proofs.Counts.{length-snoc, sum-snoc}
+use Rattle.lists.proofs.Rising.{rising-snoc, rising-filter, rising-map, rising-take}
+use Rattle.lists.proofs.Bounds.{below-of, below-at, below-getD, below-snoc, largest-least, largest-most, least-le}
 use Rattle.model.specs.Graph.{Graph, runs, start, firstHeld, len, entries, containing, marks, held}
 use Rattle.model.specs.Broken.{WellFormed, parentsFit, frontierFits, seenFits}
 use Rattle.model.specs.Split.{ends}
 use Rattle.model.specs.Push.{staying, grown, parentRuns, seenAfter, newSeen, joined, lowered}
-use Rattle.model.proofs.FormedReads.{start-len, first-len, containing-in, containing-less, seenAfter-within, frontier-rising, frontier-below}
-use Rattle.model.proofs.FormedSplits.{parents-row, parents-first}
+use Rattle.model.proofs.FormedReads.{parents-row, parents-first, start-len, first-len, containing-in, containing-less, seenAfter-within, frontier-rising, frontier-below}
 use Rattle.model.proofs.FormedSplitAll.{Inside}
 
 -- A frontier whose last is the last event
@@ -61,6 +63,16 @@ seen-grown f zero v xs (s ∷ ss) h k = absurd (omega arith)
 seen-grown f (suc n) v [] (s ∷ ss) h k = absurd (omega arith)
 seen-grown f (suc n) v (x ∷ xs) (s ∷ ss) h k = rw (seen-grown f n v xs ss (omega arith) (omega arith))
 
+-- A new run makes one run more, and as many entries as it has held parents
+pub joined-runs : (g : Graph) (ps : List ℕ) (n : ℕ) → runs (joined g ps n) ≡ suc (runs g)
+unfolding runs joined
+joined-runs g ps n = length-snoc (g .parents) (parentRuns g ps)
+
+pub joined-entries : (g : Graph) (ps : List ℕ) (n : ℕ) → entries (joined g ps n) ≡ entries g + length (held g ps)
+unfolding entries joined parentRuns
+joined-entries g ps n =
+    omega (arith, sum-snoc (λ qs. length qs) (g .parents) (map (containing g) (held g ps)), length-map (held g ps) (containing g))
+
 -- What the frontier becomes, in either case
 module _ (g : Graph) (formed : WellFormed g) (ps : List ℕ) (n : ℕ) (some : 0 < n) where
   staying-rising : rising (staying g ps) ≡ true
@@ -73,10 +85,11 @@ module _ (g : Graph) (formed : WellFormed g) (ps : List ℕ) (n : ℕ) (some : 0
       below-of (len g + n - 1) (filter (λ e. not (mem e ps)) (g .frontier))
       (λ x m. omega (arith, below-at (len g) (g .frontier) (frontier-below g formed) x (mem-filter (λ e. not (mem e ps)) x (g .frontier) m .0)))
 
+  -- It rises, and its last is the new last event
   pub frontier-after : (k : ℕ) → frontierFits k (len g + n) (staying g ps ++ (len g + n - 1) ∷ []) ≡ true
   frontier-after k = frontier-snoc k (len g + n) (len g + n - 1) (staying g ps) staying-rising staying-below (omega arith)
 
-  -- The last run grows
+  -- Where the last run grows, so does `len`, and the first held event stays
   pub grown-len : len (grown g ps n) ≡ len g + n
   unfolding len start grown runs
   grown-len =
@@ -102,6 +115,7 @@ module _ (g : Graph) (formed : WellFormed g) (ps : List ℕ) (n : ℕ) (some : 0
           let l : i < runs g = omega (arith, length-take (runs g) (g .starts)) in
           rw (getD-take (runs g) (g .starts) i 0 l) (omega (arith, starts-len i (omega arith)))
 
+  -- and the graph stays well-formed
   pub grown-formed : 0 < runs g → WellFormed (grown g ps n)
   grown-formed h = record {
     starts-count = unfold grown runs in count-is;
@@ -124,25 +138,17 @@ module _ (g : Graph) (formed : WellFormed g) (ps : List ℕ) (n : ℕ) (some : 0
       changed-is : min (runs g - 1) (g .changed) ≤ runs g
       changed-is = omega arith
 
-  -- A new run
-  pub joined-runs : runs (joined g ps n) ≡ suc (runs g)
-  unfolding runs joined
-  joined-runs = length-snoc (g .parents) (parentRuns g ps)
-
-  pub joined-entries : entries (joined g ps n) ≡ entries g + length (held g ps)
-  unfolding entries joined parentRuns
-  joined-entries = omega (arith, sum-snoc (λ qs. length qs) (g .parents) (map (containing g) (held g ps)), length-map (held g ps) (containing g))
-
+  -- So with a new run
   pub joined-len : len (joined g ps n) ≡ len g + n
   unfolding len start joined
-  joined-len = rw joined-runs (getD-at (g .starts) (getD (g .starts) (runs g) 0 + n) [] 0 (suc (runs g)) (formed .starts-count))
+  joined-len = rw (joined-runs g ps n) (getD-at (g .starts) (getD (g .starts) (runs g) 0 + n) [] 0 (suc (runs g)) (formed .starts-count))
 
   pub joined-first : firstHeld (joined g ps n) ≡ firstHeld g
   unfolding firstHeld start joined
   joined-first = List·getD-append (g .starts) ((len g + n) ∷ []) 0 0 (omega (arith, formed .starts-count))
 
   module _ (inside : Inside g (held g ps)) where
-    -- the parent runs are below the new run
+    -- Its parent runs are below it
     pub parentRuns-below : (r : ℕ) → mem r (parentRuns g ps) ≡ true → r < runs g
     unfolding parentRuns
     parentRuns-below r m =
@@ -150,12 +156,14 @@ module _ (g : Graph) (formed : WellFormed g) (ps : List ℕ) (n : ℕ) (some : 0
         let i = inside .1 (w .0) (w .1) in
         omega (arith, w .2, containing-in g formed (w .0) (i .0) (i .1) .0)
 
-    -- what a new run has seen
+    -- What it has seen lies between the first held event and `len`
     pub newSeen-within : (firstHeld g ≤ newSeen g ps) × (newSeen g ps ≤ len g)
     unfolding newSeen
     newSeen-within =
-        let all = largest-within (firstHeld g) (len g) (firstHeld g) (map (seenAfter g) (parentRuns g ps)) (omega arith, first-len g formed) one in
-        cond-within (firstHeld g) (len g) (len g) _ (same ps (g .frontier)) (first-len g formed, omega arith) all
+        let after : List ℕ = map (seenAfter g) (parentRuns g ps) in
+        let low = largest-least (firstHeld g) (firstHeld g) after (omega arith) (λ x m. one x m .0) in
+        let high = largest-most (len g) (firstHeld g) after (first-len g formed) (λ x m. one x m .1) in
+        cond-within (firstHeld g) (len g) (len g) _ (same ps (g .frontier)) (first-len g formed, omega arith) (low, high)
       where
         one : (x : ℕ) → mem x (map (seenAfter g) (parentRuns g ps)) ≡ true → (firstHeld g ≤ x) × (x ≤ len g)
         one x m =
@@ -164,6 +172,7 @@ module _ (g : Graph) (formed : WellFormed g) (ps : List ℕ) (n : ℕ) (some : 0
             (omega (arith, w .2, s .0), omega (arith, w .2, s .1))
 
     module _ (ended : (p : ℕ) → mem p (held g ps) ≡ true → ends g p ≡ true) where
+      -- and rise
       pub parentRuns-rising : rising (parentRuns g ps) ≡ true
       unfolding parentRuns
       parentRuns-rising = rising-map (containing g) (held g ps) less (inside .0)
@@ -177,15 +186,16 @@ module _ (g : Graph) (formed : WellFormed g) (ps : List ℕ) (n : ℕ) (some : 0
           parents-snoc 0 (g .parents) (parentRuns g ps) (formed .parents) parentRuns-rising
           (rw z (below-of (runs g) (parentRuns g ps) parentRuns-below))
 
+      -- A new run keeps the graph well-formed
       pub joined-formed : WellFormed (joined g ps n)
       joined-formed = record {
-        starts-count = rw joined-runs (unfold joined in length-snoc (g .starts) (len g + n) ∙ ap suc (formed .starts-count));
-        seen-count = rw joined-runs (unfold joined in length-snoc (g .seen) (newSeen g ps) ∙ ap suc (formed .seen-count));
+        starts-count = rw (joined-runs g ps n) (unfold joined in length-snoc (g .starts) (len g + n) ∙ ap suc (formed .starts-count));
+        seen-count = rw (joined-runs g ps n) (unfold joined in length-snoc (g .seen) (newSeen g ps) ∙ ap suc (formed .seen-count));
         starts = unfold joined in rising-snoc (g .starts) (len g + n) (formed .starts) starts-below;
         parents = unfold joined in joined-parents;
         frontier = rw joined-len (unfold joined in frontier-after (runs (joined g ps n)));
         seen = rw joined-first (unfold joined in seen-is);
-        changed = rw joined-runs (unfold joined in changed-is);
+        changed = rw (joined-runs g ps n) (unfold joined in changed-is);
       }
         where
           starts-below : below (len g + n) (g .starts) ≡ true

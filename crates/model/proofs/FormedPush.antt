@@ -5,22 +5,23 @@ use mathlib.Core.List.{List, [], _∷_}
 use Prim.Native.Nat.{ℕ, zero, suc, _+_, _-_, _≤_, _<_}
 use native.Mathlib.Omega.{arith}
 use lib.ListN.{length}
-use lib.Dec.{leb, ltb, eqb}
+use lib.Dec.{leb, ltb}
 use borrow.Author.Tests.{ltb-true, ltb-false, leb-true, eqb-false, eq-eqb, not-false}
 use Rattle.lists.specs.Lists.{count, mem, rising, below, same, filter}
 use Rattle.lists.proofs.Truth.{and-left, and-right, or-left}
 use Rattle.lists.proofs.Members.{mem-filter, same-eq}
-use Rattle.lists.proofs.Ordered.{rising-filter, below-at, filter-shorter, length-snoc}
-use Rattle.model.specs.declared.answers.Refusal.the-variants.{NoEvents, NotRising, UnknownEvent, TooManyEvents, TooManyRuns, TooManyEntries, FrontierTooLong}
+use Rattle.lists.proofs.Counts.{length-snoc, filter-shorter}
+use Rattle.lists.proofs.Rising.{rising-filter}
+use Rattle.lists.proofs.Bounds.{below-at}
 use Rattle.model.specs.declared.answers.Outcome.the-variants.{Done}
 use Rattle.model.specs.Graph.{Graph, runs, firstHeld, len, entries, held, extends}
 use Rattle.model.specs.Broken.{WellFormed, Limits}
 use Rattle.model.specs.Split.{ends, splitAfter, splits}
 use Rattle.model.specs.Push.{staying, grown, joined, lowered, push, pushOutcome}
-use Rattle.model.proofs.Tests.{firstOf-done}
+use Rattle.model.proofs.Tests.{passed}
 use Rattle.model.proofs.FormedReads.{frontier-last}
-use Rattle.model.proofs.FormedSplitAll.{Inside, SplitAll, split-all-formed}
-use Rattle.model.proofs.FormedJoins.{grown-len, grown-first, grown-formed, joined-runs, joined-entries, joined-len, joined-first, joined-formed, lowered-formed, lowered-len, lowered-first}
+use Rattle.model.proofs.FormedSplitAll.{Inside, SplitAll, splits-frontier, split-all-formed}
+use Rattle.model.proofs.FormedJoins.{joined-runs, joined-entries, grown-len, grown-first, grown-formed, joined-len, joined-first, joined-formed, lowered-formed, lowered-len, lowered-first}
 
 -- What an accepted push has: events, parents that rise and are known, and room for a new run where it makes one
 pub record Accepted (g : Graph) (ps : List ℕ) (n : ℕ) : Type 0 where
@@ -36,17 +37,17 @@ pub record Accepted (g : Graph) (ps : List ℕ) (n : ℕ) : Type 0 where
 passes : (t : Bool) (a b : ℕ) → not t && ltb a b ≡ false → t ≡ false → b ≤ a
 passes t a b e f = ltb-false a b (rw f at e)
 
--- Each test of an accepted push is false
+-- An accepted push has each
 pub accepted : (g : Graph) (ps : List ℕ) (n : ℕ) → pushOutcome g ps n ≡ Done → Accepted g ps n
 unfolding pushOutcome
 accepted g ps n e =
-    let t₁ = firstOf-done (eqb n 0) NoEvents _ e in
-    let t₂ = firstOf-done (not (rising ps)) NotRising _ (t₁ .1) in
-    let t₃ = firstOf-done (not (below (len g) ps)) UnknownEvent _ (t₂ .1) in
-    let t₄ = firstOf-done (ltb 4294967295 (len g + n)) TooManyEvents _ (t₃ .1) in
-    let t₅ = firstOf-done (not (extends g ps) && ltb 512 (runs g + splits g ps + 1)) TooManyRuns _ (t₄ .1) in
-    let t₆ = firstOf-done (not (extends g ps) && ltb 2048 (entries g + splits g ps + length (held g ps))) TooManyEntries _ (t₅ .1) in
-    let t₇ = firstOf-done (not (extends g ps) && ltb 512 (length (staying g ps) + 1)) FrontierTooLong _ (t₆ .1) in
+    let t₁ = passed _ _ e in
+    let t₂ = passed _ _ (t₁ .1) in
+    let t₃ = passed _ _ (t₂ .1) in
+    let t₄ = passed _ _ (t₃ .1) in
+    let t₅ = passed _ _ (t₄ .1) in
+    let t₆ = passed _ _ (t₅ .1) in
+    let t₇ = passed _ _ (t₆ .1) in
     record {
       some = positive n (eqb-false n 0 (t₁ .0));
       rises = not-false (rising ps) (t₂ .0);
@@ -61,23 +62,21 @@ accepted g ps n e =
     positive zero h = absurd (h refl)
     positive (suc n) h = omega arith
 
--- The two ways of a push
+abbrev pushBy : Graph → List ℕ → ℕ → Bool → Graph
+pushBy g ps n goes-on = elim goes-on as (λ _. Graph) [
+  | true ↦ grown g ps n
+  | false ↦ lowered (splitAfter g (held g ps)) (joined (splitAfter g (held g ps)) ps n)
+]
+
+-- A push grows the last run, or makes a new one once its held parents end runs
 pub push-grows : (g : Graph) (ps : List ℕ) (n : ℕ) → extends g ps ≡ true → push g ps n ≡ grown g ps n
 unfolding push
-push-grows g ps n e =
-    ap (λ (t : Bool). elim t as (λ _. Graph) [
-      | true ↦ grown g ps n
-      | false ↦ lowered (splitAfter g (held g ps)) (joined (splitAfter g (held g ps)) ps n)
-    ]) e
+push-grows g ps n e = ap (pushBy g ps n) e
 
 pub push-joins : (g : Graph) (ps : List ℕ) (n : ℕ) → extends g ps ≡ false →
     push g ps n ≡ lowered (splitAfter g (held g ps)) (joined (splitAfter g (held g ps)) ps n)
 unfolding push
-push-joins g ps n e =
-    ap (λ (t : Bool). elim t as (λ _. Graph) [
-      | true ↦ grown g ps n
-      | false ↦ lowered (splitAfter g (held g ps)) (joined (splitAfter g (held g ps)) ps n)
-    ]) e
+push-joins g ps n e = ap (pushBy g ps n) e
 
 -- A push that grows the last run
 module _ (g : Graph) (ps : List ℕ) (e : extends g ps ≡ true) where
@@ -132,8 +131,9 @@ module _ (g : Graph) (formed : WellFormed g) (ps : List ℕ) (n : ℕ) (ok : Acc
 
   staying-same : staying (splitAfter g (held g ps)) ps ≡ staying g ps
   unfolding staying
-  staying-same = ap (filter (λ e. not (mem e ps))) (pushed-splits .same-frontier)
+  staying-same = ap (filter (λ e. not (mem e ps))) (splits-frontier g (held g ps))
 
+  -- and the graph is well-formed with the new run
   pub run-formed : WellFormed (joined (splitAfter g (held g ps)) ps n)
   run-formed = joined-formed (splitAfter g (held g ps)) (pushed-splits .formed) ps n (ok .some) inside-after ended-after
 
@@ -141,10 +141,10 @@ module _ (g : Graph) (formed : WellFormed g) (ps : List ℕ) (n : ℕ) (ok : Acc
   run-limits e =
       let s = splitAfter g (held g ps) in
       record {
-        runs = omega (arith, joined-runs s (pushed-splits .formed) ps n (ok .some), pushed-splits .more-runs, ok .runs-fit e, splits-are);
+        runs = omega (arith, joined-runs s ps n, pushed-splits .more-runs, ok .runs-fit e, splits-are);
         entries = omega (
           arith,
-          joined-entries s (pushed-splits .formed) ps n (ok .some),
+          joined-entries s ps n,
           pushed-splits .more-entries,
           ok .entries-fit e,
           splits-are,

@@ -1,18 +1,21 @@
--- What a well-formed graph has: starts that rise to `len`, the run of each held event, bounds on what runs have seen. Assumes nothing.
+-- What a well-formed graph has: starts that rise to `len`, the run of each held event, parents below their run, bounds on what runs have
+-- seen. Assumes nothing.
 use mathlib.Core.Path.{_≡_, refl, sym, _∙_}
 use mathlib.Core.Bool.{true, _&&_}
 use mathlib.Core.List.{List, [], _∷_}
-use Prim.Native.Nat.{ℕ, zero, suc, _-_, _≤_, _<_}
+use Prim.Native.Nat.{ℕ, zero, suc, _+_, _-_, _≤_, _<_}
 use native.Mathlib.Omega.{arith}
 use lib.ListN.{length, getD}
 use lib.Dec.{leb, ltb, eqb}
 use borrow.Author.Tests.{ltb-true, ltb-false, leb-true, leb-false, eqb-true, lt-ltb, le-ltb, le-leb, lt-leb, ne-eqb}
 use Rattle.lists.specs.Lists.{count, mem, rising, below}
-use Rattle.lists.proofs.Truth.{false-true, and-left, and-right}
+use Rattle.lists.proofs.Truth.{false-true, and-left, and-right, and-both}
+use Rattle.lists.proofs.Between.{cond-within}
 use Rattle.lists.proofs.Members.{mem-index, getD-mem}
-use Rattle.lists.proofs.Ordered.{rising-getD, rising-count, cond-within}
+use Rattle.lists.proofs.Rising.{rising-getD, rising-count}
+use Rattle.lists.proofs.Bounds.{below-at}
 use Rattle.model.specs.Graph.{Graph, runs, start, firstHeld, len, containing}
-use Rattle.model.specs.Broken.{WellFormed, frontierFits, seenFits}
+use Rattle.model.specs.Broken.{WellFormed, frontierFits, seenFits, parentsFit}
 use Rattle.model.specs.Split.{ends}
 use Rattle.model.specs.Push.{seenAfter}
 
@@ -25,6 +28,25 @@ seenFits-at f (x ∷ xs) (s ∷ ss) e zero h =
     let p : leb f s && leb s x ≡ true = and-left (leb f s && leb s x) (seenFits f xs ss) e in
     (leb-true f s (and-left (leb f s) (leb s x) p), leb-true s x (and-right (leb f s) (leb s x) p))
 seenFits-at f (x ∷ xs) (s ∷ ss) e (suc i) h = seenFits-at f xs ss (and-right (leb f s && leb s x) (seenFits f xs ss) e) i (omega arith)
+
+-- A run's parents before those of the later runs: both fit, or neither
+pub parents-row : (k : ℕ) (ps : List ℕ) (pss : List (List ℕ)) → rising ps ≡ true → below k ps ≡ true → parentsFit (suc k) pss ≡ true →
+    parentsFit k (ps ∷ pss) ≡ true
+unfolding parentsFit
+parents-row k ps pss a b e = and-both (rising ps && below k ps) (parentsFit (suc k) pss) (and-both (rising ps) (below k ps) a b) e
+
+pub parents-first : (k : ℕ) (ps : List ℕ) (pss : List (List ℕ)) → parentsFit k (ps ∷ pss) ≡ true →
+    (rising ps ≡ true) × (below k ps ≡ true) × (parentsFit (suc k) pss ≡ true)
+unfolding parentsFit
+parents-first k ps pss e =
+    let q : rising ps && below k ps ≡ true = and-left (rising ps && below k ps) (parentsFit (suc k) pss) e in
+    (and-left (rising ps) (below k ps) q, and-right (rising ps) (below k ps) q, and-right (rising ps && below k ps) (parentsFit (suc k) pss) e)
+
+-- Parents that fit are below their run
+pub parentsFit-at : (k : ℕ) (pss : List (List ℕ)) → parentsFit k pss ≡ true → (i : ℕ) → i < length pss → (p : ℕ) → mem p (getD pss i []) ≡ true → p < k + i
+parentsFit-at k [] e i h p m = absurd (omega arith)
+parentsFit-at k (ps ∷ pss) e zero h p m = omega (arith, below-at k ps (parents-first k ps pss e .1) p m)
+parentsFit-at k (ps ∷ pss) e (suc i) h p m = omega (arith, parentsFit-at (suc k) pss (parents-first k ps pss e .2) i (omega arith) p m)
 
 module _ (g : Graph) (formed : WellFormed g) where
   -- Starts never fall, from the first held event to `len`
@@ -43,7 +65,7 @@ module _ (g : Graph) (formed : WellFormed g) where
   pub first-len : firstHeld g ≤ len g
   first-len = unfold len in first-start (runs g) (omega arith)
 
-  -- As many starts are at most e as tell which are
+  -- How many starts are at most e tells which are
   pub start-count : (r e : ℕ) → r ≤ runs g → leb (start g r) e ≡ ltb r (count (λ s. leb s e) (g .starts))
   unfolding start
   start-count r e h = rising-count (g .starts) (formed .starts) r e (omega (arith, formed .starts-count))
@@ -110,7 +132,7 @@ module _ (g : Graph) (formed : WellFormed g) where
   pub frontier-below : below (len g) (g .frontier) ≡ true
   frontier-below = and-right (rising (g .frontier)) (below (len g) (g .frontier)) frontier-order
 
-  -- where there are runs the last event is in it
+  -- Where there are runs the last event is in it
   pub frontier-last : 0 < runs g → mem (len g - 1) (g .frontier) ≡ true
   unfolding frontierFits
   frontier-last h =

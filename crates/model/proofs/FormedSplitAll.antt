@@ -7,9 +7,9 @@ use Prim.Native.Nat.{ℕ, suc, _+_, _≤_, _<_}
 use native.Mathlib.Omega.{arith}
 use Rattle.lists.specs.Lists.{bit, count, mem, rising}
 use Rattle.lists.proofs.Truth.{eq-or-not, false-true}
-use Rattle.lists.proofs.Members.{getD-mem}
-use Rattle.lists.proofs.Inserts.{mem-first, mem-rest, mem-either}
-use Rattle.lists.proofs.Ordered.{rising-tail, rising-above, count-same}
+use Rattle.lists.proofs.Members.{mem-first, mem-rest, mem-either, getD-mem}
+use Rattle.lists.proofs.Counts.{count-same}
+use Rattle.lists.proofs.Rising.{rising-tail, rising-above}
 use Rattle.model.specs.Graph.{Graph, runs, start, firstHeld, len, entries, containing}
 use Rattle.model.specs.Broken.{WellFormed}
 use Rattle.model.specs.Split.{split, ends, splitAfter}
@@ -42,7 +42,6 @@ pub record SplitAll (g : Graph) (ps : List ℕ) : Type 0 where
   pub formed : WellFormed (splitAfter g ps)
   pub same-len : len (splitAfter g ps) ≡ len g
   pub same-first : firstHeld (splitAfter g ps) ≡ firstHeld g
-  pub same-frontier : splitAfter g ps .frontier ≡ g .frontier
   pub more-runs : runs (splitAfter g ps) ≡ runs g + count (λ p. not (ends g p)) ps
   pub more-entries : entries (splitAfter g ps) ≡ entries g + count (λ p. not (ends g p)) ps
   pub ends-keep : (q : ℕ) → ends g q ≡ true → ends (splitAfter g ps) q ≡ true
@@ -60,6 +59,18 @@ unfolding splitAfter
 splitAfter-inside g p ps e =
     ap (λ (t : Bool). elim t as (λ _. Graph) [ true ↦ splitAfter g ps | false ↦ splitAfter (split g (containing g p) (suc p)) ps ]) e
 
+-- They leave the frontier
+pub splits-frontier : (g : Graph) (ps : List ℕ) → splitAfter g ps .frontier ≡ g .frontier
+unfolding splitAfter
+splits-frontier g [] = refl
+splits-frontier g (p ∷ ps) =
+    go (ends g p) (splits-frontier g ps) (splits-frontier (split g (containing g p) (suc p)) ps ∙ split-frontier g (containing g p) (suc p))
+  where
+    go : (t : Bool) → splitAfter g ps .frontier ≡ g .frontier → splitAfter (split g (containing g p) (suc p)) ps .frontier ≡ g .frontier →
+        (elim t as (λ _. Graph) [ true ↦ splitAfter g ps | false ↦ splitAfter (split g (containing g p) (suc p)) ps ]) .frontier ≡ g .frontier
+    go true x y = x
+    go false x y = y
+
 splits-first : (g : Graph) (p : ℕ) (ps : List ℕ) → count (λ p. not (ends g p)) (p ∷ ps) ≡ bit (not (ends g p)) + count (λ p. not (ends g p)) ps
 unfolding count
 splits-first g p ps = refl
@@ -73,7 +84,6 @@ after-ended g p ps e a =
       formed = rw w (a .formed);
       same-len = rw w (a .same-len);
       same-first = rw w (a .same-first);
-      same-frontier = rw w (a .same-frontier);
       more-runs = rw (w, n) (a .more-runs);
       more-entries = rw (w, n) (a .more-entries);
       ends-keep = λ q h. rw w (a .ends-keep q h);
@@ -98,7 +108,6 @@ after-inside g p ps f h r e a =
       formed = rw w (a .formed);
       same-len = rw w (a .same-len ∙ split-len g f c (suc p) h);
       same-first = rw w (a .same-first ∙ split-first g f c (suc p) h);
-      same-frontier = rw w (a .same-frontier ∙ split-frontier g c (suc p));
       more-runs = rw w (omega (arith, a .more-runs, split-runs g c (suc p), same, n));
       more-entries = rw w (omega (arith, a .more-entries, split-entries g c (suc p), same, n));
       ends-keep = λ q k. rw w (a .ends-keep q (split-ends-keep g c (suc p) q k));
@@ -115,34 +124,41 @@ none-after g f = record {
   formed = f;
   same-len = refl;
   same-first = refl;
-  same-frontier = refl;
   more-runs = omega arith;
   more-entries = omega arith;
   ends-keep = λ q h. h;
   all-end = λ q m. false-true m;
 }
 
+-- The first of rising held events, where it ends no run: its end lies inside its run, and the split there leaves the others as they are
+module _ (g : Graph) (f : WellFormed g) (p : ℕ) (ps : List ℕ) (i : Inside g (p ∷ ps)) where
+  pub rest-inside : Inside g ps
+  rest-inside = (rising-tail p ps (i .0), λ q m. i .1 q (mem-rest p q ps m))
+
+  first-run : containing g p < runs g
+  first-run = containing-in g f p (i .1 p (mem-first p ps) .0) (i .1 p (mem-first p ps) .1) .0
+
+  pub first-inside : ends g p ≡ false → (containing g p < runs g) × (start g (containing g p) < suc p) × (suc p < start g (suc (containing g p)))
+  first-inside e =
+      let h : (firstHeld g ≤ p) × (p < len g) = i .1 p (mem-first p ps) in
+      let c = containing-in g f p (h .0) (h .1) in
+      (c .0, omega (arith, c .1), ends-inside g f p (h .0) (h .1) e)
+
+  pub first-formed : ends g p ≡ false → WellFormed (split g (containing g p) (suc p))
+  first-formed e =
+      let w = first-inside e in
+      split-formed g f (containing g p) (suc p) (w .0) (w .1) (w .2)
+
+  pub rest-after : Inside (split g (containing g p) (suc p)) ps
+  rest-after = rw (split-len g f (containing g p) (suc p) first-run, split-first g f (containing g p) (suc p) first-run) rest-inside
+
 -- The splits after rising held events
 pub split-all-formed : (g : Graph) → WellFormed g → (ps : List ℕ) → Inside g ps → SplitAll g ps
 split-all-formed g f [] i = none-after g f
 split-all-formed g f (p ∷ ps) i =
-    go (ends g p) refl (split-all-formed g f ps rest) (λ e. split-all-formed (split g (containing g p) (suc p)) (next e) ps (rest-of e))
+    go (ends g p) refl (split-all-formed g f ps (rest-inside g f p ps i))
+    (λ e. split-all-formed (split g (containing g p) (suc p)) (first-formed g f p ps i e) ps (rest-after g f p ps i))
   where
-    here : (firstHeld g ≤ p) × (p < len g)
-    here = i .1 p (mem-first p ps)
-
-    at : (containing g p < runs g) × (start g (containing g p) ≤ p) × (p < start g (suc (containing g p)))
-    at = containing-in g f p (here .0) (here .1)
-
-    rest : Inside g ps
-    rest = (rising-tail p ps (i .0), λ q m. i .1 q (mem-rest p q ps m))
-
-    next : ends g p ≡ false → WellFormed (split g (containing g p) (suc p))
-    next e = split-formed g f (containing g p) (suc p) (at .0) (omega (arith, at .1)) (ends-inside g f p (here .0) (here .1) e)
-
-    rest-of : ends g p ≡ false → Inside (split g (containing g p) (suc p)) ps
-    rest-of e = rw (split-len g f (containing g p) (suc p) (at .0), split-first g f (containing g p) (suc p) (at .0)) rest
-
     go : (t : Bool) → ends g p ≡ t → SplitAll g ps → (ends g p ≡ false → SplitAll (split g (containing g p) (suc p)) ps) → SplitAll g (p ∷ ps)
     go true e a b = after-ended g p ps e a
-    go false e a b = after-inside g p ps f (at .0) (i .0) e (b e)
+    go false e a b = after-inside g p ps f (first-inside g f p ps i e .0) (i .0) e (b e)

@@ -10,14 +10,16 @@ use lib.Dec.{leb, eqb}
 use borrow.Author.Tests.{leb-true, lt-ltb, le-ltb, le-leb, ne-eqb}
 use Rattle.lists.specs.Lists.{sum, insertAt, mem, rising, below}
 use Rattle.lists.proofs.Truth.{lt-or-le, and-left, and-right, and-both}
-use Rattle.lists.proofs.Members.{map-mem, mem-one}
+use Rattle.lists.proofs.Members.{mem-one, map-mem}
+use Rattle.lists.proofs.Rising.{rising-map}
+use Rattle.lists.proofs.Bounds.{below-of, below-at}
 use Rattle.lists.proofs.Inserts.{insert-length, insert-before, insert-after, insert-sum, insert-new, insert-other, insert-keeps, insert-rising}
-use Rattle.lists.proofs.Ordered.{rising-map, below-of, below-at}
 use Rattle.model.specs.Graph.{Graph, runs, start, firstHeld, len, entries}
 use Rattle.model.specs.Broken.{WellFormed, parentsFit, frontierFits, seenFits}
 use Rattle.model.specs.Split.{renumber, split, ends}
+use Rattle.model.proofs.FormedReads.{parents-row, parents-first}
 
--- Numbers above the split run move up one, the others stay
+-- Runs from the split one on move up one, the others stay
 pub renumber-below : (r p : ℕ) → p < r → renumber r p ≡ p
 unfolding renumber
 renumber-below r p h = rw (lt-ltb p r h)
@@ -63,19 +65,6 @@ renumber-up r k ps b = below-of (suc k) (map (renumber r) ps) one
     one y m =
         let w : (x : ℕ) × (mem x ps ≡ true) × (y ≡ renumber r x) = map-mem (renumber r) y ps m in
         omega (arith, w .2, renumber-le r (w .0), below-at k ps b (w .0) (w .1))
-
--- A run's parents before those of the later runs
-pub parents-row : (k : ℕ) (ps : List ℕ) (pss : List (List ℕ)) → rising ps ≡ true → below k ps ≡ true → parentsFit (suc k) pss ≡ true →
-    parentsFit k (ps ∷ pss) ≡ true
-unfolding parentsFit
-parents-row k ps pss a b e = and-both (rising ps && below k ps) (parentsFit (suc k) pss) (and-both (rising ps) (below k ps) a b) e
-
-pub parents-first : (k : ℕ) (ps : List ℕ) (pss : List (List ℕ)) → parentsFit k (ps ∷ pss) ≡ true →
-    (rising ps ≡ true) × (below k ps ≡ true) × (parentsFit (suc k) pss ≡ true)
-unfolding parentsFit
-parents-first k ps pss e =
-    let q : rising ps && below k ps ≡ true = and-left (rising ps && below k ps) (parentsFit (suc k) pss) e in
-    (and-left (rising ps) (below k ps) q, and-right (rising ps) (below k ps) q, and-right (rising ps && below k ps) (parentsFit (suc k) pss) e)
 
 parents-up : (r k : ℕ) (pss : List (List ℕ)) → parentsFit k pss ≡ true → parentsFit (suc k) (map (map (renumber r)) pss) ≡ true
 parents-up r k [] e = unfold parentsFit in refl
@@ -144,7 +133,7 @@ frontier-runs : (n m l : ℕ) (f : List ℕ) → 0 < n → 0 < m → frontierFit
 unfolding frontierFits
 frontier-runs n m l f h k = rw (ne-eqb n 0 (λ z. omega arith), ne-eqb m 0 (λ z. omega arith))
 
--- One run, one entry more, the same frontier
+-- One run more, one entry more, the same frontier
 pub split-runs : (g : Graph) (r at : ℕ) → runs (split g r at) ≡ suc (runs g)
 unfolding runs split
 split-runs g r at = insert-length (suc r) (r ∷ []) (map (map (renumber r)) (g .parents)) ∙ ap suc (length-map (g .parents) (map (renumber r)))
@@ -163,11 +152,8 @@ pub split-frontier : (g : Graph) (r at : ℕ) → split g r at .frontier ≡ g .
 unfolding split
 split-frontier g r at = refl
 
-pub split-sizes : (g : Graph) (r at : ℕ) → r ≤ runs g →
-    (runs (split g r at) ≡ suc (runs g)) × (entries (split g r at) ≡ suc (entries g)) × (split g r at .frontier ≡ g .frontier)
-split-sizes g r at h = (split-runs g r at, split-entries g r at, split-frontier g r at)
-
 module _ (g : Graph) (formed : WellFormed g) (r at : ℕ) (inside : r < runs g) where
+  -- The events stay
   pub split-len : len (split g r at) ≡ len g
   unfolding len start split
   split-len = rw (split-runs g r at) (insert-after (suc r) (runs g) at 0 (g .starts) inside (omega (arith, formed .starts-count)))

@@ -1,17 +1,14 @@
--- After every list of calls from a fresh start the record is held and its graph tied to the plain log; so are the facts beside
--- demand 3. Assumes nothing.
+-- After every list of calls from a fresh start the record is held, its graph tied to the plain log, and no run below `changed_from`
+-- differs. Assumes nothing.
 use mathlib.Core.Path.{_≡_, refl, sym, ap, _∙_, subst}
 use mathlib.Core.Bool.{true}
 use mathlib.Core.List.{List, [], _∷_, _++_, append-assoc}
-use Prim.Native.Nat.{ℕ, suc, _<_, _≤_}
+use Prim.Native.Nat.{ℕ}
 use native.Mathlib.Omega.{arith}
-use lib.Dec.{ltb}
-use borrow.Author.Tests.{ltb-true}
-use Rattle.lists.specs.Lists.{below}
-use Rattle.lists.proofs.Members.{all-at}
+use Rattle.lists.proofs.Bounds.{below-at}
 use Rattle.model.specs.declared.record.CausalGraph.{CausalGraph}
 use Rattle.model.specs.declared.answers.Outcome.the-variants.{Done}
-use Rattle.model.specs.Graph.{Graph, runs, start, firstHeld, containing, held}
+use Rattle.model.specs.Graph.{Graph, start, firstHeld, containing, held}
 use Rattle.model.specs.Record.{view}
 use Rattle.model.specs.Broken.{WellFormed, Limits}
 use Rattle.model.specs.Fresh.{fresh, afterOutcome}
@@ -20,17 +17,15 @@ use Rattle.model.specs.Push.{push, pushOutcome}
 use Rattle.model.specs.Start.{answers, splitting, starting, splitOutcome, taken}
 use Rattle.model.specs.Log.{Fresh, Call, takeChangedFrom, Log, begin, emptyLog, beginLog, logPush, logStart, afterCalls, madeBy}
 use Rattle.model.specs.Claim.{takeless, Unchanged}
-use Rattle.model.proofs.Begins.{after-passed, fresh-formed, fresh-limits}
-use Rattle.model.proofs.FormedReads.{containing-in}
-use Rattle.model.proofs.FormedSplits.{split-formed, split-first}
-use Rattle.model.proofs.FormedSplitAll.{split-all-formed}
-use Rattle.model.proofs.FormedPush.{accepted, held-inside, push-formed, push-limits, pushed-first}
-use Rattle.model.proofs.FormedCalls.{starting-inside, start-formed, start-limits, taken-formed, taken-limits}
-use Rattle.model.proofs.Tied.{low, high}
+use Rattle.model.proofs.Begins.{fresh-formed, fresh-limits, after-passed}
+use Rattle.model.proofs.FormedSplits.{split-first}
+use Rattle.model.proofs.FormedPush.{accepted, pushed-splits, push-formed, push-limits, pushed-first}
+use Rattle.model.proofs.FormedCalls.{start-inside, start-formed, start-limits, taken-formed, taken-limits}
+use Rattle.model.proofs.Runs.{first-next}
 use Rattle.model.proofs.Seen.{Inv}
-use Rattle.model.proofs.Keeping.{len-is, first-is, fresh-inv, push-inv, start-split, start-told, taken-inv}
+use Rattle.model.proofs.Keeping.{len-is, first-is, fresh-inv, taken-inv, push-inv, start-split, start-told}
+use Rattle.model.proofs.Takes.{Since, split-zero, push-zero, since-split, since-push}
 use Rattle.model.proofs.Fronts.{Childless, fresh-childless, edge-childless, split-childless, push-childless}
-use Rattle.model.proofs.Takes.{Since, since-split, since-push, split-zero, push-zero}
 use Rattle.model.proofs.Calls.{Keeps, Kept, calls-keep, takeless-keep, begin-keeps, calls-append}
 
 -- What every list of calls keeps
@@ -46,32 +41,20 @@ good-fresh events frontier e =
     record {
       formed = fresh-formed events frontier (p .0) (p .1);
       limits = fresh-limits events frontier (p .2);
-      inv = fresh-inv events frontier (λ q m. ltb-true q events (unfold below in (all-at (λ x. ltb x events) frontier (p .1) q m)));
+      inv = fresh-inv events frontier (below-at events frontier (p .1));
       front = fresh-childless events frontier (p .1);
     }
 
 good-push : (g : Graph) (l : Log) → Good g l → (ps : List ℕ) (n : ℕ) → pushOutcome g ps n ≡ Done → Good (push g ps n) (logPush l ps n)
 good-push g l G ps n e =
     let a = accepted g ps n e in
-    let s = split-all-formed g (G .formed) (held g ps) (held-inside g ps (a .rises) (a .known)) in
     record {
       formed = push-formed g (G .formed) ps n e;
       limits = push-limits g (G .formed) (G .limits) ps n e;
       inv = push-inv g l (G .inv) ps n e;
-      front = push-childless g l ps n (first-is g l (G .inv)) (len-is g l (G .inv)) (omega (arith, low g l (G .inv .tied) 0, high g l (G .inv .tied) 0))
-          (pushed-first g (G .formed) ps n e) (s .same-len) (a .some) (a .known) (G .inv .lower) (G .front);
+      front = push-childless g l ps n (first-is g l (G .inv)) (len-is g l (G .inv)) (first-next l (G .inv .tied .edged))
+          (pushed-first g (G .formed) ps n e) (pushed-splits g (G .formed) ps n a .same-len) (a .some) (a .known) (G .inv .lower) (G .front);
     }
-
--- A run start that splits does so inside a run
-start-inside : (g : Graph) → WellFormed g → (at : ℕ) → starting g at ≡ splitting →
-    (containing g at < runs g) × (start g (containing g at) < at) × (at < start g (suc (containing g at)))
-start-inside g formed at e =
-    let i = starting-inside g at e in
-    let c = containing-in g formed at (omega (arith, i .0)) (i .1) in
-    (c .0, less (start g (containing g at)) at (c .1) (i .2), c .2)
-  where
-    less : (x y : ℕ) → x ≤ y → (x ≡ y → ⊥) → x < y
-    less x y p q = omega arith
 
 good-split : (g : Graph) (l : Log) → Good g l → (at : ℕ) → starting g at ≡ splitting → splitOutcome g ≡ Done → Good (split g (containing g at) at) (logStart l at)
 good-split g l G at e q = record {
@@ -94,7 +77,7 @@ good-taken g l G = record { formed = taken-formed g (G .formed); limits = taken-
 keeps-good : Keeps Good
 keeps-good = record { formed = λ g l G. G .formed; limits = λ g l G. G .limits; pushes = good-push; splits = good-split; tells = good-told }
 
--- After every list of calls
+-- The record is held after every list of calls, and its graph is all that calls keep
 pub made-good : (f : Fresh) (cs : List Call) → Kept Good ((madeBy f cs) .0) ((madeBy f cs) .1)
 unfolding madeBy
 made-good f cs = calls-keep Good keeps-good good-taken cs ((begin f) .1) (beginLog f ((begin f) .0)) (begin-keeps Good keeps-good good-fresh f)
@@ -104,7 +87,7 @@ since-keeps : (a : Graph) → Keeps (λ g l. Good g l × Since a g)
 since-keeps a = record {
   formed = λ g l G. G .0 .formed;
   limits = λ g l G. G .0 .limits;
-  pushes = λ g l G ps n e. (good-push g l (G .0) ps n e, since-push (λ h r at w. split-formed h w r at) a g ps n (G .0 .formed) e (G .1));
+  pushes = λ g l G ps n e. (good-push g l (G .0) ps n e, since-push a g ps n (G .0 .formed) e (G .1));
   splits = λ g l G at e q.
       let i = start-inside g (G .0 .formed) at e in
       (good-split g l (G .0) at e q, since-split a g (containing g at) at (G .0 .formed) (i .0) (i .1) (i .2) (G .1));
@@ -129,7 +112,7 @@ made-append : (f : Fresh) (cs ds : List Call) → madeBy f (cs ++ ds) ≡ afterC
 unfolding madeBy
 made-append f cs ds = calls-append cs ds ((begin f) .1) (beginLog f ((begin f) .0))
 
--- Since the fresh graph
+-- Until the first take no run below `changed_from` differs from the fresh graph
 pub since-fresh : (f : Fresh) (ds : List Call) → takeless ds → Unchanged ((madeBy f []) .0) ((madeBy f ds) .0)
 unfolding madeBy Unchanged view
 since-fresh f ds h r lt =
@@ -137,7 +120,7 @@ since-fresh f ds h r lt =
     (begin-keeps (λ g l. Good g l × (g .changed ≡ 0)) zero-keeps (λ events frontier e. (good-fresh events frontier e, zero-fresh events frontier)) f) in
     absurd (omega (arith, z .fact .1))
 
--- Since a take
+-- and after a take none from what it left
 pub since-take : (f : Fresh) (cs ds : List Call) → takeless ds →
     Unchanged ((madeBy f (cs ++ takeChangedFrom ∷ [])) .0) ((madeBy f (cs ++ takeChangedFrom ∷ ds)) .0)
 unfolding Unchanged view

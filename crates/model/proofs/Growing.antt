@@ -3,15 +3,13 @@ use mathlib.Core.Path.{_≡_, refl, sym, ap, _∙_, subst}
 use mathlib.Core.Logic.{_⊎_, inl, inr}
 use mathlib.Core.Bool.{true, false}
 use mathlib.Core.List.{List, [], _∷_, _++_, map}
-use Prim.Native.Nat.{ℕ, zero, suc, _+_, _-_, _≤_, _<_}
+use Prim.Native.Nat.{ℕ, suc, _+_, _-_, _≤_, _<_}
 use native.Mathlib.Omega.{arith}
-use lib.ListN.{length, getD, take}
+use lib.ListN.{length, take}
 use lib.Seq.{take-at}
-use lib.Dec.{eqb}
-use borrow.Author.Tests.{eq-eqb}
 use Rattle.lists.specs.Lists.{mem}
-use Rattle.lists.proofs.Truth.{lt-or-le, eq-or-not, or-right}
-use Rattle.lists.proofs.Members.{mem-one}
+use Rattle.lists.proofs.Truth.{lt-or-le, eq-or-not, lt-of-ne}
+use Rattle.lists.proofs.Members.{mem-one, getD-any, map-same}
 use Rattle.lists.proofs.Rising.{up-more}
 use Rattle.model.specs.EventGraph.{ancestor}
 use Rattle.model.specs.Graph.{Graph, runs, len}
@@ -19,15 +17,9 @@ use Rattle.model.specs.History.{at}
 use Rattle.model.specs.Push.{grown}
 use Rattle.model.specs.Log.{Log, runStart, heldOf}
 use Rattle.model.proofs.Exact.{ancestors}
-use Rattle.model.proofs.Tied.{Tied, lastOf, high, step}
+use Rattle.model.proofs.Tied.{lastOf, Tied, high, step}
 use Rattle.model.proofs.Seen.{Seen, Inv, len-tied}
-use Rattle.model.proofs.Adding.{added, added-lower, added-front, old-parents, own-parents, later-parents, old-reaches}
-
--- What a list holds at a place of its own, whatever stands in past its end
-getD-any : (xs : List ℕ) (i d k : ℕ) → i < length xs → getD xs i d ≡ getD xs i k
-getD-any [] i d k lt = absurd (omega arith)
-getD-any (x ∷ xs) zero d k lt = refl
-getD-any (x ∷ xs) (suc i) d k lt = getD-any xs i d k (omega arith)
+use Rattle.model.proofs.Adding.{added, old-parents, own-parents, later-parents, added-lower, old-reaches, added-front}
 
 module _ (g : Graph) (l : Log) (v : Inv g l) (ps : List ℕ) (n : ℕ) (pos : 0 < n) (some : 0 < length (l .edges)) (one : ps ≡ (l .next - 1) ∷ []) where
   abbrev t : Tied g l
@@ -53,23 +45,17 @@ module _ (g : Graph) (l : Log) (v : Inv g l) (ps : List ℕ) (n : ℕ) (pos : 0 
   new-parents e p q = go (eq-or-not e (l .next))
     where
       go : (e ≡ l .next) ⊎ (e ≡ l .next → ⊥) → l₂ .parents e ≡ (e - 1) ∷ []
-      go (inl z) = subst (λ (k : ℕ). l₂ .parents k ≡ (k - 1) ∷ []) (sym z) (own-parents l ps n (l .edges) ∙ one)
-      go (inr z) = later-parents l ps n (l .edges) e (above z) q
-        where
-          above : (e ≡ l .next → ⊥) → l .next < e
-          above z = omega arith
+      go (inl z) = own-parents l ps n (l .edges) e z ∙ one ∙ ap (λ k. (k - 1) ∷ []) (sym z)
+      go (inr z) = later-parents l ps n (l .edges) e (lt-of-ne (l .next) e p (λ x. z (sym x))) q
 
   lasts-old : (qs : List ℕ) → ((p : ℕ) → mem p qs ≡ true → suc p < c) → map (lastOf l₂) qs ≡ map (lastOf l) qs
-  unfolding mem
-  lasts-old [] h = refl
-  lasts-old (q ∷ qs) h =
-      let e : lastOf l₂ q ≡ lastOf l q = ap (λ k. k - 1) (old-start (suc q) (h q (rw (eq-eqb q q refl)))) in
-      rw (e, lasts-old qs (λ p m. h p (or-right (eqb p q) m)))
+  lasts-old qs h = map-same (lastOf l₂) (lastOf l) qs (λ p m. ap (λ k. k - 1) (old-start (suc p) (h p m)))
 
   starts-are : take (runs g) (g .starts) ++ (len g + n) ∷ [] ≡ l .edges ++ (l .next + n) ∷ []
   unfolding runs
   starts-are = rw (len-tied g l t, t .rows, t .starts, take-at (l .edges) (l .next ∷ []) c refl)
 
+  -- The graph stays tied
   grown-tied : Tied (grown g ps n) l₂
   unfolding grown heldOf
   grown-tied = record {
@@ -86,6 +72,7 @@ module _ (g : Graph) (l : Log) (v : Inv g l) (ps : List ℕ) (n : ℕ) (pos : 0 
       inner e p q m (inl a) = old-parents l ps n (l .edges) e a ∙ t .inside e p a m
       inner e p q m (inr a) = new-parents e a q
 
+  -- and its seen lengths sound
   grown-seen : Seen (grown g ps n) l₂
   unfolding grown ancestors ancestor
   grown-seen = record {
@@ -96,11 +83,11 @@ module _ (g : Graph) (l : Log) (v : Inv g l) (ps : List ℕ) (n : ℕ) (pos : 0 
         v .seen .sound x e lt h q);
   }
 
-  -- The last run grows by n events
+  -- and so all is kept where the last run grows by n events
   pub grown-inv : Inv (grown g ps n) l₂
   grown-inv = record {
     tied = grown-tied;
     seen = grown-seen;
     front = added-front g l v ps n pos known (l .edges) (grown g ps n) (unfold grown in refl);
-    lower = added-lower g l v ps n pos known (l .edges);
+    lower = added-lower l ps n (l .edges) (v .lower) known pos;
   }

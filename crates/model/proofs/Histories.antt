@@ -11,7 +11,8 @@ use lib.Dec.{leb, eqb}
 use borrow.Author.Tests.{leb-true, eqb-true, le-leb, eq-eqb}
 use Rattle.lists.specs.Lists.{any, filter, from, upto, mem}
 use Rattle.lists.proofs.Truth.{lt-or-le, false-true, or-cases, or-left, or-right}
-use Rattle.lists.proofs.Members.{any-intro, any-elim, any-same, mem-filter, filter-mem, mem-map, map-mem, mem-from, upto-mem}
+use Rattle.lists.proofs.Members.{mem-filter, filter-mem, mem-map, map-mem, any-intro, any-elim, any-same}
+use Rattle.lists.proofs.Counts.{mem-from, upto-mem}
 use Rattle.model.specs.EventGraph.{HappenedBefore, parent, further}
 use Rattle.model.specs.Graph.{Graph}
 use Rattle.model.specs.History.{at, runGraph, reached, historiesFrom, histories}
@@ -26,10 +27,11 @@ Below pss = (r p : ℕ) → mem p (at pss r) ≡ true → p < r
 abbrev pub Reach : List (List ℕ) → ℕ → ℕ → Type 0
 Reach pss m r = HappenedBefore (runGraph pss) m r
 
+-- A run's ancestors are below it
 pub reach-below : (pss : List (List ℕ)) {m r : ℕ} → Below pss → Reach pss m r → m < r
 reach-below pss b h = before-lower (runGraph pss) b h
 
--- the next run's history
+-- The next run's history
 abbrev next : List (List ℕ) → List ℕ → List ℕ
 next hs ps = filter (reached hs ps) (upto (length hs))
 
@@ -39,6 +41,7 @@ history-keeps hs [] i lt = refl
 history-keeps hs (ps ∷ pss) i lt =
     history-keeps (hs ++ next hs ps ∷ []) pss i (omega (arith, length-append hs (next hs ps ∷ []))) ∙ List·getD-append hs (next hs ps ∷ []) [] i lt
 
+-- Each run has a history
 pub histories-length : (hs pss : List (List ℕ)) → length (historiesFrom hs pss) ≡ length hs + length pss
 unfolding historiesFrom
 histories-length hs [] = omega arith
@@ -74,6 +77,7 @@ module _ (pss : List (List ℕ)) (b : Below pss) where
   unfolding histories
   here i lt = history-at [] pss (λ j p q. omega (arith, b j p q)) i i lt (omega arith)
 
+  -- A run's history is below it
   pub history-below : (m i : ℕ) → i < length pss → mem m (at H i) ≡ true → m < i
   unfolding upto
   history-below m i lt h = omega (arith, mem-from m 0 i (mem-filter (reached H (at pss i)) m (from 0 i) (rw (here i lt) at h) .0) .1)
@@ -113,6 +117,7 @@ module _ (g : Graph) (a n : ℕ) (fits : a + n ≤ length (g .parents)) where
   abbrev inside : List ℕ → List ℕ
   inside ps = map (λ p. p - a) (filter (λ p. leb a p) ps)
 
+  -- as many as the range spans
   pub parents-length : length (parentsIn g a (a + n)) ≡ n
   unfolding parentsIn
   parents-length =
@@ -140,6 +145,7 @@ module _ (g : Graph) (a n : ℕ) (fits : a + n ≤ length (g .parents)) where
       (mem-map (λ p. p - a) (a + m) (filter (λ p. leb a p) (at (g .parents) (a + r)))
       (filter-mem (λ p. leb a p) (a + m) (at (g .parents) (a + r)) h (le-leb a (a + m) (omega arith)))))
 
+  -- and below their runs
   pub parents-below : Below (g .parents) → Below (parentsIn g a (a + n))
   unfolding at
   parents-below b r m h = go (lt-or-le r n)

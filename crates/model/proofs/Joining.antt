@@ -3,22 +3,23 @@ use mathlib.Core.Path.{_≡_, refl, sym, ap, _∙_, subst}
 use mathlib.Core.Logic.{_⊎_, inl, inr}
 use mathlib.Core.Bool.{true, false, _||_}
 use mathlib.Core.List.{List, [], _∷_, _++_, map}
-use Prim.Native.Nat.{ℕ, zero, suc, _+_, _-_, _≤_, _<_}
+use Prim.Native.Nat.{ℕ, suc, _+_, _-_, _≤_, _<_}
 use native.Mathlib.Omega.{arith}
 use lib.ListN.{length, getD, length-append, List·getD-append, List·getD-eq-default}
 use lib.Seq.{getD-append-seam}
 use lib.Dec.{leb, ltb, eqb}
 use borrow.Author.Tests.{ltb-false, leb-true, leb-false, le-ltb, lt-leb, eq-eqb}
 use Rattle.lists.specs.Lists.{filter, mem, count}
-use Rattle.lists.proofs.Truth.{lt-or-le, eq-or-not, false-true, or-right, or-first, or-last}
-use Rattle.lists.proofs.Members.{mem-append, mem-filter, map-mem, mem-index}
-use Rattle.lists.proofs.Rising.{up-count, count-below, up-append}
+use Rattle.lists.proofs.Truth.{lt-or-le, eq-or-not, lt-of-ne, lt-eq-gt, false-true, or-right, or-first, or-last}
+use Rattle.lists.proofs.Members.{mem-append, mem-index, getD-snoc, mem-filter, map-mem, map-same}
+use Rattle.lists.proofs.Counts.{count-le}
+use Rattle.lists.proofs.Rising.{up-append, up-count}
 use Rattle.model.specs.Graph.{Graph, containing, held}
 use Rattle.model.specs.History.{at}
 use Rattle.model.specs.Push.{parentRuns, joined}
 use Rattle.model.specs.Log.{Log, runStart, heldOf}
 use Rattle.model.proofs.Histories.{Below}
-use Rattle.model.proofs.Tied.{Tied, lastOf, high, mono, step}
+use Rattle.model.proofs.Tied.{lastOf, Tied, high, step, mono}
 use Rattle.model.proofs.Seen.{len-tied, held-tied, containing-is}
 use Rattle.model.proofs.Adding.{added, old-parents, own-parents, later-parents}
 
@@ -34,15 +35,10 @@ module _ (g : Graph) (l : Log) (t : Tied g l) (ps : List ℕ) (n : ℕ) (pos : 0
   abbrev c : ℕ
   c = length (l .edges)
 
+  -- The runs before start where they did, and the new one at the next event
   pub old-start : (x : ℕ) → x ≤ c → runStart l₂ x ≡ runStart l x
   unfolding runStart
-  old-start x le = go (l .edges) x le
-    where
-      go : (xs : List ℕ) (x : ℕ) → x ≤ length xs → getD (xs ++ l .next ∷ []) x (l .next + n) ≡ getD xs x (l .next)
-      go [] zero q = refl
-      go [] (suc x) q = absurd (omega arith)
-      go (y ∷ ys) zero q = refl
-      go (y ∷ ys) (suc x) q = go ys x (omega arith)
+  old-start x le = getD-snoc (l .edges) (l .next) (l .next + n) x le
 
   pub top-start : runStart l c ≡ l .next
   unfolding runStart
@@ -58,7 +54,7 @@ module _ (g : Graph) (l : Log) (t : Tied g l) (ps : List ℕ) (n : ℕ) (pos : 0
       let r : suc (containing g p) ≡ count (λ s. leb s p) (l .edges) = containing-is g l t p lt le in
       let i : (x : ℕ) × (x < length es₂) × (getD es₂ x (l .next + n) ≡ suc p) =
       mem-index (suc p) (l .next + n) es₂ (ended p m) in
-      (omega (arith, count-below (l .firstHeld) (l .edges) (l .next) p (t .edged .up)), exact (i .0) (omega (arith, i .1, length-append (l .edges) (l .next ∷ []))) (i .2) lt r)
+      (omega (arith, count-le (λ s. leb s p) (l .edges)), exact (i .0) (omega (arith, i .1, length-append (l .edges) (l .next ∷ []))) (i .2) lt r)
     where
       reached : (x : ℕ) → p < l .next → leb (runStart l x) p ≡ ltb x (count (λ s. leb s p) (l .edges))
       reached x lt = unfold runStart in up-count (l .firstHeld) (l .edges) (l .next) (t .edged .up) x p lt
@@ -81,11 +77,7 @@ module _ (g : Graph) (l : Log) (t : Tied g l) (ps : List ℕ) (n : ℕ) (pos : 0
       rw (e, lasts-own qs (λ p m. h p (or-right (eqb p q) m)))
 
   lasts-old : (qs : List ℕ) → ((p : ℕ) → mem p qs ≡ true → p < c) → map (lastOf l₂) qs ≡ map (lastOf l) qs
-  unfolding mem
-  lasts-old [] h = refl
-  lasts-old (q ∷ qs) h =
-      let e : lastOf l₂ q ≡ lastOf l q = ap (λ k. k - 1) (old-start (suc q) (h q (rw (eq-eqb q q refl)))) in
-      rw (e, lasts-old qs (λ p m. h p (or-right (eqb p q) m)))
+  lasts-old qs h = map-same (lastOf l₂) (lastOf l) qs (λ p m. ap (λ k. k - 1) (old-start (suc p) (h p m)))
 
   abbrev parents₂ : List (List ℕ)
   parents₂ = g .parents ++ parentRuns g ps ∷ []
@@ -102,15 +94,6 @@ module _ (g : Graph) (l : Log) (t : Tied g l) (ps : List ℕ) (n : ℕ) (pos : 0
   unfolding at
   parents-none x lt = List·getD-eq-default parents₂ [] (omega (arith, length-append (g .parents) (parentRuns g ps ∷ []), t .rows))
 
-  -- A number is a run before the new one, the new one, or none
-  pub where-run : (x : ℕ) → (x < c) ⊎ ((x ≡ c) ⊎ (c < x))
-  where-run x = go (lt-or-le x c) (eq-or-not x c)
-    where
-      go : (x < c) ⊎ (c ≤ x) → (x ≡ c) ⊎ (x ≡ c → ⊥) → (x < c) ⊎ ((x ≡ c) ⊎ (c < x))
-      go (inl a) b = inl a
-      go (inr a) (inl b) = inr (inl b)
-      go (inr a) (inr b) = inr (inr (omega arith))
-
   own-below : (p : ℕ) → mem p (parentRuns g ps) ≡ true → p < c
   unfolding parentRuns
   own-below p m =
@@ -118,7 +101,7 @@ module _ (g : Graph) (l : Log) (t : Tied g l) (ps : List ℕ) (n : ℕ) (pos : 0
       omega (arith, k .2, (ends-run (k .0) (subst (λ (xs : List ℕ). mem (k .0) xs ≡ true) (held-tied g l t ps) (k .1))) .0)
 
   below₂ : Below parents₂
-  below₂ x p m = go (where-run x)
+  below₂ x p m = go (lt-eq-gt x c)
     where
       go : (x < c) ⊎ ((x ≡ c) ⊎ (c < x)) → p < x
       go (inl a) = t .below x p (rw (parents-old x a) at m)
@@ -127,14 +110,15 @@ module _ (g : Graph) (l : Log) (t : Tied g l) (ps : List ℕ) (n : ℕ) (pos : 0
 
   parents-tied : (x : ℕ) → x < suc c → heldOf l₂ (l₂ .parents (runStart l₂ x)) ≡ map (lastOf l₂) (at parents₂ x)
   unfolding heldOf parentRuns
-  parents-tied x lt = go (where-run x)
+  parents-tied x lt = go (lt-eq-gt x c)
     where
       go : (x < c) ⊎ ((x ≡ c) ⊎ (c < x)) → filter (λ p. leb (l .firstHeld) p) (l₂ .parents (runStart l₂ x)) ≡ map (lastOf l₂) (at parents₂ x)
       go (inl a) = rw (old-start x (omega arith), old-parents l ps n es₂ (runStart l x) (omega (arith, step g l t x a, high g l t (suc x))), parents-old x a)
           (t .parents x a ∙ sym (lasts-old (at (g .parents) x) (λ p m. omega (arith, t .below x p m))))
-      go (inr (inl a)) = rw (a, old-start c (omega arith), top-start, own-parents l ps n es₂, parents-new, held-tied g l t ps) (sym (lasts-own (filter (λ p. leb (l .firstHeld) p) ps) (λ p m. m)))
+      go (inr (inl a)) = rw (a, old-start c (omega arith), top-start, own-parents l ps n es₂ (l .next) refl, parents-new, held-tied g l t ps) (sym (lasts-own (filter (λ p. leb (l .firstHeld) p) ps) (λ p m. m)))
       go (inr (inr a)) = absurd (omega arith)
 
+  -- One edge more
   pub edges-size : length es₂ ≡ suc c
   edges-size = omega (arith, length-append (l .edges) (l .next ∷ []))
 
@@ -158,7 +142,4 @@ module _ (g : Graph) (l : Log) (t : Tied g l) (ps : List ℕ) (n : ℕ) (pos : 0
           go : (e < l .next) ⊎ (l .next ≤ e) → (e ≡ l .next) ⊎ (e ≡ l .next → ⊥) → mem e (l .edges) ≡ false → mem e (l .next ∷ []) ≡ false → l₂ .parents e ≡ (e - 1) ∷ []
           go (inl a) b x y = old-parents l ps n es₂ e a ∙ t .inside e p a x
           go (inr a) (inl b) x y = false-true (sym y ∙ (unfold mem in rw (eq-eqb e (l .next) b)))
-          go (inr a) (inr b) x y = later-parents l ps n es₂ e (above a b) q
-            where
-              above : l .next ≤ e → (e ≡ l .next → ⊥) → l .next < e
-              above a b = omega arith
+          go (inr a) (inr b) x y = later-parents l ps n es₂ e (lt-of-ne (l .next) e a (λ z. b (sym z))) q

@@ -7,10 +7,11 @@ use Prim.Native.Nat.{ℕ, zero, suc, _+_, _-_, _≤_, _<_}
 use native.Mathlib.Omega.{arith}
 use lib.ListN.{length}
 use lib.Dec.{ltb, eqb}
-use borrow.Author.Tests.{ltb-false, lt-ltb, le-ltb, eq-eqb, ne-eqb}
+use borrow.Author.Tests.{ltb-false, lt-ltb, le-ltb, eq-eqb, ne-eqb, not-false}
 use Rattle.lists.specs.Lists.{bit, all, filter, count, from, upto, mem, occurs}
-use Rattle.lists.proofs.Truth.{eq-or-not, false-true, and-left, and-right, or-right}
-use Rattle.lists.proofs.Members.{count-append, occurs-filter, mem-occurs, occurs-upto, mem-from, all-of, all-at, count-without, count-le, from-length}
+use Rattle.lists.proofs.Truth.{eq-or-not, false-true, not-so, and-left, and-right, and-false}
+use Rattle.lists.proofs.Members.{mem-rest, all-of, all-at}
+use Rattle.lists.proofs.Counts.{count-append, mem-occurs, occurs-filter, occurs-upto, mem-from, from-length, count-without, count-le}
 use Rattle.model.specs.EventGraph.{available}
 use Rattle.model.specs.History.{at}
 use Rattle.model.specs.Choice.{Range, passed, isReady, newlyReady}
@@ -24,11 +25,7 @@ module _ (w : Range) (known first n : ℕ) where
   -- A run not due is passed
   not-due : (visited : List ℕ) (x : ℕ) → due visited x ≡ false → passed known visited x ≡ true
   unfolding due
-  not-due visited x h = go (passed known visited x) h
-    where
-      go : (b : Bool) → not b ≡ false → b ≡ true
-      go true e = refl
-      go false e = sym e
+  not-due visited x h = not-false (passed known visited x) h
 
   -- Each parent of x is passed
   abbrev pub parentsPassed : List ℕ → ℕ → Type 0
@@ -60,6 +57,7 @@ module _ (w : Range) (known first n : ℕ) where
       go true t e = refl
       go false t e = e
 
+  -- and the other way: due, each parent passed, and from `first` on the first ones visited
   pub ready-due : (visited : List ℕ) (x : ℕ) → isReady w known first visited x ≡ true → due visited x ≡ true
   unfolding available due
   ready-due visited x h =
@@ -105,6 +103,7 @@ module _ (w : Range) (known first n : ℕ) where
   unfoldable pub left : List ℕ → ℕ
   left visited = count (due visited) (upto n)
 
+  -- No more than there are
   pub left-le : (visited : List ℕ) → left visited ≤ n
   unfolding left upto
   left-le visited = omega (arith, count-le (due visited) (from 0 n), from-length 0 n)
@@ -131,19 +130,12 @@ module _ (w : Range) (known first n : ℕ) where
   -- With none left, none is due
   pub none-left : (visited : List ℕ) → left visited ≤ 0 → (x : ℕ) → x < n → due visited x ≡ false
   unfolding left
-  none-left visited h x lt = go (due visited x) refl
-    where
-      go : (t : Bool) → due visited x ≡ t → due visited x ≡ false
-      go true d = absurd (omega (arith, count-without (due visited) x (upto n) d, occurs-upto x n, ap bit (lt-ltb x n lt)))
-      go false d = d
+  none-left visited h x lt =
+      not-so (due visited x) (λ d. omega (arith, count-without (due visited) x (upto n) d, occurs-upto x n, ap bit (lt-ltb x n lt)))
 
   -- The ready list holds each ready run once
   abbrev pub Listed : List ℕ → List ℕ → Type 0
   Listed visited ready = (x : ℕ) → occurs x ready ≡ bit (ltb x n && isReady w known first visited x)
-
-  mem-later : (x r : ℕ) (visited : List ℕ) → mem x visited ≡ true → mem x (r ∷ visited) ≡ true
-  unfolding mem
-  mem-later x r visited m = or-right (eqb x r) m
 
   passed-later : (x r : ℕ) (visited : List ℕ) → passed known visited x ≡ true → passed known (r ∷ visited) x ≡ true
   unfolding passed mem
@@ -160,22 +152,14 @@ module _ (w : Range) (known first n : ℕ) where
       ready-when (r ∷ visited) x
       (due-next visited r x ∙ rw (ready-due visited x h, ne-eqb x r ne))
       (λ p m. passed-later p r visited (ready-parents visited x h p m))
-      (λ le k m. mem-later k r visited (ready-firsts visited x h le k m))
+      (λ le k m. mem-rest r k visited (ready-firsts visited x h le k m))
 
   -- and the run visited not ready
   pub gone-ready : (visited : List ℕ) (r : ℕ) → isReady w known first (r ∷ visited) r ≡ false
-  gone-ready visited r = go (isReady w known first (r ∷ visited) r) refl
+  gone-ready visited r = not-so (isReady w known first (r ∷ visited) r) (λ e. false-true (sym passes ∙ ready-due (r ∷ visited) r e))
     where
-      and-false : (t : Bool) → t && false ≡ false
-      and-false true = refl
-      and-false false = refl
-
       passes : due (r ∷ visited) r ≡ false
       passes = due-next visited r r ∙ rw (eq-eqb r r refl) (and-false (due visited r))
-
-      go : (t : Bool) → isReady w known first (r ∷ visited) r ≡ t → isReady w known first (r ∷ visited) r ≡ false
-      go true e = false-true (sym passes ∙ ready-due (r ∷ visited) r e)
-      go false e = e
 
   module _ (size : length (w .parents) ≡ n) where
     -- How often a run stands among the newly ready

@@ -2,35 +2,37 @@
 -- Assumes nothing.
 use mathlib.Core.Path.{_≡_, refl, sym, ap, _∙_, subst}
 use mathlib.Core.Logic.{_⊎_, inl, inr}
-use mathlib.Core.Bool.{Bool, true, false, not, _||_}
+use mathlib.Core.Bool.{Bool, true, false}
 use mathlib.Core.List.{List, [], _∷_, _++_, map}
 use Prim.Native.Nat.{ℕ, suc, _-_, _≤_, _<_}
 use native.Mathlib.Omega.{arith}
 use lib.ListN.{length, getD, List·getD-eq-default}
 use lib.Dec.{leb, ltb, eqb}
-use borrow.Author.Tests.{ltb-true, leb-true, leb-false, eqb-true, eqb-false, lt-ltb, le-ltb, le-leb, eq-eqb}
-use Rattle.lists.specs.Lists.{all, mem, count, same, rising, below}
-use Rattle.lists.proofs.Truth.{lt-or-le, false-true, and-left, and-right, or-first, or-last, bool-iff}
-use Rattle.lists.proofs.Members.{mem-filter, mem-index, getD-mem, same-eq, all-at}
-use Rattle.lists.proofs.Rising.{up-count, count-below}
-use Rattle.model.specs.declared.answers.Refusal.the-variants.{NoEvents, NotRising, UnknownEvent}
+use borrow.Author.Tests.{ltb-true, leb-true, eqb-true, lt-ltb, le-ltb, le-leb, eq-eqb, ne-eqb}
+use Rattle.lists.specs.Lists.{mem, count, below}
+use Rattle.lists.proofs.Truth.{lt-or-le, false-true, bool-iff}
+use Rattle.lists.proofs.Members.{mem-index, getD-mem, mem-filter}
+use Rattle.lists.proofs.Counts.{count-le}
+use Rattle.lists.proofs.Rising.{up-count}
+use Rattle.lists.proofs.Bounds.{below-at}
 use Rattle.model.specs.declared.answers.Outcome.the-variants.{Done}
-use Rattle.model.specs.Graph.{Graph, start, runs, len, firstHeld, containing, marked, held, extends}
+use Rattle.model.specs.Graph.{Graph, start, runs, len, firstHeld, containing, held, extends}
 use Rattle.model.specs.History.{at}
 use Rattle.model.specs.Fresh.{fresh}
 use Rattle.model.specs.Split.{split, splitAfter}
 use Rattle.model.specs.Push.{grown, joined, lowered, push, pushOutcome}
-use Rattle.model.specs.Start.{Starting, answers, splitting, alone, starting, taken}
+use Rattle.model.specs.Start.{answers, splitting, starting, taken}
 use Rattle.model.specs.Log.{Log, emptyLog, runStart, heldOf, eventGraph, edge, edgesAt, goesOn, logPush, logStart}
+use Rattle.model.proofs.FormedPush.{accepted, extends-runs, extends-parents}
+use Rattle.model.proofs.FormedCalls.{starting-inside, starting-told}
 use Rattle.model.proofs.Ancestry.{Lower}
-use Rattle.model.proofs.Tied.{Tied, high, mono, step}
+use Rattle.model.proofs.Tied.{Tied, high, step, mono}
 use Rattle.model.proofs.Seen.{Inv, start-is, len-tied, first-tied, held-tied, containing-is, lower-tied}
 use Rattle.model.proofs.Edges.{edge-member, edge-last, edges-in}
 use Rattle.model.proofs.Ending.{split-inv, withEdges, splits-keep}
 use Rattle.model.proofs.Adding.{added}
-use Rattle.model.proofs.Pushing.{joined-inv}
 use Rattle.model.proofs.Growing.{grown-inv}
-use Rattle.model.proofs.Tests.{firstOf-done}
+use Rattle.model.proofs.Pushing.{joined-inv}
 
 -- Graph and log have the same next event
 pub len-is : (g : Graph) (l : Log) → Inv g l → len g ≡ l .next
@@ -44,7 +46,7 @@ first-is g l v = first-tied g l (v .tied)
 pub lower-of : (g : Graph) (l : Log) → Inv g l → Lower (eventGraph l)
 lower-of g l v = lower-tied l (v .lower)
 
--- A fresh graph
+-- A fresh graph is tied to its log
 pub fresh-inv : (f : ℕ) (fr : List ℕ) → ((q : ℕ) → mem q fr ≡ true → q < f) → Inv (fresh f fr) (emptyLog f)
 unfolding fresh emptyLog at mem runStart
 fresh-inv f fr h = record {
@@ -71,7 +73,7 @@ changed-inv g l k v = record {
   lower = v .lower;
 }
 
--- A take of `changed_from`
+-- A take keeps the two tied
 pub taken-inv : (g : Graph) (l : Log) → Inv g l → Inv (taken g) l
 unfolding taken
 taken-inv g l v = changed-inv g l (runs g) v
@@ -79,22 +81,6 @@ taken-inv g l v = changed-inv g l (runs g) v
 lowered-inv : (g h : Graph) (l : Log) → Inv h l → Inv (lowered g h) l
 unfolding lowered
 lowered-inv g h l v = changed-inv h l (lowered g h .changed) v
-
-not-true : (b : Bool) → not b ≡ false → b ≡ true
-not-true true e = refl
-not-true false e = false-true (sym e)
-
--- What an accepted push has passed
-accepted : (g : Graph) (ps : List ℕ) (n : ℕ) → pushOutcome g ps n ≡ Done → (0 < n) × ((p : ℕ) → mem p ps ≡ true → p < len g)
-unfolding pushOutcome below
-accepted g ps n e =
-    let a : (eqb n 0 ≡ false) × _ = firstOf-done (eqb n 0) NoEvents _ e in
-    let b : (not (rising ps) ≡ false) × _ = firstOf-done (not (rising ps)) NotRising _ (a .1) in
-    let c : (not (all (λ x. ltb x (len g)) ps) ≡ false) × _ = firstOf-done (not (all (λ x. ltb x (len g)) ps)) UnknownEvent _ (b .1) in
-    (positive (eqb-false n 0 (a .0)), λ p m. ltb-true p (len g) (all-at (λ x. ltb x (len g)) ps (not-true (all (λ x. ltb x (len g)) ps) (c .0)) p m))
-  where
-    positive : (n ≡ 0 → ⊥) → 0 < n
-    positive z = omega arith
 
 module _ (g : Graph) (l : Log) (v : Inv g l) where
   abbrev t : Tied g l
@@ -116,16 +102,15 @@ module _ (g : Graph) (l : Log) (v : Inv g l) where
   unfolding extends goesOn
   extends-is ps = rw (len-tied g l t, some-runs)
 
-  push-grows : (ps : List ℕ) (n : ℕ) → 0 < n → extends g ps ≡ true → Inv (grown g ps n) (added l ps n (l .edges))
-  unfolding extends goesOn runs
-  push-grows ps n pos x = grown-inv g l v ps n pos
-      (omega (arith, t .rows, ltb-true 0 (length (g .parents)) (and-left (ltb 0 (length (g .parents))) (same ps ((len g - 1) ∷ [])) x)))
-      (same-eq ps ((l .next - 1) ∷ []) (and-right (ltb (l .firstHeld) (l .next)) (same ps ((l .next - 1) ∷ [])) (sym (extends-is ps) ∙ x)))
+  grows-inv : (ps : List ℕ) (n : ℕ) → 0 < n → extends g ps ≡ true → Inv (grown g ps n) (added l ps n (l .edges))
+  unfolding runs
+  grows-inv ps n pos x =
+      grown-inv g l v ps n pos (omega (arith, t .rows, extends-runs g ps x)) (extends-parents g ps x ∙ ap (λ k. (k - 1) ∷ []) (len-tied g l t))
 
-  push-joins : (ps : List ℕ) (n : ℕ) → 0 < n → ((p : ℕ) → mem p ps ≡ true → p < l .next) →
+  joins-inv : (ps : List ℕ) (n : ℕ) → 0 < n → ((p : ℕ) → mem p ps ≡ true → p < l .next) →
       Inv (lowered (splitAfter g (held g ps)) (joined (splitAfter g (held g ps)) ps n)) (added l ps n (edgesAt (map suc (heldOf l ps)) (edge (l .next) (l .edges))))
   unfolding heldOf
-  push-joins ps n pos known =
+  joins-inv ps n pos known =
       let hs : List ℕ = heldOf l ps in
       let K : (es : List ℕ) × Inv (splitAfter g hs) (withEdges l es) × (es ++ l .next ∷ [] ≡ edgesAt (map suc hs) (l .edges ++ l .next ∷ [])) =
       splits-keep hs g l v (λ p m. let q : (mem p ps ≡ true) × (leb (l .firstHeld) p ≡ true) = mem-filter (λ p. leb (l .firstHeld) p) p ps m in
@@ -144,7 +129,7 @@ module _ (g : Graph) (l : Log) (v : Inv g l) where
   unfolding runStart
   starts-at a p q =
       let r : suc (containing g a) ≡ count (λ s. leb s a) (l .edges) = containing-is g l t a q (omega arith) in
-      let lt : containing g a < length (l .edges) = omega (arith, count-below (l .firstHeld) (l .edges) (l .next) a (t .edged .up)) in
+      let lt : containing g a < length (l .edges) = omega (arith, count-le (λ s. leb s a) (l .edges)) in
       bool-iff (eqb (start g (containing g a)) a) (mem a (l .edges)) (forth lt) (back lt r)
     where
       forth : containing g a < length (l .edges) → eqb (start g (containing g a)) a ≡ true → mem a (l .edges) ≡ true
@@ -162,73 +147,36 @@ module _ (g : Graph) (l : Log) (v : Inv g l) where
           (reached (containing g a) ∙ lt-ltb (containing g a) (count (λ s. leb s a) (l .edges)) (omega arith)) in
           eq-eqb (start g (containing g a)) a (omega (arith, start-is g l t (containing g a) (omega arith), mono g l t (i .0) (containing g a) (omega (arith, u)), i .2))
 
-  -- An event that is held, and not the first held
-  inner : (a : ℕ) → leb a (firstHeld g) || leb (len g) a ≡ false → (l .firstHeld < a) × (a < l .next)
-  inner a e = (
-    omega (arith, first-tied g l t, leb-false a (firstHeld g) (or-first (leb a (firstHeld g)) (leb (len g) a) e)),
-    omega (arith, len-tied g l t, leb-false (len g) a (or-last (leb a (firstHeld g)) (leb (len g) a) e)),
-  )
-
--- An accepted push
+-- So does an accepted push
 pub push-inv : (g : Graph) (l : Log) → Inv g l → (ps : List ℕ) (n : ℕ) → pushOutcome g ps n ≡ Done → Inv (push g ps n) (logPush l ps n)
 unfolding push logPush
 push-inv g l v ps n e =
-    let a : (0 < n) × ((p : ℕ) → mem p ps ≡ true → p < len g) = accepted g ps n e in
-    go (extends g ps) refl (goesOn l ps) refl (a .0) (λ p m. omega (arith, (a .1) p m, len-is g l v))
+    let a = accepted g ps n e in
+    go (extends g ps) refl (goesOn l ps) refl (a .some) (λ p m. omega (arith, below-at (len g) ps (a .known) p m, len-is g l v))
   where
     go : (x : Bool) → extends g ps ≡ x → (y : Bool) → goesOn l ps ≡ y → 0 < n → ((p : ℕ) → mem p ps ≡ true → p < l .next) →
         Inv (elim x as (λ _. Graph) [ true ↦ grown g ps n | false ↦ lowered (splitAfter g (held g ps)) (joined (splitAfter g (held g ps)) ps n) ])
         (added l ps n (elim y as (λ _. List ℕ) [ true ↦ l .edges | false ↦ edgesAt (map suc (heldOf l ps)) (edge (l .next) (l .edges)) ]))
     go true x false y pos k = false-true (sym y ∙ (sym (extends-is g l v ps) ∙ x))
     go false x true y pos k = false-true (sym x ∙ (extends-is g l v ps ∙ y))
-    go true x true y pos k = push-grows g l v ps n pos x
-    go false x false y pos k = push-joins g l v ps n pos k
+    go true x true y pos k = grows-inv g l v ps n pos x
+    go false x false y pos k = joins-inv g l v ps n pos k
 
--- Run starts that split, and run starts told true
-abbrev Splits : Starting → Type 0
-Splits (answers b) = ⊥
-Splits splitting = Unit {0}
-
-abbrev Tells : Starting → Type 0
-Tells (answers true) = Unit {0}
-Tells (answers false) = ⊥
-Tells splitting = ⊥
-
--- The tests of a run start
-started : (w x y m : Bool) → Starting
-started w x y m = elim w as (λ _. Starting) [
-  | true ↦ answers false
-  | false ↦ elim x as (λ _. Starting) [ true ↦ answers m | false ↦ elim y as (λ _. Starting) [ true ↦ answers false | false ↦ splitting ] ]
-]
-
-split-tests : (w x y m : Bool) → started w x y m ≡ splitting → (w ≡ false) × (x ≡ false)
-unfolding started
-split-tests true x y m e = absurd (subst Splits (sym e) tt)
-split-tests false true y m e = absurd (subst Splits (sym e) tt)
-split-tests false false y m e = (refl, refl)
-
-told-tests : (w x y m : Bool) → started w x y m ≡ answers true → (w ≡ false) × (x ≡ true)
-unfolding started
-told-tests true x y m e = absurd (subst Tells (sym e) tt)
-told-tests false true y m e = (refl, refl)
-told-tests false false true m e = absurd (subst Tells (sym e) tt)
-told-tests false false false m e = absurd (subst Tells (sym e) tt)
-
--- A run start that splits a run
+-- So does a run start that splits a run
 pub start-split : (g : Graph) (l : Log) → Inv g l → (at : ℕ) → starting g at ≡ splitting → Inv (split g (containing g at) at) (logStart l at)
-unfolding starting started
 start-split g l v a e =
-    let k : (leb a (firstHeld g) || leb (len g) a ≡ false) × (eqb (start g (containing g a)) a ≡ false) =
-    split-tests (leb a (firstHeld g) || leb (len g) a) (eqb (start g (containing g a)) a) (alone g (containing g a)) (not (marked g (containing g a))) e in
-    let i : (l .firstHeld < a) × (a < l .next) = inner g l v a (k .0) in
-    split-inv g l v a (containing g a) (i .0) (i .1) (sym (starts-at g l v a (i .0) (i .1)) ∙ k .1) (containing-is g l (v .tied) a (i .1) (omega (arith, i .0)))
+    let w = starting-inside g a e in
+    let lo : l .firstHeld < a = omega (arith, first-tied g l (v .tied), w .0) in
+    let hi : a < l .next = omega (arith, len-tied g l (v .tied), w .1) in
+    split-inv g l v a (containing g a) lo hi (sym (starts-at g l v a lo hi) ∙ ne-eqb (start g (containing g a)) a (w .2))
+    (containing-is g l (v .tied) a hi (omega arith))
 
--- A run start told true at a run's start: the event is an edge already
+-- and one told true at a run's start: the event is an edge already
 pub start-told : (g : Graph) (l : Log) → Inv g l → (at : ℕ) → starting g at ≡ answers true → Inv g (logStart l at)
-unfolding starting started logStart
+unfolding logStart
 start-told g l v a e =
-    let k : (leb a (firstHeld g) || leb (len g) a ≡ false) × (eqb (start g (containing g a)) a ≡ true) =
-    told-tests (leb a (firstHeld g) || leb (len g) a) (eqb (start g (containing g a)) a) (alone g (containing g a)) (not (marked g (containing g a))) e in
-    let i : (l .firstHeld < a) × (a < l .next) = inner g l v a (k .0) in
-    subst (λ (xs : List ℕ). Inv g (withEdges l xs))
-    (sym (edge-member (l .firstHeld) (l .edges) (l .next) a (v .tied .edged .up) (sym (starts-at g l v a (i .0) (i .1)) ∙ k .1))) v
+    let w = starting-told g a e in
+    let lo : l .firstHeld < a = omega (arith, first-tied g l (v .tied), w .0) in
+    let hi : a < l .next = omega (arith, len-tied g l (v .tied), w .1) in
+    let m : mem a (l .edges) ≡ true = sym (starts-at g l v a lo hi) ∙ eq-eqb (start g (containing g a)) a (w .2) in
+    subst (λ (xs : List ℕ). Inv g (withEdges l xs)) (sym (edge-member (l .firstHeld) (l .edges) (l .next) a (v .tied .edged .up) m)) v

@@ -1,64 +1,28 @@
 -- What a split, a grown run and a new run leave as it was of the runs before them. Assumes nothing.
-use mathlib.Core.Path.{_≡_, refl, sym, ap, _∙_, subst}
-use mathlib.Core.Logic.{_⊎_, inl, inr}
+use mathlib.Core.Path.{_≡_, refl, sym, ap, _∙_}
 use mathlib.Core.Bool.{Bool, true, false, not, cond, _&&_}
 use mathlib.Core.List.{List, [], _∷_, _++_, map}
 use mathlib.Core.Option.{Option, none, some}
-use Prim.Native.Nat.{ℕ, zero, suc, _+_, _≤_, _<_, min}
+use Prim.Native.Nat.{ℕ, suc, _+_, _≤_, _<_, min}
 use native.Mathlib.Omega.{arith}
-use lib.ListN.{length, getD, take, drop, length-append, length-take, length-map, List·getD-append, List·getD-map}
+use lib.ListN.{getD, take, drop, length-take, length-map, List·getD-append, List·getD-map}
 use lib.Seq.{drop-append-le, getD-take}
 use lib.Dec.{leb, ltb, eqb}
-use borrow.Author.Tests.{ltb-true, leb-true, eqb-true, lt-ltb, le-leb, not-false}
-use Rattle.lists.specs.Lists.{all, filter, upto, mem, insertAt, rising, below, least}
-use Rattle.lists.proofs.Truth.{eq-or-not, false-true, and-left, and-right, bool-iff}
-use Rattle.lists.proofs.Members.{all-at, mem-filter, filter-mem, upto-mem, getD-mem}
-use Rattle.lists.proofs.Filters.{insert-length, insert-before, insert-after, all-insert, all-both, all-from-on, least-le, least-mem, map-leaves, rising-place}
-use Rattle.model.specs.declared.answers.Refusal.{Refusal}
-use Rattle.model.specs.declared.answers.Outcome.{Outcome}
-use Rattle.model.specs.declared.answers.Outcome.the-variants.{Done, Refused}
-use Rattle.model.specs.Refusals.{firstOf}
-use Rattle.model.specs.Graph.{Graph, runs, start, firstHeld, len, containing, marked, marks, held, extends}
-use Rattle.model.specs.Broken.{WellFormed, parentsFit}
-use Rattle.model.specs.Split.{renumber, split, ends, splitAfter}
-use Rattle.model.specs.Push.{grown, newSeen, parentRuns, joined, lowered, push, pushOutcome}
+use borrow.Author.Tests.{leb-true, eqb-true, lt-ltb, le-leb}
+use Rattle.lists.specs.Lists.{all, filter, upto, mem, insertAt, least}
+use Rattle.lists.proofs.Truth.{false-true, bool-iff, and-left}
+use Rattle.lists.proofs.Members.{mem-filter, filter-mem, map-leaves, all-from-on, all-both}
+use Rattle.lists.proofs.Counts.{upto-mem}
+use Rattle.lists.proofs.Bounds.{least-le, least-mem}
+use Rattle.lists.proofs.Inserts.{insert-before, all-insert}
+use Rattle.model.specs.Graph.{Graph, runs, start, len, marked, marks}
+use Rattle.model.specs.Broken.{WellFormed}
+use Rattle.model.specs.Split.{renumber, split}
+use Rattle.model.specs.Push.{grown, newSeen, parentRuns, joined, lowered}
 use Rattle.model.specs.Claim.{runState}
-
-IsDone : Outcome → Type 0
-IsDone Done = Unit {0}
-IsDone (Refused r) = ⊥
-
-passed : (t : Bool) (r : Refusal) (o : Outcome) → cond t (Refused r) o ≡ Done → (t ≡ false) × (o ≡ Done)
-unfolding IsDone
-passed true r o e = absurd (subst IsDone (sym e) tt)
-passed false r o e = (refl, e)
-
--- A push that is not refused names events that are there
-pub done-below : (g : Graph) (ps : List ℕ) (n : ℕ) → pushOutcome g ps n ≡ Done → below (len g) ps ≡ true
-unfolding pushOutcome firstOf
-done-below g ps n e =
-    not-false (below (len g) ps) (passed (not (below (len g) ps)) _ _ (passed (not (rising ps)) _ _ (passed (eqb n 0) _ _ e .1) .1) .0)
-
--- A push grows the last run, or makes a new one once the held parents end runs
-pub push-grows : (g : Graph) (ps : List ℕ) (n : ℕ) → extends g ps ≡ true → push g ps n ≡ grown g ps n
-unfolding push
-push-grows g ps n e = go (extends g ps) e
-  where
-    go : (t : Bool) → t ≡ true →
-        (elim t as (λ _. Graph) [ true ↦ grown g ps n | false ↦ lowered (splitAfter g (held g ps)) (joined (splitAfter g (held g ps)) ps n) ]) ≡ grown g ps n
-    go true h = refl
-    go false h = false-true h
-
-pub push-joins : (g : Graph) (ps : List ℕ) (n : ℕ) → extends g ps ≡ false →
-    push g ps n ≡ lowered (splitAfter g (held g ps)) (joined (splitAfter g (held g ps)) ps n)
-unfolding push
-push-joins g ps n e = go (extends g ps) e
-  where
-    go : (t : Bool) → t ≡ false →
-        (elim t as (λ _. Graph) [ true ↦ grown g ps n | false ↦ lowered (splitAfter g (held g ps)) (joined (splitAfter g (held g ps)) ps n) ]) ≡
-        lowered (splitAfter g (held g ps)) (joined (splitAfter g (held g ps)) ps n)
-    go true h = false-true (sym h)
-    go false h = refl
+use Rattle.model.proofs.FormedReads.{parentsFit-at}
+use Rattle.model.proofs.FormedSplits.{renumber-below}
+use Rattle.model.proofs.FormedJoins.{joined-runs}
 
 -- Two graphs alike at a run
 pub state-same : (g h : Graph) (q : ℕ) → q < runs g → q < runs h → start g q ≡ start h q → start g (suc q) ≡ start h (suc q) →
@@ -75,46 +39,19 @@ state-same g h q b c s t p m = go (ltb q (runs g)) (ltb q (runs h)) (lt-ltb q (r
     go false true x y = false-true x
     go false false x y = false-true x
 
--- Each run's parents are below it
-rows-below : (k i : ℕ) (pss : List (List ℕ)) → parentsFit k pss ≡ true → i < length pss → (p : ℕ) → mem p (getD pss i []) ≡ true → p < k + i
-unfolding parentsFit below
-rows-below k i [] h lt p m = absurd (omega arith)
-rows-below k zero (ps ∷ pss) h lt p m =
-    omega (arith, ltb-true p k (all-at (λ x. ltb x k) ps (and-right (rising ps) (below k ps) (and-left (rising ps && below k ps) (parentsFit (suc k) pss) h)) p m))
-rows-below k (suc i) (ps ∷ pss) h lt p m =
-    omega (arith, rows-below (suc k) i pss (and-right (rising ps && below k ps) (parentsFit (suc k) pss) h) (omega arith) p m)
-
--- A split inside run r of a well-formed graph
-module _ (g : Graph) (r at : ℕ) (w : WellFormed g) (b : r < runs g) where
-  pub split-runs : runs (split g r at) ≡ suc (runs g)
-  unfolding runs split
-  split-runs = insert-length (suc r) (r ∷ []) (map (map (renumber r)) (g .parents)) ∙ ap suc (length-map (g .parents) (map (renumber r)))
-
+-- A split of run r leaves the runs before it, and the first part's start
+module _ (g : Graph) (w : WellFormed g) (r at : ℕ) (b : r < runs g) where
   pub split-start : (q : ℕ) → q ≤ r → start (split g r at) q ≡ start g q
   unfolding start split
-  split-start q le = insert-before (suc r) at (g .starts) 0 q (omega (arith, w .starts-count)) (omega arith)
-
-  pub split-later : (q : ℕ) → r < q → start (split g r at) (suc q) ≡ start g q
-  unfolding start split
-  split-later q lt = insert-after (suc r) at (g .starts) 0 q (omega (arith, w .starts-count)) (omega arith)
-
-  pub split-first : firstHeld (split g r at) ≡ firstHeld g
-  unfolding firstHeld
-  split-first = split-start 0 (omega arith)
-
-  pub split-len : len (split g r at) ≡ len g
-  unfolding len
-  split-len = ap (λ (k : ℕ). start (split g r at) k) split-runs ∙ split-later (runs g) b
+  split-start q le = insert-before (suc r) q at 0 (g .starts) (omega arith) (omega (arith, w .starts-count))
 
   pub split-parents : (q : ℕ) → q < r → getD (split g r at .parents) q [] ≡ getD (g .parents) q []
-  unfolding split runs renumber
+  unfolding split runs
   split-parents q lt =
-      insert-before (suc r) (r ∷ []) (map (map (renumber r)) (g .parents)) [] q (omega (arith, length-map (g .parents) (map (renumber r)))) (omega arith) ∙
+      insert-before (suc r) q (r ∷ []) [] (map (map (renumber r)) (g .parents)) (omega arith) (omega (arith, length-map (g .parents) (map (renumber r)))) ∙
       List·getD-map (map (renumber r)) (g .parents) q [] ∙
-      map-leaves (renumber r) (getD (g .parents) q []) (λ p m. leaves p (rows-below 0 q (g .parents) (w .parents) (omega arith) p m))
-    where
-      leaves : (p : ℕ) → p < 0 + q → renumber r p ≡ p
-      leaves p h = ap (λ (t : Bool). cond t p (suc p)) (lt-ltb p r (omega arith))
+      map-leaves (renumber r) (getD (g .parents) q [])
+      (λ p m. renumber-below r p (omega (arith, parentsFit-at 0 (g .parents) (w .parents) q (omega arith) p m)))
 
   pub split-marked : start g r < at → (q : ℕ) → q < r → marked (split g r at) q ≡ marked g q
   unfolding marked split
@@ -142,20 +79,6 @@ module _ (g : Graph) (r at : ℕ) (w : WellFormed g) (b : r < runs g) where
           go true e = le-leb (start g q) at (omega (arith, eqb-true own (start g r) e))
           go false e = le-leb (start g q) own h
 
--- A held event after which no run ends lies inside its run, and so does the one after it
-pub held-inside : (g : Graph) (p : ℕ) → WellFormed g → firstHeld g ≤ p → p < len g → ends g p ≡ false →
-    (containing g p < runs g) × (start g (containing g p) < suc p) × (suc p < start g (suc (containing g p)))
-unfolding containing start firstHeld len ends
-held-inside g p w lo hi e =
-    let place = rising-place (g .starts) (runs g) (w .starts-count) (w .starts) p lo hi in
-    (place .0, omega (arith, place .1), apart (eq-or-not (suc p) (getD (g .starts) (suc (containing g p)) 0)) (place .0) (place .2))
-  where
-    apart : {k : ℕ} → (suc p ≡ getD (g .starts) (suc k) 0) ⊎ (suc p ≡ getD (g .starts) (suc k) 0 → ⊥) → k < runs g → p < getD (g .starts) (suc k) 0 →
-        suc p < getD (g .starts) (suc k) 0
-    apart {k} (inl q) b lt =
-        false-true (sym e ∙ subst (λ (x : ℕ). mem x (g .starts) ≡ true) (sym q) (getD-mem (g .starts) (suc k) 0 (omega (arith, w .starts-count))))
-    apart {k} (inr q) b lt = omega arith
-
 -- A grown last run leaves the starts and the marks
 pub grown-start : (g : Graph) (ps : List ℕ) (n : ℕ) → WellFormed g → (q : ℕ) → q < runs g → start g q ≡ start (grown g ps n) q
 unfolding start grown
@@ -179,12 +102,8 @@ pub lowered-state : (g h : Graph) (q : ℕ) → runState h q ≡ runState (lower
 unfolding runState runs start marked lowered
 lowered-state g h q = refl
 
--- A new run of n events behind a well-formed graph
+-- A new run leaves those before it
 module _ (s : Graph) (ps : List ℕ) (n : ℕ) (w : WellFormed s) where
-  pub joined-runs : runs (joined s ps n) ≡ suc (runs s)
-  unfolding runs joined
-  joined-runs = omega (arith, length-append (s .parents) (parentRuns s ps ∷ []))
-
   pub joined-start : (q : ℕ) → q ≤ runs s → start s q ≡ start (joined s ps n) q
   unfolding start joined
   joined-start q le = sym (List·getD-append (s .starts) ((len s + n) ∷ []) 0 q (omega (arith, w .starts-count)))
@@ -193,7 +112,7 @@ module _ (s : Graph) (ps : List ℕ) (n : ℕ) (w : WellFormed s) where
   unfolding joined runs
   joined-parents q lt = sym (List·getD-append (s .parents) (parentRuns s ps ∷ []) [] q lt)
 
-  -- marks can only be lost
+  -- Marks can only be lost
   pub joined-marked : (q : ℕ) → q < runs s → marked (joined s ps n) q ≡ true → marked s q ≡ true
   unfolding marked joined
   joined-marked q lt h =
@@ -202,7 +121,7 @@ module _ (s : Graph) (ps : List ℕ) (n : ℕ) (w : WellFormed s) where
       ap (all (λ x. leb (start s q) x)) (sym (drop-append-le q (s .seen) (newSeen s ps ∷ []) (omega (arith, w .seen-count)))) ∙
       ap (λ (k : ℕ). all (λ x. leb k x) (drop q (s .seen ++ newSeen s ps ∷ []))) (joined-start q (omega arith)) ∙ h)
 
-  -- a run below the lowest that loses its mark keeps it
+  -- A run below the lowest that loses its mark keeps it
   pub joined-keeps : (q : ℕ) → q < lowered s (joined s ps n) .changed → (q < runs s) × (q < s .changed) × (marked s q ≡ marked (joined s ps n) q)
   unfolding lowered joined
   joined-keeps q lt = (in-runs, omega (arith, low), bool-iff (marked s q) (marked h q) (λ m. go (marked h q) refl m) (joined-marked q in-runs))
@@ -221,7 +140,7 @@ module _ (s : Graph) (ps : List ℕ) (n : ℕ) (w : WellFormed s) where
 
       go : (t : Bool) → marked h q ≡ t → marked s q ≡ true → t ≡ true
       go true e m = refl
-      go false e m = absurd (omega (arith, least-mem (min (runs s) (s .changed)) lost q (listed (marks-list h q (omega (arith, joined-runs, in-runs)) ∙ e))))
+      go false e m = absurd (omega (arith, least-mem (min (runs s) (s .changed)) lost q (listed (marks-list h q (omega (arith, joined-runs s ps n, in-runs)) ∙ e))))
         where
           listed : mem q (marks h) ≡ false → mem q lost ≡ true
           listed k = filter-mem (λ r. not (mem r (marks h))) q (marks s) (marks-list s q in-runs ∙ m) (ap not k)

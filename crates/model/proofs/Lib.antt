@@ -1,17 +1,35 @@
 -- The laws of the definitions.
-pub mod Computed
-pub mod Everything
-pub mod Exact
+-- The record, and calls that begin a graph
+pub mod Stored
+pub mod Tests
+pub mod Begins
+-- Well-formed graphs
+pub mod FormedReads
+pub mod FormedSplits
+pub mod FormedSplitAll
+pub mod FormedJoins
+pub mod FormedPush
+pub mod FormedCalls
+-- Ancestors and histories
 pub mod Ancestry
 pub mod Histories
-pub mod Runs
-pub mod Tied
-pub mod Rooms
-pub mod RoomsReplay
+-- Steps on the plain set, and as words
+pub mod Exact
 pub mod Agreeing
 pub mod Reading
-pub mod Stored
-pub mod Begins
+-- A graph and its plain log, and the calls that keep them tied
+pub mod Runs
+pub mod Tied
+pub mod Seen
+pub mod Edges
+pub mod Splitting
+pub mod Ending
+pub mod Adding
+pub mod Growing
+pub mod Joining
+pub mod Pushing
+pub mod Keeping
+-- The walk
 pub mod Moves
 pub mod Following
 pub mod Choosing
@@ -19,31 +37,24 @@ pub mod Visiting
 pub mod Kahn
 pub mod Once
 pub mod Moved
-pub mod Seen
 pub mod Walking
+-- Marks and full replay
+pub mod Marked
 pub mod Tiling
 pub mod Replaying
+pub mod Critical
+-- Room enough
+pub mod Rooms
+pub mod RoomsReplay
+-- Change takes and the frontier
 pub mod Lasting
 pub mod Takes
 pub mod Fronts
+-- Demand 3
 pub mod Results
-pub mod Tests
-pub mod Inserting
-pub mod Edges
-pub mod Splitting
-pub mod Ending
-pub mod Adding
-pub mod Joining
-pub mod Pushing
-pub mod Growing
-pub mod Keeping
-pub mod FormedReads
-pub mod FormedSplits
-pub mod FormedSplitAll
-pub mod FormedJoins
-pub mod FormedPush
-pub mod FormedCalls
 pub mod Calls
-pub mod Demand
-pub mod Critical
 pub mod Good
+pub mod Demand
+-- The cases
+pub mod Everything
+pub mod Computed

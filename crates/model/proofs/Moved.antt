@@ -1,7 +1,7 @@
 -- A walk's `moved` is the events in just one of each run's ancestors and the set before its moves. Assumes nothing.
 use mathlib.Core.Path.{_≡_, refl, sym, ap, _∙_, fun-ext}
 use mathlib.Core.Logic.{_⊎_, inl, inr}
-use mathlib.Core.Bool.{Bool, true, false, not, cond, _&&_, _||_}
+use mathlib.Core.Bool.{Bool, true, false, not, _&&_, _||_}
 use mathlib.Core.List.{List, [], _∷_, _++_, map}
 use mathlib.Core.Option.{Option, none, some}
 use Prim.Native.Nat.{ℕ, zero, suc, _+_, _-_, _≤_, _<_}
@@ -9,9 +9,9 @@ use native.Mathlib.Omega.{arith}
 use lib.ListN.{length}
 use borrow.Author.Tests.{le-ltb}
 use Rattle.lists.specs.Lists.{bit, count, sum, from, mem}
-use Rattle.lists.proofs.Truth.{lt-or-le}
+use Rattle.lists.proofs.Truth.{lt-or-le, cond-same}
 use Rattle.lists.proofs.Between.{within-in}
-use Rattle.lists.proofs.Members.{sum-zero, sum-add, count-sum}
+use Rattle.lists.proofs.Counts.{count-sum, sum-zero, sum-add}
 use Rattle.lists.proofs.Each.{All}
 use Rattle.model.specs.Graph.{Graph, start}
 use Rattle.model.specs.History.{at}
@@ -20,11 +20,11 @@ use Rattle.model.specs.Choice.{Range, choice}
 use Rattle.model.specs.Steps.{Step, retreat, advance, apply, visit, visits, movedIn}
 use Rattle.model.specs.Log.{Log, inRuns}
 use Rattle.model.specs.PlainSet.{Events, plus, apart}
-use Rattle.model.proofs.Exact.{sumBy, wanted}
+use Rattle.model.proofs.Exact.{wanted, sumBy}
 use Rattle.model.proofs.Moves.{held, Proper, chains-hold, stretchesOf-held, stretchesOf-proper}
-use Rattle.model.proofs.Following.{Numbered, lift-visited, moves-hold, stepAt, holds, retreats-moved, advances-moved}
+use Rattle.model.proofs.Following.{stepAt, holds, retreats-moved, advances-moved, Numbered, moves-hold, lift-visited}
 use Rattle.model.proofs.Choosing.{readyAfter, FineRun, choice-fine}
-use Rattle.model.proofs.Visiting.{Fits, versionAfter, later, set, differ, after-below, visit-is, between, retreats-lead, advances-lead}
+use Rattle.model.proofs.Visiting.{Fits, versionAfter, later, set, differ, visit-is, between, retreats-lead, advances-lead, after-below}
 
 -- The held events
 abbrev pub events : Log → List ℕ
@@ -87,11 +87,7 @@ module _ (g : Graph) (l : Log) (counted : Events) (a n : ℕ)
     differs-within s t =
         ends-within n (differs s t) (stretchesOf-proper (λ m. mem m s && not (mem m t)) (chainsFrom 0 [] (w .history)))
         (λ r q. stretchesOf-held (λ m. mem m s && not (mem m t)) r (chainsFrom 0 [] (w .history)) ∙
-        rw (chains-hold r (w .history), F .size, le-ltb r n q) (go (mem r s && not (mem r t))))
-      where
-        go : (t : Bool) → _≡_ {A = ℕ} (cond t 0 0) 0
-        go true = refl
-        go false = refl
+        rw (chains-hold r (w .history), F .size, le-ltb r n q) (cond-same (mem r s && not (mem r t)) 0))
 
     -- The events in just one of two sets
     either : (x y : Bool) → bit (x && not y || y && not x) ≡ bit (y && not x) + bit (x && not y)

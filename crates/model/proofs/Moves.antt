@@ -1,5 +1,5 @@
 -- The stretches of runs that a walk's moves are: which runs they hold, and how often. Assumes nothing.
-use mathlib.Core.Path.{_≡_, refl, ap, _∙_}
+use mathlib.Core.Path.{_≡_, refl, sym, ap, _∙_}
 use mathlib.Core.Bool.{Bool, true, false, cond}
 use mathlib.Core.List.{List, [], _∷_, _++_}
 use Prim.Native.Nat.{ℕ, suc, _+_, _<_}
@@ -9,8 +9,9 @@ use lib.ListN.{length}
 use lib.Dec.{ltb, eqb}
 use borrow.Author.Tests.{eqb-true}
 use Rattle.lists.specs.Lists.{bit, all, filter, count, sum, upto, mem, occurs}
-use Rattle.lists.proofs.Between.{within, longer, none-within}
-use Rattle.lists.proofs.Members.{count-append, occurs-filter, occurs-from, occurs-upto}
+use Rattle.lists.proofs.Truth.{cond-same}
+use Rattle.lists.proofs.Between.{within, none-within, longer}
+use Rattle.lists.proofs.Counts.{count-append, occurs-filter, occurs-from, occurs-upto}
 use Rattle.model.specs.Range.{join, chainsFrom}
 use Rattle.model.specs.Steps.{addRun, stretches}
 
@@ -32,6 +33,7 @@ addRun-proper m (s ∷ ss) h = go (eqb (s .0) (suc m)) refl
     go true e = (omega (arith, eqb-true (s .0) (suc m) e, h .0), h .1)
     go false e = (omega arith, h)
 
+-- So of stretches made of runs
 pub stretches-proper : (ms : List ℕ) → Proper (stretches ms)
 unfolding stretches
 stretches-proper [] = tt
@@ -98,11 +100,7 @@ stretchesOf p (c ∷ cs) = stretches (filter p c) ++ stretchesOf p cs
 -- They hold a run of the set as often as the chains do, and no other
 pub stretchesOf-held : (p : ℕ → Bool) (r : ℕ) (cs : List (List ℕ)) → held r (stretchesOf p cs) ≡ cond (p r) (inChains r cs) 0
 unfolding stretchesOf inChains sum held count
-stretchesOf-held p r [] = go (p r)
-  where
-    go : (t : Bool) → _≡_ {A = ℕ} 0 (cond t 0 0)
-    go true = refl
-    go false = refl
+stretchesOf-held p r [] = sym (cond-same (p r) 0)
 stretchesOf-held p r (c ∷ cs) = go (p r) refl (stretchesOf-held p r cs)
   where
     here : held r (stretches (filter p c)) ≡ cond (p r) (occurs r c) 0

@@ -9,19 +9,19 @@ use native.Mathlib.Omega.{arith}
 use lib.ListN.{length}
 use lib.Dec.{leb, ltb, eqb}
 use borrow.Author.Tests.{ltb-true, lt-ltb, le-ltb, le-leb, lt-leb, eq-eqb, ne-eqb}
-use Rattle.lists.specs.Lists.{bit, count, mem, occurs}
-use Rattle.lists.proofs.Truth.{lt-or-le, eq-or-not, and-left, and-right, or-right, bit-true, bit-false}
-use Rattle.lists.proofs.Members.{mem-occurs}
-use Rattle.lists.proofs.Each.{All}
+use Rattle.lists.specs.Lists.{bit, mem, occurs}
+use Rattle.lists.proofs.Truth.{lt-or-le, eq-or-not, and-left, and-right, and-false, bit-true, bit-false}
+use Rattle.lists.proofs.Counts.{mem-occurs, nothing-occurs}
+use Rattle.lists.proofs.Each.{members}
 use Rattle.model.specs.History.{at}
 use Rattle.model.specs.Choice.{Range, passed, isReady, choice}
 use Rattle.model.specs.Steps.{Step, retreat, advance, apply, visit, visits}
 use Rattle.model.specs.PlainSet.{times}
 use Rattle.model.proofs.Moves.{stretchesOf}
-use Rattle.model.proofs.Following.{moves-are, stepAt, retreats-times, advances-times}
+use Rattle.model.proofs.Following.{stepAt, moves-are, retreats-times, advances-times}
 use Rattle.model.proofs.Choosing.{readyAfter, FineRun, choice-fine, none-ready}
 use Rattle.model.proofs.Visiting.{versionAfter, later}
-use Rattle.model.proofs.Kahn.{due, left, Listed, ready-due, no-due, due-next, left-next, none-left, listed-next}
+use Rattle.model.proofs.Kahn.{due, ready-due, no-due, left, due-next, left-next, none-left, Listed, listed-next}
 
 -- A visit applies its run and no other
 visit-times : (q : ℕ) (w : Range) (a : ℕ) (now : List ℕ) (r : ℕ) (rest : List Step) →
@@ -36,19 +36,6 @@ visit-times q w a now r rest =
     ap (times q) parts ∙
     (retreats-times q a back (map (stepAt advance a) forth ++ apply (a + r) ∷ rest) ∙ advances-times q a forth (apply (a + r) ∷ rest))
 
-nothing-occurs : (x : ℕ) → occurs x [] ≡ 0
-unfolding occurs count
-nothing-occurs x = refl
-
--- A list's numbers are members of it
-members : (xs : List ℕ) → All (λ x. mem x xs ≡ true) xs
-unfolding mem
-members xs = go xs (λ x m. m)
-  where
-    go : (ys : List ℕ) → ((x : ℕ) → mem x ys ≡ true → mem x xs ≡ true) → All (λ x. mem x xs ≡ true) ys
-    go [] f = tt
-    go (y ∷ ys) f = (f y (rw (eq-eqb y y refl)), go ys (λ x m. f x (or-right (eqb x y) m)))
-
 -- Run q of the graph is in the range, and due
 abbrev pub dueAt : Range → ℕ → ℕ → ℕ → ℕ → List ℕ → ℕ → Bool
 dueAt w a known first n visited q = leb a q && (ltb (q - a) n && due w known first n visited (q - a))
@@ -58,17 +45,13 @@ pub due-first : (w : Range) (a known first n q : ℕ) → dueAt w a known first 
 unfolding due passed mem
 due-first w a known first n q = go (lt-or-le q a) (lt-or-le (q - a) n) (lt-or-le (q - a) known)
   where
-    and-false : (b : Bool) → false ≡ b && false
-    and-false true = refl
-    and-false false = refl
-
     go : (q < a) ⊎ (a ≤ q) → (q - a < n) ⊎ (n ≤ q - a) → (q - a < known) ⊎ (known ≤ q - a) →
         leb a q && (ltb (q - a) n && not (ltb (q - a) known || false)) ≡ leb (a + known) q && ltb q (a + n)
     go (inl p) c d = rw (lt-leb a q p, lt-leb (a + known) q (omega arith))
     go (inr p) (inl c) (inl d) = rw (le-leb a q p, lt-ltb (q - a) n c, lt-ltb (q - a) known d, lt-leb (a + known) q (omega arith))
     go (inr p) (inl c) (inr d) =
         rw (le-leb a q p, lt-ltb (q - a) n c, le-ltb (q - a) known d, le-leb (a + known) q (omega arith), lt-ltb q (a + n) (omega arith))
-    go (inr p) (inr c) d = rw (le-leb a q p, le-ltb (q - a) n c, le-ltb q (a + n) (omega arith)) (and-false (leb (a + known) q))
+    go (inr p) (inr c) d = rw (le-leb a q p, le-ltb (q - a) n c, le-ltb q (a + n) (omega arith)) (sym (and-false (leb (a + known) q)))
 
 module _ (w : Range) (a known first n : ℕ) (size : length (w .parents) ≡ n)
     (below : (x : ℕ) → x < n → (p : ℕ) → mem p (at (w .parents) x) ≡ true → p < x) where

@@ -1,49 +1,28 @@
 -- A push that begins a run keeps all that a graph keeps with its log, once its held parents end runs. Assumes nothing.
 use mathlib.Core.Path.{_≡_, refl, sym, ap, _∙_, subst}
 use mathlib.Core.Logic.{_⊎_, inl, inr}
-use mathlib.Core.Bool.{Bool, true, false, cond, _||_}
+use mathlib.Core.Bool.{Bool, true, false, cond}
 use mathlib.Core.List.{List, [], _∷_, _++_, map}
 use Prim.Native.Nat.{ℕ, suc, _-_, _≤_, _<_}
 use native.Mathlib.Omega.{arith}
 use lib.ListN.{length, getD, length-append, List·getD-append}
 use lib.Seq.{getD-append-seam}
 use lib.Dec.{leb, eqb}
-use borrow.Author.Tests.{leb-true, eqb-true, eq-eqb}
+use borrow.Author.Tests.{leb-true, eqb-true}
 use Rattle.lists.specs.Lists.{mem, same, largest}
-use Rattle.lists.proofs.Truth.{lt-or-le, eq-or-not, or-right}
+use Rattle.lists.proofs.Truth.{lt-or-le, eq-or-not, lt-of-ne, lt-eq-gt}
 use Rattle.lists.proofs.Members.{mem-filter, map-mem, same-eq}
-use Rattle.lists.proofs.Rising.{up-le}
+use Rattle.lists.proofs.Bounds.{largest-least, largest-most, largest-from}
 use Rattle.model.specs.EventGraph.{reaches, ancestor}
 use Rattle.model.specs.Graph.{Graph, start, len, firstHeld, containing, held}
 use Rattle.model.specs.Push.{parentRuns, seenAfter, newSeen, joined}
 use Rattle.model.specs.Log.{Log, runStart, heldOf, eventGraph}
 use Rattle.model.proofs.Exact.{ancestors}
+use Rattle.model.proofs.Runs.{first-next}
 use Rattle.model.proofs.Tied.{Tied, low, high, step, down}
 use Rattle.model.proofs.Seen.{Seen, Inv, start-is, len-tied, first-tied, held-tied, reaches-more}
-use Rattle.model.proofs.Adding.{added, added-lower, added-front, old-reaches, from-own}
+use Rattle.model.proofs.Adding.{added, added-lower, old-reaches, from-own, added-front}
 use Rattle.model.proofs.Joining as Joining
-
--- What lies below the largest lies below one of the numbers, or below what stands in where there are none
-largest-from : (d e : ℕ) (xs : List ℕ) → e < largest d xs → (e < d) ⊎ ((x : ℕ) × (mem x xs ≡ true) × (e < x))
-unfolding largest mem
-largest-from d e [] h = inl h
-largest-from d e (x ∷ []) h = inr (x, rw (eq-eqb x x refl), h)
-largest-from d e (x ∷ y ∷ ys) h = go (lt-or-le e x) (λ k. largest-from d e (y ∷ ys) k)
-  where
-    go : (e < x) ⊎ (x ≤ e) → (e < largest d (y ∷ ys) → (e < d) ⊎ ((z : ℕ) × (eqb z y || mem z ys ≡ true) × (e < z))) →
-        (e < d) ⊎ ((z : ℕ) × (eqb z x || (eqb z y || mem z ys) ≡ true) × (e < z))
-    go (inl k) ih = inr (x, rw (eq-eqb x x refl), k)
-    go (inr k) ih = later (ih (omega arith))
-      where
-        later : (e < d) ⊎ ((z : ℕ) × (eqb z y || mem z ys ≡ true) × (e < z)) → (e < d) ⊎ ((z : ℕ) × (eqb z x || (eqb z y || mem z ys) ≡ true) × (e < z))
-        later (inl z) = inl z
-        later (inr z) = inr (z .0, or-right (eqb (z .0) x) (z .1), z .2)
-
-largest-least : (d : ℕ) (xs : List ℕ) → ((x : ℕ) → mem x xs ≡ true → d ≤ x) → d ≤ largest d xs
-unfolding largest mem
-largest-least d [] h = omega arith
-largest-least d (x ∷ []) h = h x (rw (eq-eqb x x refl))
-largest-least d (x ∷ y ∷ ys) h = omega (arith, h x (rw (eq-eqb x x refl)))
 
 module _ (g : Graph) (l : Log) (v : Inv g l) (ps : List ℕ) (n : ℕ) (pos : 0 < n)
     (known : (p : ℕ) → mem p ps ≡ true → p < l .next)
@@ -68,9 +47,6 @@ module _ (g : Graph) (l : Log) (v : Inv g l) (ps : List ℕ) (n : ℕ) (pos : 0 
 
   ends-run : (p : ℕ) → mem p (heldOf l ps) ≡ true → (containing g p < c) × (runStart l (suc (containing g p)) ≡ suc p)
   ends-run p m = Joining.ends-run g l t ps n pos known ended p m
-
-  where-run : (x : ℕ) → (x < c) ⊎ ((x ≡ c) ⊎ (c < x))
-  where-run x = Joining.where-run g l t ps n pos known ended x
 
   edges-size : length es₂ ≡ suc c
   edges-size = Joining.edges-size g l t ps n pos known ended
@@ -102,10 +78,7 @@ module _ (g : Graph) (l : Log) (v : Inv g l) (ps : List ℕ) (n : ℕ) (pos : 0 
       go true z k (inr y) = inr (cases (lt-or-le e (runStart l j)))
         where
           under : e < p
-          under = less y (omega (arith, start-is g l t (suc j) lt, end))
-            where
-              less : (e ≡ p → ⊥) → e < suc p → e < p
-              less a b = omega arith
+          under = lt-of-ne e p (omega (arith, start-is g l t (suc j) lt, end)) y
 
           cases : (e < runStart l j) ⊎ (runStart l j ≤ e) → reaches p (eventGraph l) p e ≡ true
           cases (inl a) = deep (omega (arith, eqb-true (getD (g .seen) j 0) (start g j) z, start-is g l t j (omega (arith, lt))))
@@ -155,30 +128,31 @@ module _ (g : Graph) (l : Log) (v : Inv g l) (ps : List ℕ) (n : ℕ) (pos : 0 
       go true = omega (arith, start-is g l t (suc j) lt, low g l t (suc j))
       go false = v .seen .least j lt
 
-  own-least : (x : ℕ) → mem x (map (seenAfter g) own) ≡ true → firstHeld g ≤ x
+  -- and lies between the first held event and the next one
+  own-run : (x : ℕ) → mem x (map (seenAfter g) own) ≡ true → (j : ℕ) × (j < c) × (x ≡ seenAfter g j)
   unfolding parentRuns
-  own-least x m =
+  own-run x m =
       let a : (j : ℕ) × (mem j own ≡ true) × (x ≡ seenAfter g j) = map-mem (seenAfter g) x own m in
       let b : (p : ℕ) × (mem p (held g ps) ≡ true) × (a .0 ≡ containing g p) = map-mem (containing g) (a .0) (held g ps) (a .1) in
       let k : (containing g (b .0) < c) × _ = ends-run (b .0) (subst (λ (xs : List ℕ). mem (b .0) xs ≡ true) (held-tied g l t ps) (b .1)) in
-      omega (arith, first-tied g l t, a .2, after-least (a .0) (omega (arith, k .0, b .2)))
+      (a .0, omega (arith, k .0, b .2), a .2)
 
-  largest-known : largest (firstHeld g) (map (seenAfter g) own) ≤ l .next
-  largest-known = go (lt-or-le (l .next) (largest (firstHeld g) (map (seenAfter g) own)))
-    where
-      go : (l .next < largest (firstHeld g) (map (seenAfter g) own)) ⊎ (largest (firstHeld g) (map (seenAfter g) own) ≤ l .next) → largest (firstHeld g) (map (seenAfter g) own) ≤ l .next
-      go (inr z) = z
-      go (inl z) =
-          let k : (p : ℕ) × (mem p (heldOf l ps) ≡ true) × (l .next < seenAfter g (containing g p)) = from-parent (l .next) (up-le (l .firstHeld) (l .edges) (l .next) (t .edged .up)) z in
-          absurd (omega (arith, k .2, after-known (containing g (k .0)) ((ends-run (k .0) (k .1)) .0)))
+  own-least : (x : ℕ) → mem x (map (seenAfter g) own) ≡ true → firstHeld g ≤ x
+  own-least x m = let a = own-run x m in omega (arith, first-tied g l t, a .2, after-least (a .0) (a .1))
+
+  own-most : (x : ℕ) → mem x (map (seenAfter g) own) ≡ true → x ≤ l .next
+  own-most x m = let a = own-run x m in omega (arith, a .2, after-known (a .0) (a .1))
 
   news-bounds : (l .firstHeld ≤ news) × (news ≤ l .next)
   unfolding newSeen
   news-bounds = go (same ps (g .frontier))
     where
       go : (b : Bool) → (l .firstHeld ≤ cond b (len g) (largest (firstHeld g) (map (seenAfter g) own))) × (cond b (len g) (largest (firstHeld g) (map (seenAfter g) own)) ≤ l .next)
-      go true = (omega (arith, len-tied g l t, up-le (l .firstHeld) (l .edges) (l .next) (t .edged .up)), omega (arith, len-tied g l t))
-      go false = (omega (arith, first-tied g l t, largest-least (firstHeld g) (map (seenAfter g) own) own-least), largest-known)
+      go true = (omega (arith, len-tied g l t, first-next l (t .edged)), omega (arith, len-tied g l t))
+      go false = (
+        omega (arith, first-tied g l t, largest-least (firstHeld g) (firstHeld g) (map (seenAfter g) own) (omega arith) own-least),
+        largest-most (l .next) (firstHeld g) (map (seenAfter g) own) (omega (arith, first-tied g l t, first-next l (t .edged))) own-most,
+      )
 
   news-sound : (e : ℕ) → l .firstHeld ≤ e → e < news → ancestors l₂ (l .next) e ≡ true
   unfolding ancestors ancestor heldOf newSeen
@@ -198,9 +172,9 @@ module _ (g : Graph) (l : Log) (v : Inv g l) (ps : List ℕ) (n : ℕ) (pos : 0 
   unfolding joined ancestors ancestor
   joined-seen = record {
     size = length-append (g .seen) (news ∷ []) ∙ omega (arith, v .seen .size, edges-size);
-    least = λ x lt. least′ x (omega (arith, edges-size)) (where-run x);
-    most = λ x lt. most′ x (omega (arith, edges-size)) (where-run x);
-    sound = λ x e lt h q. sound′ x e (omega (arith, edges-size)) h q (where-run x);
+    least = λ x lt. least′ x (omega (arith, edges-size)) (lt-eq-gt x c);
+    most = λ x lt. most′ x (omega (arith, edges-size)) (lt-eq-gt x c);
+    sound = λ x e lt h q. sound′ x e (omega (arith, edges-size)) h q (lt-eq-gt x c);
   }
     where
       least′ : (x : ℕ) → x < suc c → (x < c) ⊎ ((x ≡ c) ⊎ (c < x)) → l .firstHeld ≤ getD seen₂ x 0
@@ -219,11 +193,11 @@ module _ (g : Graph) (l : Log) (v : Inv g l) (ps : List ℕ) (n : ℕ) (pos : 0 
       sound′ x e lt h q (inr (inl a)) = rw (a, old-start c (omega arith), top-start) (news-sound e h (rw (a, seen-new) at q))
       sound′ x e lt h q (inr (inr a)) = absurd (omega arith)
 
-  -- A new run of n events
+  -- A new run of n events keeps all
   pub joined-inv : Inv (joined g ps n) l₂
   joined-inv = record {
     tied = Joining.joined-tied g l t ps n pos known ended;
     seen = joined-seen;
     front = added-front g l v ps n pos known es₂ (joined g ps n) (unfold joined in refl);
-    lower = added-lower g l v ps n pos known es₂;
+    lower = added-lower l ps n es₂ (v .lower) known pos;
   }

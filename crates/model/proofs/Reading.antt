@@ -4,13 +4,14 @@ use mathlib.Core.List.{List, [], _∷_}
 use mathlib.Core.Option.{some}
 use Prim.Native.Nat.{ℕ, _*_}
 use native.Mathlib.Omega.{arith}
-use lib.ListN.{length, take, drop}
-use lib.Seq.{take-at}
+use lib.ListN.{length, take}
 use Rattle.lists.specs.Lists.{concat}
 use Rattle.lists.specs.Areas.{over}
+use Rattle.lists.proofs.Pads.{take-over}
 use Rattle.model.specs.Steps.{Step, retreat, advance, opened, apply, stepWords, words}
 use Rattle.model.specs.Reader.{decoded, said}
 
+-- Three words a step
 pub words-length : (ss : List Step) → length (words ss) ≡ 3 * length ss
 unfolding words concat stepWords
 words-length [] = refl
@@ -30,5 +31,4 @@ said-words (opened a b ∷ ss) = rw (said-words ss)
 
 -- So does a lent list that they were written into
 pub reads-back : (ss : List Step) (lent : List ℕ) → said (take (3 * length ss) (over (words ss) lent)) ≡ some ss
-unfolding over
-reads-back ss lent = rw (take-at (words ss) (drop (length (words ss)) lent) (3 * length ss) (words-length ss)) (said-words ss)
+reads-back ss lent = rw (take-over (words ss) lent (3 * length ss) (words-length ss)) (said-words ss)

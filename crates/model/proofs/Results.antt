@@ -23,11 +23,11 @@ use Rattle.model.specs.Walk.{WalkResult, wrote, unwalked, rowsInto, rows
 use Rattle.model.specs.Replay.{Replayed, replayRanges, replayOf}
 use Rattle.model.specs.Log.{Log, inRuns, runCount, heldBefore, eventGraph}
 use Rattle.model.specs.PlainSet.{Events, noEvents, Follows}
-use Rattle.model.proofs.Exact.{Followed}
+use Rattle.model.proofs.Tests.{refused-done, passed}
 use Rattle.model.proofs.Ancestry.{Lower}
+use Rattle.model.proofs.Exact.{Followed}
 use Rattle.model.proofs.Agreeing.{right-of, sums-agree}
 use Rattle.model.proofs.Reading.{reads-back}
-use Rattle.model.proofs.Begins.{refused-not-done, passed}
 use Rattle.model.proofs.Tied.{Tied}
 use Rattle.model.proofs.Seen.{Seen}
 use Rattle.model.proofs.Walking.{bare-follows}
@@ -52,7 +52,7 @@ unfolding listOutcome
 whole-list room ss e = go (ltb room (length ss)) refl e
   where
     go : (t : Bool) → ltb room (length ss) ≡ t → cond t (Refused ListTooShort) Done ≡ Done → take room ss ≡ ss
-    go true q h = absurd (refused-not-done ListTooShort h)
+    go true q h = absurd (refused-done ListTooShort h)
     go false q h = take-all room ss (ltb-false room (length ss) q)
 
 module _ (g : Graph) (l : Log) (t : Tied g l) (low : Lower (eventGraph l)) where
@@ -82,7 +82,7 @@ module _ (g : Graph) (l : Log) (t : Tied g l) (low : Lower (eventGraph l)) where
           (bare-follows g l t a (b - a) known first (omega (arith, t .rows)) k)
 
       go : (z : Bool) → (out z) .0 .outcome ≡ Done → Follows l (inRuns l a b) (λ r. leb (a + known) r && ltb r b) (inRuns l a (a + known)) (out z)
-      go true h = absurd (refused-not-done RowsTooLong h)
+      go true h = absurd (refused-done RowsTooLong h)
       go false h = subst (λ (k : List Step). Follows l (inRuns l a b) (λ r. leb (a + known) r && ltb r b) (inRuns l a (a + known))
           (wrote g (listOutcome room ss) k (rowsInto (rangeOf g a b) rows) steps)) (sym (whole-list room ss h))
           (follows-of g l low (inRuns l a b) (λ r. leb (a + known) r && ltb r b) (inRuns l a (a + known)) ss (listOutcome room ss) (rowsInto (rangeOf g a b) rows) steps followed)
@@ -97,7 +97,7 @@ walk-done-is g a b known first rows steps e = go (rangeOutcome g a b known) e
         (elim o as (λ _. WalkResult) [ Done ↦ walkRange (view g) a b known first rows steps | Refused r ↦ unwalked r rows steps ]) ≡
         walkRange (view g) a b known first rows steps
     go Done q = refl
-    go (Refused r) q = absurd (refused-not-done r q)
+    go (Refused r) q = absurd (refused-done r q)
 
 range-done : (g : CausalGraph) (a b known first : ℕ) (rows steps : List ℕ) → (walkOf g a b known first rows steps) .0 .outcome ≡ Done → rangeOutcome g a b known ≡ Done
 unfolding walkOf unwalked
@@ -109,9 +109,6 @@ range-done g a b known first rows steps e = go (rangeOutcome g a b known) e
     go (Refused r) q = q
 
 -- What a full replay of a record comes to
-replayed : CausalGraph → List ℕ → List ℕ → Replayed
-replayed g rows steps = replayRanges (view g) (cutFrom (view g) 0) (length steps / 3) rows
-
 pub replay-is : (g : CausalGraph) (rows steps : List ℕ) → broken g ≡ false →
     replayOf g rows steps ≡ wrote (view g) ((replayRanges (view g) (cutFrom (view g) 0) (length steps / 3) rows) .0)
     ((replayRanges (view g) (cutFrom (view g) 0) (length steps / 3) rows) .1) ((replayRanges (view g) (cutFrom (view g) 0) (length steps / 3) rows) .2) steps

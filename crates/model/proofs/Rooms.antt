@@ -1,6 +1,6 @@
 -- The room that a walk needs: of at most 512 runs, rows of at most 131,328 words and at most 524,800 steps. Assumes nothing.
 use mathlib.Core.Path.{_≡_, refl, sym}
-use mathlib.Core.Bool.{Bool, true, false, not, cond, _&&_}
+use mathlib.Core.Bool.{Bool, true, false, not, _&&_}
 use mathlib.Core.List.{List, [], _∷_, _++_, map}
 use mathlib.Core.Option.{Option, none, some}
 use Prim.Native.Nat.{ℕ, zero, suc, _+_, _-_, _*_, _/_, _≤_, max}
@@ -10,14 +10,16 @@ use lib.Dec.{leb, eqb}
 use borrow.Author.Tests.{le-ltb}
 use Rattle.lists.specs.Lists.{all, filter, count, concat, upto, mem}
 use Rattle.lists.proofs.Truth.{false-true}
+use Rattle.lists.proofs.Counts.{filter-length}
 use Rattle.model.specs.declared.answers.Outcome.the-variants.{Done}
 use Rattle.model.specs.declared.answers.Refusal.the-variants.{RowsTooLong}
 use Rattle.model.specs.Graph.{Graph, runs}
-use Rattle.model.specs.History.{at, reached, historiesFrom, histories}
+use Rattle.model.specs.History.{at, histories}
 use Rattle.model.specs.Range.{parentsIn, join, chainsFrom, row, rowsFrom}
 use Rattle.model.specs.Choice.{Range, rangeOf, newlyReady, choice}
 use Rattle.model.specs.Steps.{Step, retreat, advance, apply, addRun, stretches, moves, visit, visits, stepsOf}
 use Rattle.model.specs.Walk.{WalkResult, wrote, unwalked, rowsInto, rowsTooLong, listOutcome, walkRange}
+use Rattle.model.proofs.Histories.{history-length}
 
 -- A range has no more runs than it spans
 pub range-span : (g : Graph) (a b : ℕ) → length (parentsIn g a b) ≤ b - a
@@ -25,7 +27,7 @@ unfolding parentsIn
 range-span g a b =
     omega (arith, length-map (take (b - a) (drop a (g .parents))) (λ ps. map (λ p. p - a) (filter (λ p. leb a p) ps)), length-take (b - a) (drop a (g .parents)))
 
--- .. and no more than the graph has
+-- and no more than the graph has
 pub range-runs : (g : Graph) (a b : ℕ) → length (parentsIn g a b) ≤ runs g
 unfolding parentsIn runs
 range-runs g a b =
@@ -35,22 +37,6 @@ range-runs g a b =
       length-take (b - a) (drop a (g .parents)),
       length-drop a (g .parents),
     )
-
-historiesFrom-length : (hs pss : List (List ℕ)) → length (historiesFrom hs pss) ≡ length hs + length pss
-unfolding historiesFrom
-historiesFrom-length hs [] = omega arith
-historiesFrom-length hs (ps ∷ pss) =
-    let h : List ℕ = filter (reached hs ps) (upto (length hs)) in
-    omega (arith, historiesFrom-length (hs ++ h ∷ []) pss, length-append hs (h ∷ []))
-
--- Each run has a history
-histories-length : (pss : List (List ℕ)) → length (histories pss) ≡ length pss
-unfolding histories
-histories-length pss = omega (arith, historiesFrom-length [] pss)
-
-concat-length : {A : Type 0} (x : List A) (xs : List (List A)) → length (concat (x ∷ xs)) ≡ length x + length (concat xs)
-unfolding concat
-concat-length x xs = length-append x (concat xs)
 
 -- A run begins at most one chain
 join-width : (r : ℕ) (h : List ℕ) (cs : List (List ℕ)) → length (join r h cs) ≤ suc (length cs)
@@ -86,7 +72,7 @@ rowsFrom-fit r cs [] = omega arith
 rowsFrom-fit r cs (h ∷ hs) =
     omega (
       arith,
-      concat-length (row h (join r h cs)) (rowsFrom (suc r) (join r h cs) hs),
+      length-append (row h (join r h cs)) (concat (rowsFrom (suc r) (join r h cs) hs)),
       length-map (join r h cs) (λ c. count (λ m. mem m h) c),
       join-width r h cs,
       rowsFrom-fit (suc r) (join r h cs) hs,
@@ -105,7 +91,7 @@ rows-fit g a b limit =
     omega (
       arith,
       rowsFrom-fit 0 [] hs,
-      most-of-more 0 (length hs) 512 (omega (arith, histories-length (parentsIn g a b), range-runs g a b)),
+      most-of-more 0 (length hs) 512 (omega (arith, history-length (parentsIn g a b), range-runs g a b)),
       most-at-limit,
     )
 
@@ -125,15 +111,6 @@ chains-members : (r : ℕ) (cs hs : List (List ℕ)) → length (concat (chainsF
 unfolding chainsFrom
 chains-members r cs [] = omega arith
 chains-members r cs (h ∷ hs) = omega (arith, chains-members (suc r) (join r h cs) hs, join-members r h cs)
-
-filter-fit : (p : ℕ → Bool) (xs : List ℕ) → length (filter p xs) ≤ length xs
-unfolding filter
-filter-fit p [] = omega arith
-filter-fit p (x ∷ xs) = go (p x) (filter-fit p xs)
-  where
-    go : (t : Bool) → length (filter p xs) ≤ length xs → length (cond t (x ∷ filter p xs) (filter p xs)) ≤ suc (length xs)
-    go true ih = omega arith
-    go false ih = omega arith
 
 addRun-fit : (m : ℕ) (ss : List (ℕ × ℕ)) → length (addRun m ss) ≤ suc (length ss)
 unfolding addRun
@@ -162,7 +139,7 @@ moves-fit step a (c ∷ cs) s t =
       length-append named (moves step a cs s t),
       length-map (stretches left) (λ b. step (a + b .0) (a + b .1)),
       stretches-fit left,
-      filter-fit (λ m. mem m s && not (mem m t)) c,
+      filter-length (λ m. mem m s && not (mem m t)) c,
       moves-fit step a cs s t,
       length-append c (concat cs),
     )
@@ -207,7 +184,7 @@ unfolding stepsOf rangeOf concat
 steps-span g a b known first limit =
     let w : Range = rangeOf g a b in
     visits-fit (length (parentsIn g a b)) w a known (max known first) (upto known) none [] (newlyReady w known (max known first) [] [])
-    (omega (arith, chains-members 0 [] (histories (parentsIn g a b)), histories-length (parentsIn g a b), range-runs g a b))
+    (omega (arith, chains-members 0 [] (histories (parentsIn g a b)), history-length (parentsIn g a b), range-runs g a b))
 
 -- The steps of a walk of a graph within its limit
 pub steps-fit : (g : Graph) (a b known first : ℕ) → runs g ≤ 512 → length (stepsOf (rangeOf g a b) a known first) ≤ 524800

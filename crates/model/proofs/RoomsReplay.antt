@@ -1,17 +1,18 @@
 -- The room that a full replay needs: the ranges of a cut lie apart from one another, so 525,312 steps are enough. Assumes nothing.
 use mathlib.Core.Path.{_≡_, refl, sym, _∙_}
-use mathlib.Core.Bool.{Bool, true, false, cond}
+use mathlib.Core.Bool.{Bool, true, false}
 use mathlib.Core.List.{List, [], _∷_, _++_}
-use Prim.Native.Nat.{ℕ, zero, suc, _+_, _-_, _*_, _/_, _≤_, _<_}
+use Prim.Native.Nat.{ℕ, suc, _-_, _*_, _/_, _≤_, _<_}
 use native.Mathlib.Omega.{arith}
-use lib.ListN.{length, take, drop, length-append, length-drop, length-map}
+use lib.ListN.{length, take, length-map}
 use lib.Dec.{leb, ltb, eqb}
-use borrow.Author.Tests.{leb-true, le-ltb, ne-eqb}
+use borrow.Author.Tests.{le-ltb, ne-eqb}
 use Rattle.lists.specs.Lists.{filter, concat, from, upto}
-use Rattle.lists.specs.Areas.{over, fitting}
+use Rattle.lists.specs.Areas.{fitting}
 use Rattle.lists.proofs.Truth.{false-true}
-use Rattle.lists.proofs.Members.{from-length}
-use Rattle.lists.proofs.Rising.{Up}
+use Rattle.lists.proofs.Counts.{from-length}
+use Rattle.lists.proofs.Rising.{Up, up-filter, up-from}
+use Rattle.lists.proofs.Pads.{length-over, fitting-fit}
 use Rattle.model.specs.declared.answers.Outcome.{Outcome}
 use Rattle.model.specs.declared.answers.Outcome.the-variants.{Done, Refused}
 use Rattle.model.specs.declared.answers.Refusal.the-variants.{RowsTooLong, ListTooShort}
@@ -21,7 +22,7 @@ use Rattle.model.specs.Cut.{HistoryRange, linear, concurrent, rangesFrom
 use Rattle.model.specs.Steps.{opened, apply, stepsOf}
 use Rattle.model.specs.Walk.{rowsInto, rowsTooLong}
 use Rattle.model.specs.Replay.{Replayed, replayRange, replayRanges}
-use Rattle.model.proofs.Rooms.{range-span, rows-enough, steps-span}
+use Rattle.model.proofs.Rooms.{range-span, steps-span, rows-enough}
 
 -- Ranges that hold a run each, one after another from `lo` on, up to `end`
 abbrev pub Laid : ℕ → List HistoryRange → ℕ → Type 0
@@ -29,7 +30,7 @@ Laid lo [] end = lo ≤ end
 Laid lo (linear a b ∷ rs) end = (lo ≤ a) × (a < b) × Laid b rs end
 Laid lo (concurrent a b ∷ rs) end = (lo ≤ a) × (a < b) × Laid b rs end
 
--- the same of pairs of a first run and an end run
+-- The same of pairs of a first run and an end run
 abbrev pub Apart : ℕ → List (ℕ × ℕ) → ℕ → Type 0
 Apart lo [] end = lo ≤ end
 Apart lo (r ∷ rs) end = (lo ≤ r .0) × (r .0 < r .1) × Apart (r .1) rs end
@@ -38,24 +39,6 @@ laid-le : (lo : ℕ) (rs : List HistoryRange) (end : ℕ) → Laid lo rs end →
 laid-le lo [] end h = h
 laid-le lo (linear a b ∷ rs) end h = omega (arith, h .0, h .1, laid-le b rs end (h .2))
 laid-le lo (concurrent a b ∷ rs) end h = omega (arith, h .0, h .1, laid-le b rs end (h .2))
-
-up-lower : (lo low : ℕ) (xs : List ℕ) (n : ℕ) → low ≤ lo → Up lo xs n → Up low xs n
-up-lower lo low [] n q h = omega arith
-up-lower lo low (x ∷ xs) n q h = (omega (arith, h .0), h .1)
-
-up-filter : (p : ℕ → Bool) (lo : ℕ) (xs : List ℕ) (n : ℕ) → Up lo xs n → Up lo (filter p xs) n
-unfolding filter
-up-filter p lo [] n h = h
-up-filter p lo (x ∷ xs) n h = go (p x) (up-filter p (suc x) xs n (h .1))
-  where
-    go : (t : Bool) → Up (suc x) (filter p xs) n → Up lo (cond t (x ∷ filter p xs) (filter p xs)) n
-    go true ih = (h .0, ih)
-    go false ih = up-lower (suc x) lo (filter p xs) n (omega (arith, h .0)) ih
-
-up-from : (a k n : ℕ) → a + k ≤ n → Up a (from a k) n
-unfolding from
-up-from a zero n q = omega arith
-up-from a (suc k) n q = (omega arith, up-from (suc a) k n (omega arith))
 
 -- The marks rise and are runs
 pub marks-rise : (g : Graph) → Up 0 (marks g) (runs g)
@@ -91,22 +74,10 @@ cut-laid g f =
     let ms : List ℕ = filter (λ m. leb f m) (marks g) in
     join-laid 0 (rangesFrom ms (runs g)) (runs g) (ranges-apart 0 ms (runs g) (up-filter (λ m. leb f m) 0 (marks g) (runs g) (marks-rise g)))
 
-fitting-fit : (room : ℕ) (rs : List (List ℕ)) → length (concat (fitting room rs)) ≤ room
-unfolding fitting concat
-fitting-fit room [] = omega arith
-fitting-fit room (r ∷ rs) = go (leb (length r) room) refl (fitting-fit (room - length r) rs)
-  where
-    go : (t : Bool) → leb (length r) room ≡ t → length (concat (fitting (room - length r) rs)) ≤ room - length r →
-        length {A = ℕ} (concat (elim t as (λ _. List (List ℕ)) [ true ↦ r ∷ fitting (room - length r) rs | false ↦ [] ])) ≤ room
-    go true e ih = omega (arith, leb-true (length r) room e, ih, length-append r (concat (fitting (room - length r) rs)))
-    go false e ih = omega arith
-
 -- The row area keeps its length
 pub rowsInto-length : (w : Range) (rows : List ℕ) → length (rowsInto w rows) ≡ length rows
-unfolding rowsInto over
-rowsInto-length w rows =
-    let ws : List ℕ = concat (fitting (length rows) (w .rows)) in
-    omega (arith, length-append ws (drop (length ws) rows), length-drop (length ws) rows, fitting-fit (length rows) (w .rows))
+unfolding rowsInto
+rowsInto-length w rows = length-over (concat (fitting (length rows) (w .rows))) rows (fitting-fit (length rows) (w .rows))
 
 -- What a range of b - a runs leaves: done, at most 1,026 steps a run, and a row area of the length that it had
 abbrev Fine : ℕ → ℕ → ℕ → Replayed → Type 0

@@ -1,4 +1,4 @@
--- The runs of a plain log number its events. Assumes nothing.
+-- The runs of a plain log, and the events that they and the log hold: the runs number the events. Assumes nothing.
 use mathlib.Core.Path.{_≡_, refl, sym, ap, _∙_}
 use mathlib.Core.Logic.{_⊎_, inl, inr}
 use mathlib.Core.Bool.{Bool, true, false, not, _&&_}
@@ -9,9 +9,37 @@ use lib.Dec.{leb, ltb}
 use borrow.Author.Tests.{lt-ltb, le-ltb}
 use Rattle.lists.specs.Lists.{count}
 use Rattle.lists.proofs.Truth.{lt-or-le, lt-not}
-use Rattle.lists.proofs.Between.{within, within-in, within-before, within-after}
-use Rattle.lists.proofs.Rising.{Up, up-high, up-count}
+use Rattle.lists.proofs.Between.{within, within-in, within-before, within-after, within-true}
+use Rattle.lists.proofs.Rising.{Up, up-le, up-high, up-count}
 use Rattle.model.specs.Log.{Log, runStart, inRuns, heldBefore}
+
+-- Which events a log holds before event n
+pub held-is : (l : Log) (n e : ℕ) → l .firstHeld ≤ e → e < n → heldBefore l n e ≡ true
+unfolding heldBefore
+held-is l n e p q = within-in (l .firstHeld) n e p q
+
+pub held-not : (l : Log) (n e : ℕ) → (e < l .firstHeld) ⊎ (n ≤ e) → heldBefore l n e ≡ false
+unfolding heldBefore
+held-not l n e (inl p) = within-before (l .firstHeld) n e p
+held-not l n e (inr p) = within-after (l .firstHeld) n e p
+
+pub held-bounds : (l : Log) (n e : ℕ) → heldBefore l n e ≡ true → (l .firstHeld ≤ e) × (e < n)
+unfolding heldBefore
+held-bounds l n e h = within-true (l .firstHeld) n e h
+
+-- Which events runs x to y-1 hold
+pub in-is : (l : Log) (x y e : ℕ) → runStart l x ≤ e → e < runStart l y → inRuns l x y e ≡ true
+unfolding inRuns
+in-is l x y e p q = within-in (runStart l x) (runStart l y) e p q
+
+pub in-not : (l : Log) (x y e : ℕ) → (e < runStart l x) ⊎ (runStart l y ≤ e) → inRuns l x y e ≡ false
+unfolding inRuns
+in-not l x y e (inl p) = within-before (runStart l x) (runStart l y) e p
+in-not l x y e (inr p) = within-after (runStart l x) (runStart l y) e p
+
+pub in-bounds : (l : Log) (x y e : ℕ) → inRuns l x y e ≡ true → (runStart l x ≤ e) × (e < runStart l y)
+unfolding inRuns
+in-bounds l x y e h = within-true (runStart l x) (runStart l y) e h
 
 falses : (x y z : Bool) → x && false ≡ y && false && z
 falses true true z = refl
@@ -41,6 +69,11 @@ pub record Edged (l : Log) : Type 0 where
   pub first : runStart l 0 ≡ l .firstHeld
 
 module _ (l : Log) (E : Edged l) where
+  -- The next event is not before the first held one
+  pub first-next : l .firstHeld ≤ l .next
+  first-next = up-le (l .firstHeld) (l .edges) (l .next) (E .up)
+
+  -- An event is in runs a to b-1 if it is held and its run is one of them
   pub splits-of : (a b e : ℕ) → inRuns l a b e ≡ heldBefore l (l .next) e && within (a, b) (runOf l e)
   unfolding inRuns runStart heldBefore runOf
   splits-of a b e = go a b e (lt-or-le e (l .next))

@@ -3,7 +3,7 @@
 use mathlib.Core.Path.{_≡_, refl, sym, _∙_}
 use mathlib.Core.Logic.{_⊎_, inl, inr}
 use mathlib.Core.Bool.{Bool, true, false, _||_}
-use mathlib.Core.List.{List, [], _∷_, _++_}
+use mathlib.Core.List.{List, [], _∷_}
 use Prim.Native.Nat.{ℕ, zero, suc, _≤_, _<_}
 use native.Mathlib.Omega.{arith}
 use lib.ListN.{length, getD, List·getD-eq-default}
@@ -11,7 +11,8 @@ use lib.Dec.{leb, eqb}
 use borrow.Author.Tests.{ltb-true, le-leb, lt-leb, eq-eqb}
 use Rattle.lists.specs.Lists.{mem, count}
 use Rattle.lists.proofs.Truth.{false-true, or-right}
-use Rattle.lists.proofs.Members.{count-append, any-intro, any-elim, mem-filter}
+use Rattle.lists.proofs.Members.{getD-snoc, mem-filter, any-intro, any-elim}
+use Rattle.lists.proofs.Counts.{count-append}
 use Rattle.lists.proofs.Rising.{up-count}
 use Rattle.model.specs.EventGraph.{EventGraph, reaches}
 use Rattle.model.specs.Graph.{Graph, start, runs, len, firstHeld, containing, held}
@@ -34,24 +35,22 @@ pub record Front (g : Graph) (l : Log) : Type 0 where
   pub covers : (e : ℕ) → l .firstHeld ≤ e → e < l .next →
       (q : ℕ) × (mem q (g .frontier) ≡ true) × (l .firstHeld ≤ q) × ((e ≡ q) ⊎ (ancestors l q e ≡ true))
 
--- What every call keeps; the parents of an event are lower numbers, and only events of the log have any
+-- The parents of an event are lower numbers, and only events of the log have any
+abbrev pub ParentsLower : Log → Type 0
+ParentsLower l = (e p : ℕ) → mem p (l .parents e) ≡ true → (p < e) × (e < l .next)
+
+-- What every call keeps
 pub record Inv (g : Graph) (l : Log) : Type 0 where
   pub tied : Tied g l
   pub seen : Seen g l
   pub front : Front g l
-  pub lower : (e p : ℕ) → mem p (l .parents e) ≡ true → (p < e) × (e < l .next)
+  pub lower : ParentsLower l
 
 module _ (g : Graph) (l : Log) (t : Tied g l) where
   -- The graph's runs start where the log's do
   pub start-is : (r : ℕ) → r ≤ length (l .edges) → start g r ≡ runStart l r
   unfolding start runStart
-  start-is r le = rw (t .starts) (go (l .edges) r le)
-    where
-      go : (xs : List ℕ) (r : ℕ) → r ≤ length xs → getD (xs ++ l .next ∷ []) r 0 ≡ getD xs r (l .next)
-      go [] zero le = refl
-      go [] (suc r) le = absurd (omega arith)
-      go (x ∷ xs) zero le = refl
-      go (x ∷ xs) (suc r) le = go xs r (omega arith)
+  start-is r le = rw (t .starts) (getD-snoc (l .edges) (l .next) 0 r le)
 
   -- They have the same next event, first held event and held parents
   pub len-tied : len g ≡ l .next
@@ -103,6 +102,6 @@ reach-step k j G x e q m c le = reaches-more (suc k) j G x e le (any-intro (λ y
     go (inr z) = or-right (eqb e q) z
 
 -- The parents that the log's ancestors go by are lower numbers
-pub lower-tied : (l : Log) → ((e p : ℕ) → mem p (l .parents e) ≡ true → (p < e) × (e < l .next)) → Lower (eventGraph l)
+pub lower-tied : (l : Log) → ParentsLower l → Lower (eventGraph l)
 unfolding heldOf
 lower-tied l h e p m = (h e p ((mem-filter (λ q. leb (l .firstHeld) q) p (l .parents e) m) .0)) .0

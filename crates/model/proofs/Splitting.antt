@@ -6,30 +6,33 @@ use mathlib.Core.List.{List, [], _∷_, _++_, map}
 use Prim.Native.Nat.{ℕ, suc, _-_, _≤_, _<_}
 use native.Mathlib.Omega.{arith}
 use lib.ListN.{length, getD, length-map, List·getD-map}
-use lib.Dec.{leb, ltb, eqb}
+use lib.Dec.{leb, eqb}
 use borrow.Author.Tests.{leb-true, leb-false, eqb-true, lt-ltb, le-ltb, le-leb}
 use Rattle.lists.specs.Lists.{filter, mem, count, insertAt}
 use Rattle.lists.proofs.Truth.{lt-or-le, eq-or-not, false-true}
-use Rattle.lists.proofs.Members.{map-mem, getD-mem, mem-one}
-use Rattle.lists.proofs.Rising.{up-count, count-below}
+use Rattle.lists.proofs.Members.{mem-one, getD-mem, map-mem}
+use Rattle.lists.proofs.Counts.{count-le}
+use Rattle.lists.proofs.Rising.{up-count}
+use Rattle.lists.proofs.Inserts.{insert-length, insert-before, insert-at, insert-after, insert-append}
 use Rattle.model.specs.EventGraph.{reaches, ancestor}
 use Rattle.model.specs.Graph.{Graph, start}
 use Rattle.model.specs.History.{at}
 use Rattle.model.specs.Split.{renumber, split}
 use Rattle.model.specs.Log.{Log, runStart, heldOf, heldBefore, eventGraph, edge, logStart}
-use Rattle.model.proofs.Exact.{ancestors}
+use Rattle.model.proofs.FormedSplits.{renumber-below, renumber-from, renumber-le}
 use Rattle.model.proofs.Histories.{Below}
-use Rattle.model.proofs.Tied.{Tied, lastOf, alone, down}
+use Rattle.model.proofs.Exact.{ancestors}
+use Rattle.model.proofs.Tied.{lastOf, Tied, alone, down}
 use Rattle.model.proofs.Seen.{Seen, start-is, reaches-more}
-use Rattle.model.proofs.Inserting.{insert-length, insert-before, insert-here, insert-after, insert-append}
 use Rattle.model.proofs.Edges.{edge-is, edge-up, mem-edge}
 
 module _ (g : Graph) (l : Log) (t : Tied g l) (a r : ℕ) (lt : l .firstHeld < a) (hi : a < l .next) (new : mem a (l .edges) ≡ false)
     (run : suc r ≡ count (λ s. leb s a) (l .edges)) where
+  -- The split lies inside run r
   pub inside-run : (runStart l r < a) × (a < runStart l (suc r)) × (r < length (l .edges))
   unfolding runStart
   inside-run =
-      let below : suc r ≤ length (l .edges) = omega (arith, count-below (l .firstHeld) (l .edges) (l .next) a (t .edged .up)) in
+      let below : suc r ≤ length (l .edges) = omega (arith, count-le (λ s. leb s a) (l .edges)) in
       let p : getD (l .edges) r (l .next) ≤ a = leb-true (getD (l .edges) r (l .next)) a
       (up-count (l .firstHeld) (l .edges) (l .next) (t .edged .up) r a hi ∙ lt-ltb r (count (λ s. leb s a) (l .edges)) (omega arith)) in
       let q : a < getD (l .edges) (suc r) (l .next) = leb-false (getD (l .edges) (suc r) (l .next)) a
@@ -46,19 +49,20 @@ module _ (g : Graph) (l : Log) (t : Tied g l) (a r : ℕ) (lt : l .firstHeld < a
   abbrev l′ : Log
   l′ = logStart l a
 
+  -- Where the runs before the second part start, it and those after it
   run-before : (x : ℕ) → x ≤ r → runStart l′ x ≡ runStart l x
   unfolding runStart logStart
-  run-before x le = rw edges-are (insert-before (suc r) a (l .edges) (l .next) x (inside-run .2) (omega arith))
+  run-before x le = rw edges-are (insert-before (suc r) x a (l .next) (l .edges) (omega arith) (inside-run .2))
 
   run-here : runStart l′ (suc r) ≡ a
   unfolding runStart logStart
-  run-here = rw edges-are (insert-here (suc r) a (l .edges) (l .next) (inside-run .2))
+  run-here = rw edges-are (insert-at (suc r) a (l .next) (l .edges) (inside-run .2))
 
   run-after : (x : ℕ) → suc r ≤ x → runStart l′ (suc x) ≡ runStart l x
   unfolding runStart logStart
-  run-after x le = rw edges-are (insert-after (suc r) a (l .edges) (l .next) x (inside-run .2) le)
+  run-after x le = rw edges-are (insert-after (suc r) x a (l .next) (l .edges) le (inside-run .2))
 
-  -- Parents, run by run
+  -- The parents of the runs before the second part, of it and of those after it
   abbrev pub parents′ : List (List ℕ)
   parents′ = insertAt (suc r) (r ∷ []) (map (map (renumber r)) (g .parents))
 
@@ -71,29 +75,28 @@ module _ (g : Graph) (l : Log) (t : Tied g l) (a r : ℕ) (lt : l .firstHeld < a
 
   pub parents-before : (x : ℕ) → x ≤ r → at parents′ x ≡ map (renumber r) (at (g .parents) x)
   unfolding at
-  parents-before x le = insert-before (suc r) (r ∷ []) (map (map (renumber r)) (g .parents)) [] x (omega (arith, renumber-length, inside-run .2)) (omega arith) ∙ renumber-at x
+  parents-before x le = insert-before (suc r) x (r ∷ []) [] (map (map (renumber r)) (g .parents)) (omega arith) (omega (arith, renumber-length, inside-run .2)) ∙ renumber-at x
 
   pub parents-here : at parents′ (suc r) ≡ r ∷ []
   unfolding at
-  parents-here = insert-here (suc r) (r ∷ []) (map (map (renumber r)) (g .parents)) [] (omega (arith, renumber-length, inside-run .2))
+  parents-here = insert-at (suc r) (r ∷ []) [] (map (map (renumber r)) (g .parents)) (omega (arith, renumber-length, inside-run .2))
 
   pub parents-after : (x : ℕ) → suc r ≤ x → at parents′ (suc x) ≡ map (renumber r) (at (g .parents) x)
   unfolding at
-  parents-after x le = insert-after (suc r) (r ∷ []) (map (map (renumber r)) (g .parents)) [] x (omega (arith, renumber-length, inside-run .2)) le ∙ renumber-at x
+  parents-after x le = insert-after (suc r) x (r ∷ []) [] (map (map (renumber r)) (g .parents)) le (omega (arith, renumber-length, inside-run .2)) ∙ renumber-at x
 
   last-renumbered : (p : ℕ) → lastOf l′ (renumber r p) ≡ lastOf l p
-  unfolding renumber
   last-renumbered p = go (lt-or-le p r)
     where
-      go : (p < r) ⊎ (r ≤ p) → lastOf l′ (cond (ltb p r) p (suc p)) ≡ lastOf l p
-      go (inl c) = rw (lt-ltb p r c, run-before (suc p) c)
-      go (inr c) = rw (le-ltb p r c, run-after (suc p) (omega arith))
+      go : (p < r) ⊎ (r ≤ p) → lastOf l′ (renumber r p) ≡ lastOf l p
+      go (inl c) = rw (renumber-below r p c, run-before (suc p) c)
+      go (inr c) = rw (renumber-from r p c, run-after (suc p) (omega arith))
 
   lasts-renumbered : (ps : List ℕ) → map (lastOf l′) (map (renumber r) ps) ≡ map (lastOf l) ps
   lasts-renumbered [] = refl
   lasts-renumbered (p ∷ ps) = rw (last-renumbered p, lasts-renumbered ps)
 
-  -- An index is before, a or after the second part
+  -- A run is before the second part, is it, or is after it
   pub place : (x : ℕ) → (x ≤ r) ⊎ ((x ≡ suc r) ⊎ ((y : ℕ) × (x ≡ suc y) × (suc r ≤ y)))
   place x = go (lt-or-le r x) (eq-or-not x (suc r))
     where
@@ -101,18 +104,6 @@ module _ (g : Graph) (l : Log) (t : Tied g l) (a r : ℕ) (lt : l .firstHeld < a
       go (inr c) d = inl c
       go (inl c) (inl d) = inr (inl d)
       go (inl c) (inr d) = inr (inr (x - 1, omega arith, omega arith))
-
-  renumber-low : (p x : ℕ) → p < x → x ≤ r → renumber r p < x
-  unfolding renumber
-  renumber-low p x q c = rw (lt-ltb p r (omega arith)) q
-
-  renumber-high : (p x : ℕ) → p < x → renumber r p < suc x
-  unfolding renumber
-  renumber-high p x q = go (ltb p r)
-    where
-      go : (b : Bool) → cond b p (suc p) < suc x
-      go true = omega arith
-      go false = omega arith
 
   below′ : Below parents′
   below′ x p m = go (place x)
@@ -123,10 +114,10 @@ module _ (g : Graph) (l : Log) (t : Tied g l) (a r : ℕ) (lt : l .firstHeld < a
 
       go : (x ≤ r) ⊎ ((x ≡ suc r) ⊎ ((y : ℕ) × (x ≡ suc y) × (suc r ≤ y))) → p < x
       go (inl c) = let z : (q : ℕ) × (q < x) × (p ≡ renumber r q) = moved x (rw (parents-before x c) at m) in
-          omega (arith, z .2, renumber-low (z .0) x (z .1) c)
+          omega (arith, z .1, z .2, renumber-below r (z .0) (omega (arith, z .1)))
       go (inr (inl c)) = omega (arith, mem-one p r (rw (c, parents-here) at m))
       go (inr (inr c)) = let z : (q : ℕ) × (q < c .0) × (p ≡ renumber r q) = moved (c .0) (rw (c .1, parents-after (c .0) (c .2)) at m) in
-          omega (arith, z .2, renumber-high (z .0) (c .0) (z .1), c .1)
+          omega (arith, z .1, z .2, renumber-le r (z .0), c .1)
 
   held-one : (x : ℕ) → l .firstHeld ≤ x → heldOf l (x ∷ []) ≡ x ∷ []
   unfolding heldOf filter
@@ -163,7 +154,7 @@ module _ (g : Graph) (l : Log) (t : Tied g l) (a r : ℕ) (lt : l .firstHeld < a
     inside = λ e p q m. t .inside e p q (mem-edge e a (l .edges) m);
   }
 
-  -- Seen lengths
+  -- What the first part has seen, and the second
   abbrev own : ℕ
   own = getD (g .seen) r 0
 
@@ -175,13 +166,13 @@ module _ (g : Graph) (l : Log) (t : Tied g l) (a r : ℕ) (lt : l .firstHeld < a
     seen′ = insertAt (suc r) second (g .seen)
 
     seen-before : (x : ℕ) → x ≤ r → getD seen′ x 0 ≡ getD (g .seen) x 0
-    seen-before x c = insert-before (suc r) second (g .seen) 0 x (omega (arith, S .size, inside-run .2)) (omega arith)
+    seen-before x c = insert-before (suc r) x second 0 (g .seen) (omega arith) (omega (arith, S .size, inside-run .2))
 
     seen-here : getD seen′ (suc r) 0 ≡ second
-    seen-here = insert-here (suc r) second (g .seen) 0 (omega (arith, S .size, inside-run .2))
+    seen-here = insert-at (suc r) second 0 (g .seen) (omega (arith, S .size, inside-run .2))
 
     seen-after : (x : ℕ) → suc r ≤ x → getD seen′ (suc x) 0 ≡ getD (g .seen) x 0
-    seen-after x c = insert-after (suc r) second (g .seen) 0 x (omega (arith, S .size, inside-run .2)) c
+    seen-after x c = insert-after (suc r) x second 0 (g .seen) c (omega (arith, S .size, inside-run .2))
 
     second-bounds : (l .firstHeld ≤ second) × (second ≤ a)
     second-bounds = go (eqb own (start g r))

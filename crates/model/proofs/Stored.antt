@@ -1,20 +1,20 @@
 -- Between the record and the graph without padding: what is stored comes back, and a record is not broken exactly if it holds a
 -- well-formed graph within the limits. Assumes nothing.
-use mathlib.Core.Path.{_≡_, refl, ap, _∙_, sym, subst}
+use mathlib.Core.Path.{_≡_, refl, sym, ap, _∙_, subst}
 use mathlib.Core.Logic.{_↔_}
-use mathlib.Core.Bool.{Bool, true, false, cond, _&&_, _||_}
-use mathlib.Core.List.{List, [], _∷_}
-use Prim.Native.Nat.{ℕ, suc, _+_, _<_, _≤_}
+use mathlib.Core.Bool.{Bool, true, false, _&&_, _||_}
+use Prim.Native.Nat.{_+_, _≤_, _<_}
 use native.Mathlib.Omega.{arith}
 use lib.ListN.{length, take, drop, getD}
 use lib.Seq.{getD-take, length-take-le}
 use lib.Dec.{ltb, eqb}
-use borrow.Author.Tests.{ltb-false, le-ltb, eqb-true, eq-eqb, not-false}
-use Rattle.lists.specs.Lists.{filter, upto, same, rising, concat, sum}
+use borrow.Author.Tests.{ltb-false, eqb-true, le-ltb, eq-eqb, not-false}
+use Rattle.lists.specs.Lists.{upto, same, rising, concat, sum}
 use Rattle.lists.specs.Areas.{zeros, pad, groupStarts, groups, climbs}
 use Rattle.lists.proofs.Truth.{and-left, and-right, or-first, or-last}
-use Rattle.lists.proofs.Members.{same-eq, from-length}
-use Rattle.lists.proofs.Pads.{length-pad, take-pad, get-pad, zeros-past-pad, padded}
+use Rattle.lists.proofs.Members.{same-eq, same-self}
+use Rattle.lists.proofs.Counts.{from-length, filter-length}
+use Rattle.lists.proofs.Pads.{length-pad, take-pad, zeros-past-pad, get-pad, padded}
 use Rattle.lists.proofs.Groups.{length-concat, length-group-starts, first-group-start, climbs-whole, groups-concat, grouped-of}
 use Rattle.model.specs.declared.record.CausalGraph.{CausalGraph}
 use Rattle.model.specs.Graph.{Graph, runs, start, firstHeld, len, entries, marked, marks}
@@ -22,26 +22,9 @@ use Rattle.model.specs.Record.{view, store, Sized}
 use Rattle.model.specs.Broken.{parentsFit, frontierFits, seenFits, overLimit, badStarts, badGroups, badParents, badFrontier, badSeen, badMarks, badChanged, badPadding, broken, WellFormed, Limits, Held}
 
 -- The marks are no more than the runs
-
-pub filter-length : (p : ℕ → Bool) (xs : List ℕ) → length (filter p xs) ≤ length xs
-unfolding filter
-filter-length p [] = omega arith
-filter-length p (x ∷ xs) = go (p x) (filter-length p xs)
-  where
-    go : (t : Bool) → length (filter p xs) ≤ length xs → length (cond t (x ∷ filter p xs) (filter p xs)) ≤ suc (length xs)
-    go true h = omega arith
-    go false h = omega arith
-
 pub marks-length : (g : Graph) → length (marks g) ≤ runs g
 unfolding marks upto
 marks-length g = omega (arith, filter-length (marked g) (upto (runs g)), from-length 0 (runs g))
-
-pub same-self : (xs : List ℕ) → same xs xs ≡ true
-unfolding same
-same-self [] = refl
-same-self (x ∷ xs) = rw (eq-eqb x x refl) (same-self xs)
-
--- What is stored comes back
 
 starts-whole : (g : Graph) → WellFormed g → runs g + 1 ≡ length (g .starts)
 starts-whole g formed = omega (arith, formed .starts-count)
@@ -50,7 +33,7 @@ group-starts-whole : (g : Graph) → runs g + 1 ≡ length (groupStarts 0 (g .pa
 unfolding runs
 group-starts-whole g = omega (arith, length-group-starts 0 (g .parents))
 
--- the entries are as many as the items of the flat list of parents
+-- The entries are as many as the items of the flat list of parents
 pub entries-flat : (g : Graph) → entries g ≡ length (concat (g .parents))
 unfolding entries
 entries-flat g = sym (length-concat (g .parents))
@@ -92,9 +75,7 @@ held-store g formed limits =
 pub sized-held : (g : CausalGraph) → Held g → Sized g
 sized-held g held = subst Sized (sym (held .stored)) (sized-store (view g) (held .formed) (held .limits))
 
--- The clauses of `broken`
-
--- each clause denied
+-- Each clause of `broken` denied
 pub record Clauses (g : CausalGraph) : Type 0 where
   pub run-count : g .«run_count» ≤ 512
   pub entry-count : g .«entry_count» ≤ 2048
@@ -130,7 +111,7 @@ all-of-six a b c d e f h =
     let h₂ = and-left (a && b) c h₃ in
     (and-left a b h₂, and-right a b h₂, and-right (a && b) c h₃, and-right (a && b && c) d h₄, and-right (a && b && c && d) e h₅, and-right (a && b && c && d && e) f h)
 
--- a record that is not broken passes each clause
+-- A record that is not broken passes each clause
 pub clauses-of : (g : CausalGraph) → broken g ≡ false → Clauses g
 unfolding broken overLimit badStarts badGroups badParents badFrontier badSeen badMarks badChanged badPadding
 clauses-of g e =
@@ -162,7 +143,7 @@ clauses-of g e =
       past-marks = z .5;
     }
 
--- a record that passes each clause is not broken
+-- A record that passes each clause is not broken
 pub clauses-unbroken : (g : CausalGraph) → Clauses g → broken g ≡ false
 unfolding broken overLimit badStarts badGroups badParents badFrontier badSeen badMarks badChanged badPadding
 clauses-unbroken g w =
@@ -187,8 +168,6 @@ clauses-unbroken g w =
       w .past-seen,
       w .past-marks,
     )
-
--- Not broken, and held
 
 -- A record that is not broken is held
 pub held-of : (g : CausalGraph) → Sized g → broken g ≡ false → Held g
@@ -237,7 +216,7 @@ held-of g sized e =
       limits = record { runs = omega (arith, w .run-count, r); entries = omega (arith, w .entry-count, s); frontier = omega (arith, w .frontier-count, l₄) };
     }
 
--- a stored graph within the limits passes each clause
+-- A stored graph within the limits passes each clause
 clauses-store : (g : Graph) → WellFormed g → Limits g → Clauses (store g)
 unfolding store len firstHeld start
 clauses-store g formed limits =

@@ -3,37 +3,27 @@
 use mathlib.Core.Path.{_≡_, refl, sym, ap, _∙_, subst}
 use mathlib.Core.Bool.{Bool, true, false, not}
 use mathlib.Core.List.{List, [], _∷_}
-use Prim.Native.Nat.{ℕ, suc, _≤_, _<_, min}
+use Prim.Native.Nat.{ℕ, suc, _<_, min}
 use native.Mathlib.Omega.{arith}
-use lib.Dec.{leb, ltb, eqb}
-use borrow.Author.Tests.{ltb-true, leb-true, eq-eqb}
-use Rattle.lists.specs.Lists.{filter, mem, below}
-use Rattle.lists.proofs.Truth.{or-left, or-right}
-use Rattle.lists.proofs.Members.{all-at, mem-filter}
-use Rattle.lists.proofs.Filters.{least-le}
+use Rattle.lists.specs.Lists.{filter, mem}
+use Rattle.lists.proofs.Bounds.{least-le}
 use Rattle.model.specs.declared.answers.Outcome.the-variants.{Done}
-use Rattle.model.specs.Graph.{Graph, runs, start, firstHeld, len, containing, marked, marks, held, extends}
+use Rattle.model.specs.Graph.{Graph, runs, start, containing, marked, marks, held, extends}
 use Rattle.model.specs.Broken.{WellFormed}
-use Rattle.model.specs.Fresh.{fresh}
 use Rattle.model.specs.Split.{split, ends, splitAfter}
 use Rattle.model.specs.Push.{grown, joined, lowered, push, pushOutcome}
-use Rattle.model.specs.Start.{taken}
 use Rattle.model.specs.Claim.{runState}
-use Rattle.model.proofs.Lasting.{done-below, push-grows, push-joins, state-same, split-runs, split-start, split-first, split-len, split-parents, split-marked, held-inside, grown-start, grown-marked, lowered-state, joined-runs, joined-start, joined-parents, joined-keeps}
+use Rattle.model.proofs.FormedSplits.{split-runs}
+use Rattle.model.proofs.FormedSplitAll.{Inside, rest-inside, first-inside, first-formed, rest-after}
+use Rattle.model.proofs.FormedJoins.{joined-runs}
+use Rattle.model.proofs.FormedPush.{Accepted, accepted, push-grows, push-joins, held-inside, pushed-splits}
+use Rattle.model.proofs.Lasting.{state-same, split-start, split-parents, split-marked, grown-start, grown-marked, lowered-state, joined-start, joined-parents, joined-keeps}
 
 -- Every run below `changed_from` of g is as it is in a
 abbrev pub Since : Graph → Graph → Type 0
 Since a g = (r : ℕ) → r < g .changed → runState a r ≡ runState g r
 
--- Right after a take nothing differs
-pub since-taken : (g : Graph) → Since (taken g) (taken g)
-since-taken g r lt = refl
-
--- While `changed_from` is 0 there is no run to differ
-pub since-fresh : (events : ℕ) (frontier : List ℕ) (g : Graph) → g .changed ≡ 0 → Since (fresh events frontier) g
-since-fresh events frontier g e r lt = absurd (omega arith)
-
--- From 0 it stays 0
+-- `changed_from` stays 0 once it is 0
 pub split-zero : (g : Graph) (r at : ℕ) → g .changed ≡ 0 → split g r at .changed ≡ 0
 unfolding split
 split-zero g r at e = omega arith
@@ -70,49 +60,31 @@ pub since-split : (a g : Graph) (r at : ℕ) → WellFormed g → r < runs g →
 unfolding split
 since-split a g r at w b lo hi s q lt =
     s q (omega arith) ∙
-    state-same g (split g r at) q (omega arith) (omega (arith, split-runs g r at w b)) (sym (split-start g r at w b q (omega arith)))
-    (sym (split-start g r at w b (suc q) (omega arith))) (sym (split-parents g r at w b q (omega arith))) (sym (split-marked g r at w b lo q (omega arith)))
+    state-same g (split g r at) q (omega arith) (omega (arith, split-runs g r at)) (sym (split-start g w r at b q (omega arith)))
+    (sym (split-start g w r at b (suc q) (omega arith))) (sym (split-parents g w r at b q (omega arith))) (sym (split-marked g w r at b lo q (omega arith)))
 
--- What is asked of splits: each leaves a well-formed graph
-abbrev pub SplitsFormed : Type 0
-SplitsFormed = (g : Graph) (r at : ℕ) → WellFormed g → r < runs g → start g r < at → at < start g (suc r) → WellFormed (split g r at)
-
--- Splits after held events keep the runs below `changed_from`, and leave a well-formed graph
-pub since-splits : SplitsFormed → (a g : Graph) (ps : List ℕ) → WellFormed g →
-    ((p : ℕ) → mem p ps ≡ true → (firstHeld g ≤ p) × (p < len g)) → Since a g → WellFormed (splitAfter g ps) × Since a (splitAfter g ps)
-unfolding splitAfter mem
-since-splits keeps a g [] w h s = (w, s)
-since-splits keeps a g (p ∷ ps) w h s = go (ends g p) refl (λ x wx hx sx. since-splits keeps a x ps wx hx sx)
+-- Splits after rising held events keep the runs below `changed_from`
+pub since-splits : (a g : Graph) (ps : List ℕ) → WellFormed g → Inside g ps → Since a g → Since a (splitAfter g ps)
+unfolding splitAfter
+since-splits a g [] w i s = s
+since-splits a g (p ∷ ps) w i s =
+    go (ends g p) refl (since-splits a g ps w (rest-inside g w p ps i) s)
+    (λ e.
+    let k = first-inside g w p ps i e in
+    since-splits a (split g (containing g p) (suc p)) ps (first-formed g w p ps i e) (rest-after g w p ps i)
+    (since-split a g (containing g p) (suc p) w (k .0) (k .1) (k .2) s))
   where
-    inner : Graph
-    inner = split g (containing g p) (suc p)
-
-    Kept : Graph → Type 0
-    Kept x = WellFormed x × Since a x
-
-    at-p : (firstHeld g ≤ p) × (p < len g)
-    at-p = h p (or-left (mem p ps) (eq-eqb p p refl))
-
-    later : (x : ℕ) → mem x ps ≡ true → (firstHeld g ≤ x) × (x < len g)
-    later x m = h x (or-right (eqb x p) m)
-
-    go : (t : Bool) → ends g p ≡ t →
-        ((x : Graph) → WellFormed x → ((y : ℕ) → mem y ps ≡ true → (firstHeld x ≤ y) × (y < len x)) → Since a x → Kept (splitAfter x ps)) →
-        Kept (elim t as (λ _. Graph) [ true ↦ splitAfter g ps | false ↦ splitAfter (split g (containing g p) (suc p)) ps ])
-    go true e ih = ih g w later s
-    go false e ih =
-        let r : ℕ = containing g p in
-        let i : (r < runs g) × (start g r < suc p) × (suc p < start g (suc r)) = held-inside g p w (at-p .0) (at-p .1) e in
-        ih inner (keeps g r (suc p) w (i .0) (i .1) (i .2))
-        (λ y m. (omega (arith, later y m .0, split-first g r (suc p) w (i .0)), omega (arith, later y m .1, split-len g r (suc p) w (i .0))))
-        (since-split a g r (suc p) w (i .0) (i .1) (i .2) s)
+    go : (t : Bool) → ends g p ≡ t → Since a (splitAfter g ps) → (ends g p ≡ false → Since a (splitAfter (split g (containing g p) (suc p)) ps)) →
+        Since a (elim t as (λ _. Graph) [ true ↦ splitAfter g ps | false ↦ splitAfter (split g (containing g p) (suc p)) ps ])
+    go true e x y = x
+    go false e x y = y e
 
 -- A new run keeps the runs that keep their marks
 pub since-joined : (a s : Graph) (ps : List ℕ) (n : ℕ) → WellFormed s → Since a s → Since a (lowered s (joined s ps n))
 since-joined a s ps n w h q lt =
     let k : (q < runs s) × (q < s .changed) × (marked s q ≡ marked (joined s ps n) q) = joined-keeps s ps n w q lt in
     h q (k .1) ∙
-    state-same s (joined s ps n) q (k .0) (omega (arith, joined-runs s ps n w, k .0)) (joined-start s ps n w q (omega (arith, k .0)))
+    state-same s (joined s ps n) q (k .0) (omega (arith, joined-runs s ps n, k .0)) (joined-start s ps n w q (omega (arith, k .0)))
     (joined-start s ps n w (suc q) (k .0)) (joined-parents s ps n w q (k .0)) (k .2) ∙
     lowered-state s (joined s ps n) q
 
@@ -125,17 +97,12 @@ since-grown a g ps n w h q lt =
     (grown-marked g ps n w q (omega arith))
 
 -- A push keeps the runs below `changed_from`
-pub since-push : SplitsFormed → (a g : Graph) (ps : List ℕ) (n : ℕ) → WellFormed g → pushOutcome g ps n ≡ Done → Since a g → Since a (push g ps n)
-since-push keeps a g ps n w e s = go (extends g ps) refl
+pub since-push : (a g : Graph) (ps : List ℕ) (n : ℕ) → WellFormed g → pushOutcome g ps n ≡ Done → Since a g → Since a (push g ps n)
+since-push a g ps n w e s = go (extends g ps) refl (accepted g ps n e)
   where
-    inside : (p : ℕ) → mem p (held g ps) ≡ true → (firstHeld g ≤ p) × (p < len g)
-    inside p m = unfold held below in (
-      leb-true (firstHeld g) p (mem-filter (λ e. leb (firstHeld g) e) p ps m .1),
-      ltb-true p (len g) (all-at (λ x. ltb x (len g)) ps (done-below g ps n e) p (mem-filter (λ e. leb (firstHeld g) e) p ps m .0)),
-    )
-
-    go : (t : Bool) → extends g ps ≡ t → Since a (push g ps n)
-    go true x = subst (Since a) (sym (push-grows g ps n x)) (since-grown a g ps n w s)
-    go false x =
-        let k : WellFormed (splitAfter g (held g ps)) × Since a (splitAfter g (held g ps)) = since-splits keeps a g (held g ps) w inside s in
-        subst (Since a) (sym (push-joins g ps n x)) (since-joined a (splitAfter g (held g ps)) ps n (k .0) (k .1))
+    go : (t : Bool) → extends g ps ≡ t → Accepted g ps n → Since a (push g ps n)
+    go true x ok = subst (Since a) (sym (push-grows g ps n x)) (since-grown a g ps n w s)
+    go false x ok =
+        subst (Since a) (sym (push-joins g ps n x))
+        (since-joined a (splitAfter g (held g ps)) ps n (pushed-splits g w ps n ok .formed)
+        (since-splits a g (held g ps) w (held-inside g ps (ok .rises) (ok .known)) s))

@@ -1,6 +1,6 @@
--- Calls that end well have failed each test for a refusal. Assumes nothing.
+-- Tests for refusals, one after another: a call that is done has failed each. Assumes nothing.
 use mathlib.Core.Path.{_≡_, refl, ap}
-use mathlib.Core.Bool.{Bool, true, false, false≢true}
+use mathlib.Core.Bool.{Bool, true, false, cond, false≢true}
 use mathlib.Core.List.{List, _∷_}
 use Rattle.model.specs.declared.answers.Refusal.{Refusal}
 use Rattle.model.specs.declared.answers.Outcome.{Outcome}
@@ -15,8 +15,11 @@ endsWell (Refused r) = false
 pub refused-done : (r : Refusal) → Refused r ≡ Done → ⊥
 refused-done r e = false≢true (ap endsWell e)
 
--- The first test of a call that is done is false, and the tests after it refuse nothing
-pub firstOf-done : (b : Bool) (r : Refusal) (ts : List (Bool × Refusal)) → firstOf ((b, r) ∷ ts) ≡ Done → (b ≡ false) × (firstOf ts ≡ Done)
+-- Where no refusal applies, the first does not, and none of the later
+pub passed : (t : Bool × Refusal) (ts : List (Bool × Refusal)) → firstOf (t ∷ ts) ≡ Done → (t .0 ≡ false) × (firstOf ts ≡ Done)
 unfolding firstOf
-firstOf-done true r ts e = absurd (refused-done r e)
-firstOf-done false r ts e = (refl, e)
+passed t ts e = go (t .0) e
+  where
+    go : (b : Bool) → cond b (Refused (t .1)) (firstOf ts) ≡ Done → (b ≡ false) × (firstOf ts ≡ Done)
+    go true q = absurd (refused-done (t .1) q)
+    go false q = (refl, q)

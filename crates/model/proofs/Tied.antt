@@ -8,20 +8,20 @@ use Prim.Native.Nat.{ℕ, zero, suc, _+_, _-_, _≤_, _<_}
 use native.Mathlib.Omega.{arith}
 use lib.ListN.{length, getD}
 use lib.Dec.{leb, ltb, eqb}
-use borrow.Author.Tests.{ltb-true, leb-true, eqb-true, lt-ltb, le-ltb, le-leb, lt-leb, eq-eqb, ne-eqb}
+use borrow.Author.Tests.{eqb-true, lt-ltb, le-ltb, le-leb, lt-leb, eq-eqb, ne-eqb}
 use Rattle.lists.specs.Lists.{any, filter, mem}
-use Rattle.lists.proofs.Truth.{lt-or-le, eq-or-not, false-true, and-left, and-right, and-both, or-cases, or-right, bool-iff}
-use Rattle.lists.proofs.Between.{within, within-in, within-before, within-after}
-use Rattle.lists.proofs.Members.{any-intro, any-elim, mem-map, map-mem, mem-index, mem-one}
+use Rattle.lists.proofs.Truth.{lt-or-le, eq-or-not, false-true, not-so, bool-iff, and-right, and-both, or-cases, or-right}
+use Rattle.lists.proofs.Between.{within, within-in, within-before, within-after, within-true}
+use Rattle.lists.proofs.Members.{mem-one, mem-index, mem-map, map-mem, any-intro, any-elim}
 use Rattle.lists.proofs.Rising.{up-low, up-high, up-step, up-mono}
 use Rattle.model.specs.EventGraph.{parent, further, reaches, ancestor}
 use Rattle.model.specs.Graph.{Graph}
 use Rattle.model.specs.History.{at, histories}
 use Rattle.model.specs.Range.{parentsIn}
 use Rattle.model.specs.Log.{Log, runStart, inRuns, heldOf, heldBefore, eventGraph}
-use Rattle.model.proofs.Exact.{ancestors}
 use Rattle.model.proofs.Histories.{Below, Reach, history-is}
-use Rattle.model.proofs.Runs.{runOf, Edged, splits-of}
+use Rattle.model.proofs.Exact.{ancestors}
+use Rattle.model.proofs.Runs.{in-is, in-bounds, runOf, Edged, splits-of}
 
 -- A run's last event
 abbrev pub lastOf : Log → ℕ → ℕ
@@ -37,6 +37,7 @@ pub record Tied (g : Graph) (l : Log) : Type 0 where
   pub inside : (e : ℕ) → l .firstHeld ≤ e → e < l .next → mem e (l .edges) ≡ false → l .parents e ≡ (e - 1) ∷ []
 
 module _ (g : Graph) (l : Log) (t : Tied g l) where
+  -- Run starts lie between the first held event and the next one, and rise
   pub low : (r : ℕ) → l .firstHeld ≤ runStart l r
   unfolding runStart
   low r = up-low (l .firstHeld) (l .edges) (l .next) (t .edged .up) r
@@ -55,18 +56,15 @@ module _ (g : Graph) (l : Log) (t : Tied g l) where
 
   not-edge : (r x : ℕ) → runStart l r < x → x < runStart l (suc r) → mem x (l .edges) ≡ false
   unfolding runStart
-  not-edge r x p q = go (mem x (l .edges)) refl
+  not-edge r x p q = not-so (mem x (l .edges)) (λ e.
+      let k : (j : ℕ) × (j < length (l .edges)) × (getD (l .edges) j (l .next) ≡ x) = mem-index x (l .next) (l .edges) e in
+      cases (k .0) (k .2) (lt-or-le r (k .0)))
     where
-      go : (b : Bool) → mem x (l .edges) ≡ b → mem x (l .edges) ≡ false
-      go false e = e
-      go true e =
-          let k : (j : ℕ) × (j < length (l .edges)) × (getD (l .edges) j (l .next) ≡ x) = mem-index x (l .next) (l .edges) e in
-          cases (k .0) (k .2) (lt-or-le r (k .0))
-        where
-          cases : (j : ℕ) → getD (l .edges) j (l .next) ≡ x → (r < j) ⊎ (j ≤ r) → mem x (l .edges) ≡ false
-          cases j e (inl h) = absurd (omega (arith, mono (suc r) j h))
-          cases j e (inr h) = absurd (omega (arith, mono j r h))
+      cases : (j : ℕ) → getD (l .edges) j (l .next) ≡ x → (r < j) ⊎ (j ≤ r) → ⊥
+      cases j e (inl h) = omega (arith, mono (suc r) j h)
+      cases j e (inr h) = omega (arith, mono j r h)
 
+  -- Inside a run each event has the one before it as its only parent
   pub alone : (r x : ℕ) → runStart l r < x → x < runStart l (suc r) → l .parents x ≡ (x - 1) ∷ []
   alone r x p q = t .inside x (omega (arith, low r)) (omega (arith, high (suc r))) (not-edge r x p q)
 
@@ -163,23 +161,17 @@ module _ (g : Graph) (l : Log) (t : Tied g l) where
 
   -- The run of an event that lies in run s
   pub run-is : (s e : ℕ) → runStart l s ≤ e → e < runStart l (suc s) → runOf l e ≡ s
-  unfolding inRuns
   run-is s e p q =
-      let i : heldBefore l (l .next) e && within (s, suc s) (runOf l e) ≡ true =
-      sym (splits-of l (t .edged) s (suc s) e) ∙ and-both (leb (runStart l s) e) (ltb e (runStart l (suc s))) (le-leb (runStart l s) e p) (lt-ltb e (runStart l (suc s)) q) in
-      let w : leb s (runOf l e) && ltb (runOf l e) (suc s) ≡ true = and-right (heldBefore l (l .next) e) (within (s, suc s) (runOf l e)) i in
-      omega (arith, leb-true s (runOf l e) (and-left (leb s (runOf l e)) (ltb (runOf l e) (suc s)) w), ltb-true (runOf l e) (suc s) (and-right (leb s (runOf l e)) (ltb (runOf l e) (suc s)) w))
+      let i : heldBefore l (l .next) e && within (s, suc s) (runOf l e) ≡ true = sym (splits-of l (t .edged) s (suc s) e) ∙ in-is l s (suc s) e p q in
+      let w = within-true s (suc s) (runOf l e) (and-right (heldBefore l (l .next) e) (within (s, suc s) (runOf l e)) i) in
+      omega (arith, w .0, w .1)
 
   -- An event lies in its run
   pub in-run : (e : ℕ) → heldBefore l (l .next) e ≡ true → (runStart l (runOf l e) ≤ e) × (e < runStart l (suc (runOf l e)))
-  unfolding inRuns
   in-run e h =
-      let i : inRuns l (runOf l e) (suc (runOf l e)) e ≡ true =
-      splits-of l (t .edged) (runOf l e) (suc (runOf l e)) e ∙
-      and-both (heldBefore l (l .next) e) (within (runOf l e, suc (runOf l e)) (runOf l e)) h (within-in (runOf l e) (suc (runOf l e)) (runOf l e) (omega arith) (omega arith)) in (
-        leb-true (runStart l (runOf l e)) e (and-left (leb (runStart l (runOf l e)) e) (ltb e (runStart l (suc (runOf l e)))) i),
-        ltb-true e (runStart l (suc (runOf l e))) (and-right (leb (runStart l (runOf l e)) e) (ltb e (runStart l (suc (runOf l e)))) i),
-      )
+      let r : ℕ = runOf l e in
+      in-bounds l r (suc r) e
+      (splits-of l (t .edged) r (suc r) e ∙ and-both (heldBefore l (l .next) e) (within (r, suc r) r) h (within-in r (suc r) r (omega arith) (omega arith)))
 
   -- The ancestors of a run, event by event
   pub ancestors-are : (r e : ℕ) → r < length (l .edges) → heldBefore l (l .next) e ≡ true →

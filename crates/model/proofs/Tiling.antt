@@ -9,6 +9,7 @@ use lib.Dec.{leb, eqb, leb·zero}
 use borrow.Author.Tests.{eqb-true}
 use Rattle.lists.specs.Lists.{filter, from, upto}
 use Rattle.lists.proofs.Truth.{eq-or-not}
+use Rattle.lists.proofs.Counts.{filter-true}
 use Rattle.model.specs.Graph.{Graph, runs, marked, marks}
 use Rattle.model.specs.Cut.{HistoryRange, linear, concurrent, rangesFrom, joinLinear, joinRanges, cutFrom}
 
@@ -18,6 +19,7 @@ Tiles M a [] end = a ≡ end
 Tiles M a (linear x y ∷ cs) end = (x ≡ a) × (x < y) × ((r : ℕ) → x ≤ r → r < y → M r) × Tiles M y cs end
 Tiles M a (concurrent x y ∷ cs) end = (x ≡ a) × (x < y) × M x × Tiles M y cs end
 
+-- They end where they say
 pub tiles-le : (M : ℕ → Type 0) (cs : List HistoryRange) (a end : ℕ) → Tiles M a cs end → a ≤ end
 tiles-le M [] a end h = omega arith
 tiles-le M (linear x y ∷ cs) a end h = omega (arith, h .0, h .1, tiles-le M cs y end (h .3))
@@ -67,11 +69,6 @@ filter-marks M p a (suc k) end e h = go (p a) refl (filter-marks M p (suc a) k e
     go : (t : Bool) → p a ≡ t → Marks M (suc a) (filter p (from (suc a) k)) end → Marks M a (cond t (a ∷ filter p (from (suc a) k)) (filter p (from (suc a) k))) end
     go true q ih = (omega arith, h a (omega arith) q, omega arith, ih)
     go false q ih = marks-later M a (suc a) (filter p (from (suc a) k)) end (omega arith) ih
-
-filter-true : (p : ℕ → Bool) (xs : List ℕ) → ((x : ℕ) → p x ≡ true) → filter p xs ≡ xs
-unfolding filter
-filter-true p [] h = refl
-filter-true p (x ∷ xs) h = rw (h x, filter-true p xs h)
 
 module _ (g : Graph) (M : ℕ → Type 0) (first : marked g 0 ≡ true) (each : (r : ℕ) → r < runs g → marked g r ≡ true → M r) where
   tiles-from : (n : ℕ) → runs g ≡ n → Tiles M 0 (joinRanges (rangesFrom (filter (marked g) (from 0 n)) n)) n

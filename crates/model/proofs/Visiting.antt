@@ -15,9 +15,9 @@ use Rattle.model.specs.Choice.{Range, isReady, newlyReady, choice}
 use Rattle.model.specs.Steps.{Step, retreat, advance, apply, visit, visits}
 use Rattle.model.specs.Log.{Log}
 use Rattle.model.specs.PlainSet.{Events}
-use Rattle.model.proofs.Exact.{Exact, wanted}
+use Rattle.model.proofs.Exact.{wanted, Exact}
 use Rattle.model.proofs.Moves.{stretchesOf}
-use Rattle.model.proofs.Following.{Numbered, lift, lift-visited, moves-hold, moves-are, stepAt, holds, retreats-right, advances-right}
+use Rattle.model.proofs.Following.{stepAt, holds, retreats-right, advances-right, moves-are, Numbered, lift, moves-hold, lift-visited}
 use Rattle.model.proofs.Choosing.{readyAfter, FineRun, choice-fine}
 
 -- The walk's range w, of n runs from run a on, is that of the log

@@ -12,7 +12,7 @@ use borrow.Author.Tests.{lt-ltb, le-ltb, le-leb, lt-leb}
 use Rattle.lists.specs.Lists.{bit, mem, count, upto}
 use Rattle.lists.proofs.Truth.{lt-or-le, false-true}
 use Rattle.lists.proofs.Between.{within, within-in, within-before, within-after, count-between}
-use Rattle.lists.proofs.Members.{mem-occurs, occurs-upto}
+use Rattle.lists.proofs.Counts.{mem-occurs, occurs-upto}
 use Rattle.lists.proofs.Each.{All}
 use Rattle.model.specs.Graph.{Graph, start}
 use Rattle.model.specs.History.{at}
@@ -21,16 +21,16 @@ use Rattle.model.specs.Choice.{Range, rangeOf, newlyReady}
 use Rattle.model.specs.Steps.{stepsOf, visits, movedIn}
 use Rattle.model.specs.Log.{Log, runStart, inRuns, heldBefore}
 use Rattle.model.specs.PlainSet.{Events}
-use Rattle.model.proofs.Exact.{ancestors, wanted, Exact, sumBy, Followed}
 use Rattle.model.proofs.Histories.{history-length, parents-length, parents-below}
+use Rattle.model.proofs.Exact.{ancestors, wanted, Exact, sumBy, Followed}
 use Rattle.model.proofs.Runs.{runOf, splits-of}
-use Rattle.model.proofs.Seen.{start-is}
 use Rattle.model.proofs.Tied.{Tied, low, high, mono, in-range}
+use Rattle.model.proofs.Seen.{start-is}
 use Rattle.model.proofs.Following.{Numbered, lift}
+use Rattle.model.proofs.Visiting.{Fits, newly-below, visits-right}
 use Rattle.model.proofs.Kahn.{left-le, listed-first}
-use Rattle.model.proofs.Once.{once, due-first}
-use Rattle.model.proofs.Visiting.{Fits, visits-right, newly-below}
-use Rattle.model.proofs.Moved.{visits-moved, events}
+use Rattle.model.proofs.Once.{due-first, once}
+use Rattle.model.proofs.Moved.{events, visits-moved}
 
 module _ (g : Graph) (l : Log) (t : Tied g l) where
   -- The log's runs number its events; the events of s, which lie before run a, stay
