@@ -13,3 +13,8 @@ pub mod Inserts
 -- Lists in areas
 pub mod Pads
 pub mod Groups
+-- Turns of the code's loops
+pub mod Scanning
+pub mod Fitting
+pub mod Inserting
+pub mod Keeping

@@ -1,3 +1,4 @@
 -- Plain lists, and nothing of graphs.
 pub mod Lists
 pub mod Areas
+pub mod Scans

@@ -1,1 +1,299 @@
-// Plain lists: what they are as sets, tables and areas is in specs/. It knows nothing of graphs.
+// Scans, insertions and filters over lists of numbers. What they find and leave is in specs/. It knows nothing of graphs.
+ghost use mathlib.Core.Path.{_≡_};
+ghost use mathlib.Core.Bool.{Bool, true, false, not, _&&_};
+ghost use mathlib.Core.List.{[]};
+ghost use Prim.Native.Nat.{ℕ, suc, _+_, _<_, _≤_, _^_, min, max};
+ghost use lib.ListN.{getD, length, take, drop};
+ghost use Rattle.lists.specs.Lists.{rising, below, mem, same, filter};
+ghost use Rattle.lists.specs.Areas.{zeros, climbs, groups, part};
+ghost use Rattle.lists.specs.Scans.{lastAtMost, grow, insertIn, groupsFit, between, keptIn, addIn, addIf};
+
+// Whether the first n are strictly rising.
+pub fn is_rising(s: &[u32], n: usize) -> bool
+    requires { ⌜ n ≤ length (now s) ⌝ }
+    ensures { λ r. ⌜ r ≡ rising (take n (now (s .entry))) ⌝ }
+{
+    let mut i = 1;
+    while i < n {
+        if s[i] <= s[i - 1] {
+            return false;
+        }
+        i += 1;
+    }
+    true
+}
+
+// Whether every place from `from` on is 0.
+pub fn is_zero_from(s: &[u32], from: usize) -> bool
+    ensures { λ r. ⌜ r ≡ zeros (drop from (now (s .entry))) ⌝ }
+{
+    let mut i = from;
+    while i < s.len() {
+        if s[i] != 0 {
+            return false;
+        }
+        i += 1;
+    }
+    true
+}
+
+// Whether the first n are below `limit`.
+pub fn all_below(s: &[u32], n: usize, limit: u32) -> bool
+    requires { ⌜ n ≤ length (now s) ⌝ }
+    ensures { λ r. ⌜ r ≡ below limit (take n (now (s .entry))) ⌝ }
+{
+    let mut i = 0;
+    while i < n {
+        if s[i] >= limit {
+            return false;
+        }
+        i += 1;
+    }
+    true
+}
+
+// Whether x is among the first n.
+pub fn is_among(s: &[u32], n: usize, x: u32) -> bool
+    requires { ⌜ n ≤ length (now s) ⌝ }
+    ensures { λ r. ⌜ r ≡ mem x (take n (now (s .entry))) ⌝ }
+{
+    let mut i = 0;
+    while i < n {
+        if x == s[i] {
+            return true;
+        }
+        i += 1;
+    }
+    false
+}
+
+// Whether the first n of one list are the first m of another.
+pub fn is_same(a: &[u32], n: usize, b: &[u32], m: usize) -> bool
+    requires { ⌜ n ≤ length (now a) ⌝ }
+    requires { ⌜ m ≤ length (now b) ⌝ }
+    ensures { λ r. ⌜ r ≡ same (take n (now (a .entry))) (take m (now (b .entry))) ⌝ }
+{
+    if n != m {
+        return false;
+    }
+    let mut i = 0;
+    while i < n {
+        if a[i] != b[i] {
+            return false;
+        }
+        i += 1;
+    }
+    true
+}
+
+// The last place below n whose number is at most e, or 0.
+pub fn last_at_most(s: &[u32], n: usize, e: u32) -> usize
+    requires { ⌜ n ≤ length (now s) ⌝ }
+    ensures { λ r. ⌜ r ≡ lastAtMost (now (s .entry)) e n ⌝ }
+{
+    let mut i = n;
+    while 0 < i {
+        i -= 1;
+        if s[i] <= e {
+            return i;
+        }
+    }
+    0
+}
+
+// Whether the first n never fall, and the last of them is `last`.
+pub fn is_climb(s: &[u32], n: usize, last: usize) -> bool
+    requires { ⌜ 0 < n ⌝ }
+    requires { ⌜ n ≤ length (now s) ⌝ }
+    ensures { λ r. ⌜ r ≡ climbs last (take n (now (s .entry))) ⌝ }
+{
+    let mut i = 1;
+    while i < n {
+        if s[i] < s[i - 1] {
+            return false;
+        }
+        i += 1;
+    }
+    s[n - 1] as usize == last
+}
+
+// Whether a group is strictly rising and below its number.
+pub fn group_fits(items: &[u32], from: usize, to: usize, number: u32) -> bool
+    requires { ⌜ from ≤ to ⌝ }
+    requires { ⌜ to ≤ length (now items) ⌝ }
+    ensures { λ r. ⌜ r ≡ rising (part from to (now (items .entry))) && below number (part from to (now (items .entry))) ⌝ }
+{
+    let group = &items[from..to];
+    let n = to - from;
+    if !is_rising(group, n) {
+        return false;
+    }
+    all_below(group, n, number)
+}
+
+// Whether each of n groups, from group 0 on, is strictly rising and below its number.
+pub fn groups_fit<'a>(starts: &'a [u32], n: usize, items: &'a [u32], count: usize) -> bool
+    requires { ⌜ n < 2 ^ 32 ⌝ }
+    requires { ⌜ n < length (now starts) ⌝ }
+    requires { ⌜ count ≤ length (now items) ⌝ }
+    requires { ⌜ climbs count (take (n + 1) (now starts)) ≡ true ⌝ }
+    ensures { λ r. ⌜ r ≡ groupsFit 0 (groups (take (n + 1) (now (starts .entry))) (take count (now (items .entry)))) ⌝ }
+{
+    let mut r = 0;
+    while r < n {
+        let next = r + 1;
+        if !group_fits(items, starts[r] as usize, starts[next] as usize, r as u32) {
+            return false;
+        }
+        r += 1;
+    }
+    true
+}
+
+// Whether each of n numbers is at least `first` and at most the number at its place in another list.
+pub fn is_between<'a>(first: u32, highs: &'a [u32], s: &'a [u32], n: usize) -> bool
+    requires { ⌜ n < length (now highs) ⌝ }
+    requires { ⌜ n ≤ length (now s) ⌝ }
+    ensures { λ r. ⌜ r ≡ between first (take (n + 1) (now (highs .entry))) (take n (now (s .entry))) ⌝ }
+{
+    let mut i = 0;
+    while i < n {
+        if s[i] < first {
+            return false;
+        }
+        if highs[i] < s[i] {
+            return false;
+        }
+        i += 1;
+    }
+    true
+}
+
+pub fn smaller(a: u32, b: u32) -> u32
+    ensures { λ r. ⌜ r ≡ min a b ⌝ }
+{
+    if a <= b { a } else { b }
+}
+
+pub fn larger(a: u32, b: u32) -> u32
+    ensures { λ r. ⌜ r ≡ max a b ⌝ }
+{
+    if a <= b { b } else { a }
+}
+
+// At most 512 numbers: `count` of them, then zeros.
+pub struct Kept {
+    pub items: [u32; 512],
+    pub count: usize,
+}
+
+pub fn nothing() -> Kept
+    ensures { λ r. ⌜ r ≡ keptIn [] ⌝ }
+{
+    Kept {
+        items: [0; 512],
+        count: 0,
+    }
+}
+
+// One number more.
+pub fn add(k: Kept, v: u32) -> Kept
+    requires { ⌜ k .count < 512 ⌝ }
+    ensures { λ r. ⌜ r ≡ addIn k v ⌝ }
+{
+    let mut h = k;
+    let n = k.count;
+    h.items[n] = v;
+    h.count = n + 1;
+    h
+}
+
+// The same where a test passes.
+pub fn add_if(b: bool, k: Kept, v: u32) -> Kept
+    requires { ⌜ k .count < 512 ⌝ }
+    ensures { λ r. ⌜ r ≡ addIf b k v ⌝ }
+{
+    if b {
+        return add(k, v);
+    }
+    k
+}
+
+// Those of the first n that are not among `ps`.
+pub fn keep_all(a: &[u32], n: usize, ps: &[u32]) -> Kept
+    requires { ⌜ n ≤ length (now a) ⌝ }
+    requires { ⌜ n ≤ 512 ⌝ }
+    ensures { λ r. ⌜ r ≡ keptIn (filter (λ e. not (mem e (now (ps .entry)))) (take n (now (a .entry)))) ⌝ }
+{
+    let mut k = nothing();
+    let mut i = 0;
+    while i < n {
+        k = add_if(!is_among(ps, ps.len(), a[i]), k, a[i]);
+        i += 1;
+    }
+    k
+}
+
+fn grown(v: u32, from: u32, by: u32) -> u32
+    requires { ⌜ (0 < by → v + by < 2 ^ 32) ⌝ }
+    ensures { λ r. ⌜ r ≡ grow from by v ⌝ }
+{
+    if from <= v { v + by } else { v }
+}
+
+// Puts `item` in at `at` among the first n, each later number from `from` on grown by `by` as it shifts.
+pub fn insert_and_grow(a: &mut [u32], n: usize, at: usize, item: u32, from: u32, by: u32)
+    requires { ⌜ n < length (now a) ⌝ }
+    requires { ⌜ at ≤ n ⌝ }
+    requires { ⌜ (0 < by → (k : ℕ) → k < n → getD (now a) k 0 + by < 2 ^ 32) ⌝ }
+    ensures { λ _. ⌜ now (a .exit) ≡ insertIn n at item (grow from by) (now (a .entry)) ⌝ }
+{
+    let mut i = n;
+    while at < i {
+        let v = grown(a[i - 1], from, by);
+        a[i] = v;
+        i -= 1;
+    }
+    a[at] = item;
+}
+
+// The same over an array by value, for each size in use.
+pub fn put_in_2048(
+    a: [u32; 2048],
+    n: usize,
+    at: usize,
+    item: u32,
+    from: u32,
+    by: u32,
+) -> [u32; 2048]
+    requires { ⌜ n < 2048 ⌝ }
+    requires { ⌜ at ≤ n ⌝ }
+    requires { ⌜ (0 < by → (k : ℕ) → k < n → getD a k 0 + by < 2 ^ 32) ⌝ }
+    ensures { λ r. ⌜ r ≡ insertIn n at item (grow from by) a ⌝ }
+{
+    let mut b = a;
+    insert_and_grow(&mut b, n, at, item, from, by);
+    b
+}
+
+pub fn put_in_513(a: [u32; 513], n: usize, at: usize, item: u32, from: u32, by: u32) -> [u32; 513]
+    requires { ⌜ n < 513 ⌝ }
+    requires { ⌜ at ≤ n ⌝ }
+    requires { ⌜ (0 < by → (k : ℕ) → k < n → getD a k 0 + by < 2 ^ 32) ⌝ }
+    ensures { λ r. ⌜ r ≡ insertIn n at item (grow from by) a ⌝ }
+{
+    let mut b = a;
+    insert_and_grow(&mut b, n, at, item, from, by);
+    b
+}
+
+pub fn put_in_512(a: [u32; 512], n: usize, at: usize, item: u32, from: u32, by: u32) -> [u32; 512]
+    requires { ⌜ n < 512 ⌝ }
+    requires { ⌜ at ≤ n ⌝ }
+    requires { ⌜ (0 < by → (k : ℕ) → k < n → getD a k 0 + by < 2 ^ 32) ⌝ }
+    ensures { λ r. ⌜ r ≡ insertIn n at item (grow from by) a ⌝ }
+{
+    let mut b = a;
+    insert_and_grow(&mut b, n, at, item, from, by);
+    b
+}

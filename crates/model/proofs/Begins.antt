@@ -13,14 +13,15 @@ use Rattle.model.specs.declared.answers.Outcome.{Outcome}
 use Rattle.model.specs.declared.answers.Outcome.the-variants.{Done, Refused}
 use Rattle.model.specs.Graph.{runs, start, firstHeld, len, entries}
 use Rattle.model.specs.Record.{store}
-use Rattle.model.specs.Broken.{parentsFit, frontierFits, seenFits, broken, WellFormed, Limits, Held}
+use Rattle.lists.specs.Scans.{groupsFit, between}
+use Rattle.model.specs.Broken.{frontierFits, broken, WellFormed, Limits, Held}
 use Rattle.model.specs.Fresh.{fresh, newOf, afterOutcome, afterOf}
 use Rattle.model.proofs.Stored.{held-store, not-broken}
 use Rattle.model.proofs.Tests.{passed}
 
 -- A graph with no runs is well-formed if its frontier is rising and below its events
 pub fresh-formed : (events : ℕ) (frontier : List ℕ) → rising frontier ≡ true → below events frontier ≡ true → WellFormed (fresh events frontier)
-unfolding fresh runs start firstHeld len rising parentsFit frontierFits seenFits
+unfolding fresh runs start firstHeld len rising groupsFit frontierFits between
 fresh-formed events frontier r b = record {
   starts-count = refl;
   seen-count = refl;

@@ -20,8 +20,8 @@ use Rattle.model.specs.Record.{view, store}
 use Rattle.model.specs.Broken.{broken, WellFormed, Limits, Held}
 use Rattle.model.specs.Fresh.{fresh, newOf, afterOutcome, afterOf}
 use Rattle.model.specs.Split.{split}
-use Rattle.model.specs.Push.{push as pushGraph, pushOutcome, pushed, pushRefused, pushOf}
-use Rattle.model.specs.Start.{Starting, answers, splitting, starting, splitOutcome, told, startRefused, startRunAtOf, taken, takeChangedFromOf}
+use Rattle.model.specs.Push.{push as pushGraph, pushOutcome, pushed, pushRefused, pushHeldOf, pushOf}
+use Rattle.model.specs.Start.{Starting, answers, splitting, starting, splitOutcome, told, startRefused, startHeldOf, startRunAtOf, taken, takeHeldOf, takeChangedFromOf}
 use Rattle.model.specs.Log.{Fresh, new, after, Call, push, startRunAt, takeChangedFrom, Log, begin, answer, emptyLog, beginLog, logPush, logStart, note, afterCalls}
 use Rattle.model.specs.Claim.{isTake, takeless}
 use Rattle.model.proofs.Stored.{view-store, held-store}
@@ -49,7 +49,7 @@ module _ (P : Graph → Log → Type 0) (K : Keeps P) where
   module _ (g : CausalGraph) (l : Log) (G : Kept P g l) where
     -- A push, a run start and a take, on the record
     push-keeps : (ps : List ℕ) (n : ℕ) → Kept P (pushOf g ps n .graph) (note l (push ps n) (pushOf g ps n .answer))
-    unfolding pushOf pushed pushRefused note
+    unfolding pushOf pushHeldOf pushed pushRefused note
     push-keeps ps n = go (broken g) (pushOutcome (view g) ps n) refl
       where
         out : Bool → Outcome → Pushed
@@ -64,7 +64,7 @@ module _ (P : Graph → Log → Type 0) (K : Keeps P) where
         go false Done e = stored (pushGraph (view g) ps n) (logPush l ps n) (K .pushes (view g) l (G .fact) ps n e)
 
     start-keeps : (at : ℕ) → Kept P (startRunAtOf g at .graph) (note l (startRunAt at) (startRunAtOf g at .answer))
-    unfolding startRunAtOf told startRefused note
+    unfolding startRunAtOf startHeldOf told startRefused note
     start-keeps at = go (broken g) (starting (view g) at) refl (splitOutcome (view g)) refl
       where
         out : Bool → Starting → Outcome → Started
@@ -85,7 +85,7 @@ module _ (P : Graph → Log → Type 0) (K : Keeps P) where
         go false splitting e Done q = stored (split (view g) (containing (view g) at) at) (logStart l at) (K .splits (view g) l (G .fact) at e q)
 
     take-keeps : P (taken (view g)) l → Kept P (takeChangedFromOf g .graph) l
-    unfolding takeChangedFromOf
+    unfolding takeChangedFromOf takeHeldOf
     take-keeps p = go (broken g)
       where
         go : (b : Bool) → Kept P ((elim b as (λ _. Taken) [

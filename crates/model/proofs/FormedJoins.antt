@@ -16,7 +16,8 @@ use Rattle.lists.proofs.Counts.{length-snoc, sum-snoc}
 use Rattle.lists.proofs.Rising.{rising-snoc, rising-filter, rising-map, rising-take}
 use Rattle.lists.proofs.Bounds.{below-of, below-at, below-getD, below-snoc, largest-least, largest-most, least-le}
 use Rattle.model.specs.Graph.{Graph, runs, start, firstHeld, len, entries, containing, marks, held}
-use Rattle.model.specs.Broken.{WellFormed, parentsFit, frontierFits, seenFits}
+use Rattle.lists.specs.Scans.{groupsFit, between}
+use Rattle.model.specs.Broken.{WellFormed, frontierFits}
 use Rattle.model.specs.Split.{ends}
 use Rattle.model.specs.Push.{staying, grown, parentRuns, seenAfter, newSeen, joined, lowered}
 use Rattle.model.proofs.FormedReads.{parents-row, parents-first, start-len, first-len, containing-in, containing-less, seenAfter-within, frontier-rising, frontier-below}
@@ -37,27 +38,27 @@ frontier-snoc n l v f r b e =
     (and-both (rising (f ++ v ∷ [])) (below l (f ++ v ∷ [])) (rising-snoc f v r b) under)
     (or-right (eqb n 0) (and-both (ltb 0 (length (f ++ v ∷ []))) _ filled last))
 
-parents-snoc : (k : ℕ) (pss : List (List ℕ)) (ps : List ℕ) → parentsFit k pss ≡ true → rising ps ≡ true → below (k + length pss) ps ≡ true →
-    parentsFit k (pss ++ ps ∷ []) ≡ true
+parents-snoc : (k : ℕ) (pss : List (List ℕ)) (ps : List ℕ) → groupsFit k pss ≡ true → rising ps ≡ true → below (k + length pss) ps ≡ true →
+    groupsFit k (pss ++ ps ∷ []) ≡ true
 parents-snoc k [] ps e r b =
     let z : k + 0 ≡ k = omega arith in
-    parents-row k ps [] r (rw z at b) (unfold parentsFit in refl)
+    parents-row k ps [] r (rw z at b) (unfold groupsFit in refl)
 parents-snoc k (qs ∷ pss) ps e r b =
     let w = parents-first k qs pss e in
     let z : k + suc (length pss) ≡ suc k + length pss = omega arith in
     parents-row k qs (pss ++ ps ∷ []) (w .0) (w .1) (parents-snoc (suc k) pss ps (w .2) r (rw z at b))
 
-seen-snoc : (f v s : ℕ) (xs ss : List ℕ) → length xs ≡ suc (length ss) → seenFits f xs ss ≡ true → f ≤ s → s ≤ getD xs (length ss) 0 →
-    seenFits f (xs ++ v ∷ []) (ss ++ s ∷ []) ≡ true
-unfolding seenFits
+seen-snoc : (f v s : ℕ) (xs ss : List ℕ) → length xs ≡ suc (length ss) → between f xs ss ≡ true → f ≤ s → s ≤ getD xs (length ss) 0 →
+    between f (xs ++ v ∷ []) (ss ++ s ∷ []) ≡ true
+unfolding between
 seen-snoc f v s [] ss n e a b = absurd (omega arith)
 seen-snoc f v s (x ∷ xs) [] n e a b = and-both (leb f s && leb s x) _ (and-both (leb f s) (leb s x) (le-leb f s a) (le-leb s x b)) refl
 seen-snoc f v s (x ∷ xs) (t ∷ ss) n e a b =
-    and-both (leb f t && leb t x) _ (and-left (leb f t && leb t x) (seenFits f xs ss) e)
-    (seen-snoc f v s xs ss (omega arith) (and-right (leb f t && leb t x) (seenFits f xs ss) e) a b)
+    and-both (leb f t && leb t x) _ (and-left (leb f t && leb t x) (between f xs ss) e)
+    (seen-snoc f v s xs ss (omega arith) (and-right (leb f t && leb t x) (between f xs ss) e) a b)
 
-seen-grown : (f n v : ℕ) (xs ss : List ℕ) → length ss ≤ n → n ≤ length xs → seenFits f (take n xs ++ v ∷ []) ss ≡ seenFits f xs ss
-unfolding seenFits
+seen-grown : (f n v : ℕ) (xs ss : List ℕ) → length ss ≤ n → n ≤ length xs → between f (take n xs ++ v ∷ []) ss ≡ between f xs ss
+unfolding between
 seen-grown f n v xs [] h k = refl
 seen-grown f zero v xs (s ∷ ss) h k = absurd (omega arith)
 seen-grown f (suc n) v [] (s ∷ ss) h k = absurd (omega arith)
@@ -130,7 +131,7 @@ module _ (g : Graph) (formed : WellFormed g) (ps : List ℕ) (n : ℕ) (some : 0
       count-is : length (take (runs g) (g .starts) ++ (len g + n) ∷ []) ≡ suc (runs g)
       count-is = omega (arith, length-snoc (take (runs g) (g .starts)) (len g + n), length-take (runs g) (g .starts), formed .starts-count)
 
-      seen-is : seenFits (firstHeld g) (take (runs g) (g .starts) ++ (len g + n) ∷ []) (g .seen) ≡ true
+      seen-is : between (firstHeld g) (take (runs g) (g .starts) ++ (len g + n) ∷ []) (g .seen) ≡ true
       seen-is =
           seen-grown (firstHeld g) (runs g) (len g + n) (g .starts) (g .seen) (omega (arith, formed .seen-count)) (omega (arith, formed .starts-count))
           ∙ formed .seen
@@ -180,7 +181,7 @@ module _ (g : Graph) (formed : WellFormed g) (ps : List ℕ) (n : ℕ) (some : 0
           less : (x y : ℕ) → mem x (held g ps) ≡ true → mem y (held g ps) ≡ true → x < y → containing g x < containing g y
           less x y m k l = containing-less g formed x y (inside .1 x m .0) l (inside .1 y k .1) (ended x m)
 
-      joined-parents : parentsFit 0 (g .parents ++ parentRuns g ps ∷ []) ≡ true
+      joined-parents : groupsFit 0 (g .parents ++ parentRuns g ps ∷ []) ≡ true
       joined-parents =
           let z : 0 + length (g .parents) ≡ runs g = unfold runs in omega arith in
           parents-snoc 0 (g .parents) (parentRuns g ps) (formed .parents) parentRuns-rising
@@ -207,7 +208,7 @@ module _ (g : Graph) (formed : WellFormed g) (ps : List ℕ) (n : ℕ) (some : 0
           seen-end : newSeen g ps ≤ getD (g .starts) (length (g .seen)) 0
           seen-end = rw (formed .seen-count) (unfold len start in newSeen-within .1)
 
-          seen-is : seenFits (firstHeld g) (g .starts ++ (len g + n) ∷ []) (g .seen ++ newSeen g ps ∷ []) ≡ true
+          seen-is : between (firstHeld g) (g .starts ++ (len g + n) ∷ []) (g .seen ++ newSeen g ps ∷ []) ≡ true
           seen-is =
               seen-snoc (firstHeld g) (len g + n) (newSeen g ps) (g .starts) (g .seen) counts (formed .seen) (newSeen-within .0) seen-end
 

@@ -15,38 +15,39 @@ use Rattle.lists.proofs.Members.{mem-index, getD-mem}
 use Rattle.lists.proofs.Rising.{rising-getD, rising-count}
 use Rattle.lists.proofs.Bounds.{below-at}
 use Rattle.model.specs.Graph.{Graph, runs, start, firstHeld, len, containing}
-use Rattle.model.specs.Broken.{WellFormed, frontierFits, seenFits, parentsFit}
+use Rattle.lists.specs.Scans.{between, groupsFit}
+use Rattle.model.specs.Broken.{WellFormed, frontierFits}
 use Rattle.model.specs.Split.{ends}
 use Rattle.model.specs.Push.{seenAfter}
 
 -- Each seen length that fits lies between its bounds
-pub seenFits-at : (f : ℕ) (xs ss : List ℕ) → seenFits f xs ss ≡ true → (i : ℕ) → i < length ss → (f ≤ getD ss i 0) × (getD ss i 0 ≤ getD xs i 0)
-unfolding seenFits
-seenFits-at f xs [] e i h = absurd (omega arith)
-seenFits-at f [] (s ∷ ss) e i h = false-true e
-seenFits-at f (x ∷ xs) (s ∷ ss) e zero h =
-    let p : leb f s && leb s x ≡ true = and-left (leb f s && leb s x) (seenFits f xs ss) e in
+pub between-at : (f : ℕ) (xs ss : List ℕ) → between f xs ss ≡ true → (i : ℕ) → i < length ss → (f ≤ getD ss i 0) × (getD ss i 0 ≤ getD xs i 0)
+unfolding between
+between-at f xs [] e i h = absurd (omega arith)
+between-at f [] (s ∷ ss) e i h = false-true e
+between-at f (x ∷ xs) (s ∷ ss) e zero h =
+    let p : leb f s && leb s x ≡ true = and-left (leb f s && leb s x) (between f xs ss) e in
     (leb-true f s (and-left (leb f s) (leb s x) p), leb-true s x (and-right (leb f s) (leb s x) p))
-seenFits-at f (x ∷ xs) (s ∷ ss) e (suc i) h = seenFits-at f xs ss (and-right (leb f s && leb s x) (seenFits f xs ss) e) i (omega arith)
+between-at f (x ∷ xs) (s ∷ ss) e (suc i) h = between-at f xs ss (and-right (leb f s && leb s x) (between f xs ss) e) i (omega arith)
 
 -- A run's parents before those of the later runs: both fit, or neither
-pub parents-row : (k : ℕ) (ps : List ℕ) (pss : List (List ℕ)) → rising ps ≡ true → below k ps ≡ true → parentsFit (suc k) pss ≡ true →
-    parentsFit k (ps ∷ pss) ≡ true
-unfolding parentsFit
-parents-row k ps pss a b e = and-both (rising ps && below k ps) (parentsFit (suc k) pss) (and-both (rising ps) (below k ps) a b) e
+pub parents-row : (k : ℕ) (ps : List ℕ) (pss : List (List ℕ)) → rising ps ≡ true → below k ps ≡ true → groupsFit (suc k) pss ≡ true →
+    groupsFit k (ps ∷ pss) ≡ true
+unfolding groupsFit
+parents-row k ps pss a b e = and-both (rising ps && below k ps) (groupsFit (suc k) pss) (and-both (rising ps) (below k ps) a b) e
 
-pub parents-first : (k : ℕ) (ps : List ℕ) (pss : List (List ℕ)) → parentsFit k (ps ∷ pss) ≡ true →
-    (rising ps ≡ true) × (below k ps ≡ true) × (parentsFit (suc k) pss ≡ true)
-unfolding parentsFit
+pub parents-first : (k : ℕ) (ps : List ℕ) (pss : List (List ℕ)) → groupsFit k (ps ∷ pss) ≡ true →
+    (rising ps ≡ true) × (below k ps ≡ true) × (groupsFit (suc k) pss ≡ true)
+unfolding groupsFit
 parents-first k ps pss e =
-    let q : rising ps && below k ps ≡ true = and-left (rising ps && below k ps) (parentsFit (suc k) pss) e in
-    (and-left (rising ps) (below k ps) q, and-right (rising ps) (below k ps) q, and-right (rising ps && below k ps) (parentsFit (suc k) pss) e)
+    let q : rising ps && below k ps ≡ true = and-left (rising ps && below k ps) (groupsFit (suc k) pss) e in
+    (and-left (rising ps) (below k ps) q, and-right (rising ps) (below k ps) q, and-right (rising ps && below k ps) (groupsFit (suc k) pss) e)
 
 -- Parents that fit are below their run
-pub parentsFit-at : (k : ℕ) (pss : List (List ℕ)) → parentsFit k pss ≡ true → (i : ℕ) → i < length pss → (p : ℕ) → mem p (getD pss i []) ≡ true → p < k + i
-parentsFit-at k [] e i h p m = absurd (omega arith)
-parentsFit-at k (ps ∷ pss) e zero h p m = omega (arith, below-at k ps (parents-first k ps pss e .1) p m)
-parentsFit-at k (ps ∷ pss) e (suc i) h p m = omega (arith, parentsFit-at (suc k) pss (parents-first k ps pss e .2) i (omega arith) p m)
+pub groupsFit-at : (k : ℕ) (pss : List (List ℕ)) → groupsFit k pss ≡ true → (i : ℕ) → i < length pss → (p : ℕ) → mem p (getD pss i []) ≡ true → p < k + i
+groupsFit-at k [] e i h p m = absurd (omega arith)
+groupsFit-at k (ps ∷ pss) e zero h p m = omega (arith, below-at k ps (parents-first k ps pss e .1) p m)
+groupsFit-at k (ps ∷ pss) e (suc i) h p m = omega (arith, groupsFit-at (suc k) pss (parents-first k ps pss e .2) i (omega arith) p m)
 
 module _ (g : Graph) (formed : WellFormed g) where
   -- Starts never fall, from the first held event to `len`
@@ -105,7 +106,7 @@ module _ (g : Graph) (formed : WellFormed g) where
 
   -- What a run has seen lies between the first held event and its start
   pub seen-within : (r : ℕ) → r < runs g → (firstHeld g ≤ getD (g .seen) r 0) × (getD (g .seen) r 0 ≤ start g r)
-  seen-within r h = unfold start in seenFits-at (firstHeld g) (g .starts) (g .seen) (formed .seen) r (omega (arith, formed .seen-count))
+  seen-within r h = unfold start in between-at (firstHeld g) (g .starts) (g .seen) (formed .seen) r (omega (arith, formed .seen-count))
 
   -- and "seen after" it between the first held event and `len`
   pub seenAfter-within : (r : ℕ) → r < runs g → (firstHeld g ≤ seenAfter g r) × (seenAfter g r ≤ len g)

@@ -15,7 +15,8 @@ use Rattle.lists.proofs.Rising.{rising-map}
 use Rattle.lists.proofs.Bounds.{below-of, below-at}
 use Rattle.lists.proofs.Inserts.{insert-length, insert-before, insert-after, insert-sum, insert-new, insert-other, insert-keeps, insert-rising}
 use Rattle.model.specs.Graph.{Graph, runs, start, firstHeld, len, entries}
-use Rattle.model.specs.Broken.{WellFormed, parentsFit, frontierFits, seenFits}
+use Rattle.lists.specs.Scans.{groupsFit, between}
+use Rattle.model.specs.Broken.{WellFormed, frontierFits}
 use Rattle.model.specs.Split.{renumber, split, ends}
 use Rattle.model.proofs.FormedReads.{parents-row, parents-first}
 
@@ -66,16 +67,16 @@ renumber-up r k ps b = below-of (suc k) (map (renumber r) ps) one
         let w : (x : ℕ) × (mem x ps ≡ true) × (y ≡ renumber r x) = map-mem (renumber r) y ps m in
         omega (arith, w .2, renumber-le r (w .0), below-at k ps b (w .0) (w .1))
 
-parents-up : (r k : ℕ) (pss : List (List ℕ)) → parentsFit k pss ≡ true → parentsFit (suc k) (map (map (renumber r)) pss) ≡ true
-parents-up r k [] e = unfold parentsFit in refl
+parents-up : (r k : ℕ) (pss : List (List ℕ)) → groupsFit k pss ≡ true → groupsFit (suc k) (map (map (renumber r)) pss) ≡ true
+parents-up r k [] e = unfold groupsFit in refl
 parents-up r k (ps ∷ pss) e =
     let q = parents-first k ps pss e in
     parents-row (suc k) (map (renumber r) ps) (map (map (renumber r)) pss) (renumber-rising r ps (q .0)) (renumber-up r k ps (q .1))
     (parents-up r (suc k) pss (q .2))
 
 -- The parents with the second part put in after the first
-parents-insert : (k i r : ℕ) (pss : List (List ℕ)) → i < length pss → r ≡ k + i → parentsFit k pss ≡ true →
-    parentsFit k (insertAt (suc i) (r ∷ []) (map (map (renumber r)) pss)) ≡ true
+parents-insert : (k i r : ℕ) (pss : List (List ℕ)) → i < length pss → r ≡ k + i → groupsFit k pss ≡ true →
+    groupsFit k (insertAt (suc i) (r ∷ []) (map (map (renumber r)) pss)) ≡ true
 unfolding insertAt
 parents-insert k i r [] h q e = absurd (omega arith)
 parents-insert k zero r (ps ∷ pss) h q e =
@@ -91,7 +92,7 @@ parents-insert k zero r (ps ∷ pss) h q e =
     one : (x : ℕ) → mem x (r ∷ []) ≡ true → x < suc k
     one x m = omega (arith, mem-one x r m)
 
-    second : parentsFit (suc k) ((r ∷ []) ∷ map (map (renumber r)) pss) ≡ true
+    second : groupsFit (suc k) ((r ∷ []) ∷ map (map (renumber r)) pss) ≡ true
     second =
         let later = parents-up r (suc k) pss (parents-first k ps pss e .2) in
         parents-row (suc k) (r ∷ []) (map (map (renumber r)) pss) (unfold rising in refl) (below-of (suc k) (r ∷ []) one) later
@@ -110,23 +111,23 @@ seen-insert :
     (f i at : ℕ) (xs ss : List ℕ) →
     i < length xs →
     i < length ss →
-    seenFits f xs ss ≡ true →
+    between f xs ss ≡ true →
     getD xs i 0 < at →
-    seenFits f (insertAt (suc i) at xs) (insertAt (suc i) (cond (eqb (getD ss i 0) (getD xs i 0)) at (getD ss i 0)) ss) ≡ true
-unfolding seenFits insertAt
+    between f (insertAt (suc i) at xs) (insertAt (suc i) (cond (eqb (getD ss i 0) (getD xs i 0)) at (getD ss i 0)) ss) ≡ true
+unfolding between insertAt
 seen-insert f i at [] ss h k e a = absurd (omega arith)
 seen-insert f i at (x ∷ xs) [] h k e a = absurd (omega arith)
 seen-insert f zero at (x ∷ xs) (s ∷ ss) h k e a =
-    let p : leb f s && leb s x ≡ true = and-left (leb f s && leb s x) (seenFits f xs ss) e in
+    let p : leb f s && leb s x ≡ true = and-left (leb f s && leb s x) (between f xs ss) e in
     let q = one (eqb s x) (leb-true f s (and-left (leb f s) (leb s x) p)) (leb-true s x (and-right (leb f s) (leb s x) p)) in
-    and-both (leb f s && leb s x) _ p (and-both _ (seenFits f xs ss) q (and-right (leb f s && leb s x) (seenFits f xs ss) e))
+    and-both (leb f s && leb s x) _ p (and-both _ (between f xs ss) q (and-right (leb f s && leb s x) (between f xs ss) e))
   where
     one : (t : Bool) → f ≤ s → s ≤ x → leb f (cond t at s) && leb (cond t at s) at ≡ true
     one true l m = and-both (leb f at) (leb at at) (le-leb f at (omega arith)) (le-leb at at (omega arith))
     one false l m = and-both (leb f s) (leb s at) (le-leb f s l) (le-leb s at (omega arith))
 seen-insert f (suc i) at (x ∷ xs) (s ∷ ss) h k e a =
-    and-both (leb f s && leb s x) _ (and-left (leb f s && leb s x) (seenFits f xs ss) e)
-    (seen-insert f i at xs ss (omega arith) (omega arith) (and-right (leb f s && leb s x) (seenFits f xs ss) e) a)
+    and-both (leb f s && leb s x) _ (and-left (leb f s && leb s x) (between f xs ss) e)
+    (seen-insert f i at xs ss (omega arith) (omega arith) (and-right (leb f s && leb s x) (between f xs ss) e) a)
 
 -- The frontier's clause asks only whether there are runs
 frontier-runs : (n m l : ℕ) (f : List ℕ) → 0 < n → 0 < m → frontierFits n l f ≡ frontierFits m l f
@@ -171,7 +172,7 @@ module _ (g : Graph) (formed : WellFormed g) (r at : ℕ) (inside : r < runs g) 
   split-frontier-fits = frontier-runs (runs (split g r at)) (runs g) (len g) (g .frontier) (omega (arith, split-runs g r at)) (omega arith)
       ∙ formed .frontier
 
-  split-seen-fits : start g r < at → seenFits (firstHeld g) (split g r at .starts) (split g r at .seen) ≡ true
+  split-seen-fits : start g r < at → between (firstHeld g) (split g r at .starts) (split g r at .seen) ≡ true
   unfolding split start
   split-seen-fits a =
       seen-insert (firstHeld g) r at (g .starts) (g .seen) (omega (arith, formed .starts-count)) (omega (arith, formed .seen-count)) (formed .seen) a

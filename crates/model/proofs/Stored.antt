@@ -19,7 +19,8 @@ use Rattle.lists.proofs.Groups.{length-concat, length-group-starts, first-group
 use Rattle.model.specs.declared.record.CausalGraph.{CausalGraph}
 use Rattle.model.specs.Graph.{Graph, runs, start, firstHeld, len, entries, marked, marks}
 use Rattle.model.specs.Record.{view, store, Sized}
-use Rattle.model.specs.Broken.{parentsFit, frontierFits, seenFits, overLimit, badStarts, badGroups, badParents, badFrontier, badSeen, badMarks, badChanged, badPadding, broken, WellFormed, Limits, Held}
+use Rattle.lists.specs.Scans.{groupsFit, between}
+use Rattle.model.specs.Broken.{frontierFits, overLimit, badStarts, badGroups, badParents, badFrontier, badSeen, badMarks, badChanged, badPadding, broken, WellFormed, Limits, Held}
 
 -- The marks are no more than the runs
 pub marks-length : (g : Graph) → length (marks g) ≤ runs g
@@ -84,9 +85,9 @@ pub record Clauses (g : CausalGraph) : Type 0 where
   pub starts : rising (view g .starts) ≡ true
   pub first-group : getD (g .«parent_starts») 0 0 ≡ 0
   pub groups-climb : climbs (g .«entry_count») (take (g .«run_count» + 1) (g .«parent_starts»)) ≡ true
-  pub parents : parentsFit 0 (view g .parents) ≡ true
+  pub parents : groupsFit 0 (view g .parents) ≡ true
   pub frontier : frontierFits (g .«run_count») (getD (g .starts) (g .«run_count») 0) (view g .frontier) ≡ true
-  pub seen : seenFits (getD (g .starts) 0 0) (view g .starts) (view g .seen) ≡ true
+  pub seen : between (getD (g .starts) 0 0) (view g .starts) (view g .seen) ≡ true
   pub the-marks : take (g .«mark_count») (g .«critical_versions») ≡ marks (view g)
   pub changed : g .«changed_from» .0 ≤ g .«run_count»
   pub past-starts : zeros (drop (g .«run_count» + 1) (g .starts)) ≡ true

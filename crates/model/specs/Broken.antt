@@ -8,25 +8,15 @@ use lib.ListN.{length, take, drop, getD}
 use lib.Dec.{leb, ltb, eqb}
 use Rattle.lists.specs.Lists.{rising, below, same}
 use Rattle.lists.specs.Areas.{zeros, climbs}
+use Rattle.lists.specs.Scans.{groupsFit, between}
 use Rattle.model.specs.declared.record.CausalGraph.{CausalGraph}
 use Rattle.model.specs.Graph.{Graph, runs, entries, firstHeld, len, marks}
 use Rattle.model.specs.Record.{view, store}
-
--- each run's parents, the first being run r's, are strictly rising and below it
-unfoldable pub parentsFit : ℕ → List (List ℕ) → Bool
-parentsFit r [] = true
-parentsFit r (ps ∷ pss) = rising ps && below r ps && parentsFit (suc r) pss
 
 -- the frontier is rising and below `len`, and its last is `len` - 1 where there are runs
 unfoldable pub frontierFits : ℕ → ℕ → List ℕ → Bool
 frontierFits runs len f =
     rising f && below len f && (eqb runs 0 || (ltb 0 (length f) && eqb (suc (getD f (length f - 1) 0)) len))
-
--- each seen length is at least the first held event and at most its run's start
-unfoldable pub seenFits : ℕ → List ℕ → List ℕ → Bool
-seenFits f starts [] = true
-seenFits f [] (s ∷ ss) = false
-seenFits f (x ∷ xs) (s ∷ ss) = leb f s && leb s x && seenFits f xs ss
 
 -- "a count passes its limit"
 unfoldable pub overLimit : CausalGraph → Bool
@@ -42,7 +32,7 @@ badGroups g = not (eqb (getD (g .«parent_starts») 0 0) 0 && climbs (g .«entry
 
 -- "a run's parents are not strictly rising and below it"
 unfoldable pub badParents : CausalGraph → Bool
-badParents g = not (parentsFit 0 (view g .parents))
+badParents g = not (groupsFit 0 (view g .parents))
 
 -- "the frontier is not rising and below `len` (its last is `len`-1 where there are runs)"
 unfoldable pub badFrontier : CausalGraph → Bool
@@ -50,7 +40,7 @@ badFrontier g = not (frontierFits (g .«run_count») (getD (g .starts) (g .«run
 
 -- "a seen length is below first held or above its run's start"
 unfoldable pub badSeen : CausalGraph → Bool
-badSeen g = not (seenFits (getD (g .starts) 0 0) (view g .starts) (view g .seen))
+badSeen g = not (between (getD (g .starts) 0 0) (view g .starts) (view g .seen))
 
 -- "the marks are not the set below"
 unfoldable pub badMarks : CausalGraph → Bool
@@ -90,9 +80,9 @@ pub record WellFormed (g : Graph) : Type 0 where
   pub starts-count : length (g .starts) ≡ suc (runs g)
   pub seen-count : length (g .seen) ≡ runs g
   pub starts : rising (g .starts) ≡ true
-  pub parents : parentsFit 0 (g .parents) ≡ true
+  pub parents : groupsFit 0 (g .parents) ≡ true
   pub frontier : frontierFits (runs g) (len g) (g .frontier) ≡ true
-  pub seen : seenFits (firstHeld g) (g .starts) (g .seen) ≡ true
+  pub seen : between (firstHeld g) (g .starts) (g .seen) ≡ true
   pub changed : g .changed ≤ runs g
 
 -- "At most 512 runs, 2,048 parent entries, 512 frontier events"

@@ -93,9 +93,10 @@ pushed g ps n = record { graph = store (push g ps n); answer = Events (record { 
 unfoldable pub pushRefused : CausalGraph → Refusal → Pushed
 pushRefused g r = record { graph = g; answer = RefusedEvents r }
 
+-- `push(parents, len)` on a graph that is not broken
+unfoldable pub pushHeldOf : CausalGraph → List ℕ → ℕ → Pushed
+pushHeldOf g ps n = elim (pushOutcome (view g) ps n) [ Done ↦ pushed (view g) ps n | Refused r ↦ pushRefused g r ]
+
 -- `push(parents, len)`
 unfoldable pub pushOf : CausalGraph → List ℕ → ℕ → Pushed
-pushOf g ps n = elim (broken g) [
-  | true ↦ pushRefused g Broken
-  | false ↦ elim (pushOutcome (view g) ps n) [ Done ↦ pushed (view g) ps n | Refused r ↦ pushRefused g r ]
-]
+pushOf g ps n = elim (broken g) [ true ↦ pushRefused g Broken | false ↦ pushHeldOf g ps n ]

@@ -48,25 +48,27 @@ told g b = record { graph = g; answer = Told b }
 unfoldable pub startRefused : CausalGraph → Refusal → Started
 startRefused g r = record { graph = g; answer = RefusedBool r }
 
+-- `start_run_at(at)` on a graph that is not broken
+unfoldable pub startHeldOf : CausalGraph → ℕ → Started
+startHeldOf g at =
+    let a = view g in
+    elim (starting a at) [
+      | answers b ↦ told g b
+      | splitting ↦ elim (splitOutcome a) [ Done ↦ told (store (split a (containing a at) at)) true | Refused r ↦ startRefused g r ]
+    ]
+
 -- `start_run_at(at)`
 unfoldable pub startRunAtOf : CausalGraph → ℕ → Started
-startRunAtOf g at =
-    let a = view g in
-    elim (broken g) [
-      | true ↦ startRefused g Broken
-      | false ↦ elim (starting a at) [
-        | answers b ↦ told g b
-        | splitting ↦ elim (splitOutcome a) [ Done ↦ told (store (split a (containing a at) at)) true | Refused r ↦ startRefused g r ]
-      ]
-    ]
+startRunAtOf g at = elim (broken g) [ true ↦ startRefused g Broken | false ↦ startHeldOf g at ]
 
 -- "`take_changed_from` gives `changed_from` and sets it to the run count"
 unfoldable pub taken : Graph → Graph
 taken g = record { starts = g .starts; parents = g .parents; frontier = g .frontier; seen = g .seen; changed = runs g }
 
+-- `take_changed_from()` on a graph that is not broken
+unfoldable pub takeHeldOf : CausalGraph → Taken
+takeHeldOf g = record { graph = store (taken (view g)); answer = Run (g .«changed_from») }
+
 -- `take_changed_from()`
 unfoldable pub takeChangedFromOf : CausalGraph → Taken
-takeChangedFromOf g = elim (broken g) [
-  | true ↦ record { graph = g; answer = RefusedRun Broken }
-  | false ↦ record { graph = store (taken (view g)); answer = Run (g .«changed_from») }
-]
+takeChangedFromOf g = elim (broken g) [ true ↦ record { graph = g; answer = RefusedRun Broken } | false ↦ takeHeldOf g ]
