@@ -1,17 +1,18 @@
 -- Numbers kept in an area one after another, and filters of a list that grows at its end. Assumes nothing.
 use mathlib.Core.Path.{_≡_, refl, ap}
 use mathlib.Core.Bool.{Bool, true, false, cond}
-use mathlib.Core.List.{List, [], _∷_, _++_, append-assoc}
-use Prim.Native.Nat.{ℕ, suc, _+_, _-_, _≤_, _<_}
+use mathlib.Core.List.{List, [], _∷_, _++_}
+use Prim.Native.Nat.{ℕ, _+_, _-_, _≤_, _<_}
 use native.Mathlib.Numerals.{add-one}
 use native.Mathlib.Omega.{arith}
-use lib.ListN.{length, take, getD, set, replicate, length-append, length-take, length-replicate}
-use lib.Seq.{set-at, take-at, take-suc}
+use lib.ListN.{length, take, getD, replicate, length-append, length-take, length-replicate}
+use lib.Seq.{take-at, take-suc}
 use Rattle.lists.specs.declared.Kept.{Kept}
 use Rattle.lists.specs.Lists.{filter}
 use Rattle.lists.specs.Areas.{pad}
 use Rattle.lists.specs.Scans.{keptIn, addIn, addIf}
 use Rattle.lists.proofs.Counts.{filter-length}
+use Rattle.lists.proofs.Pads.{add-pad}
 
 -- An area that holds a list: the list, and that its count lies within it
 pub kept-list : (k : Kept) (l : List ℕ) → k ≡ keptIn l → take (k .count) (k .items) ≡ l
@@ -25,14 +26,6 @@ kept-fits k l e = rw e (simp (length-append, length-replicate) (omega arith))
 pub kept-count : (k : Kept) (l : List ℕ) → k ≡ keptIn l → k .count ≡ length l
 unfolding keptIn
 kept-count k l e = ap (λ (j : Kept). j .count) e
-
--- One number more
-add-pad : (m : ℕ) (l : List ℕ) (v : ℕ) → length l < m → set (pad m l) (length l) v ≡ pad m (l ++ v ∷ [])
-unfolding pad
-add-pad m l v h =
-    let n : m - length l ≡ suc (m - suc (length l)) = omega arith in
-    let q : length (l ++ v ∷ []) ≡ suc (length l) = simp length-append (omega arith) in
-    rw (n, set-at l 0 (replicate (m - suc (length l)) 0) v (length l) refl, q, append-assoc)
 
 pub add-kept : (l : List ℕ) (v : ℕ) → length l < 512 → addIn (keptIn l) v ≡ keptIn (l ++ v ∷ [])
 unfolding keptIn

@@ -1,11 +1,11 @@
 -- Lists with zeros after them, words written from the start of a lent list, and records that fit into it. Assumes nothing.
 use mathlib.Core.Path.{_≡_, refl, sym, ap, _∙_}
 use mathlib.Core.Bool.{Bool, true, false}
-use mathlib.Core.List.{List, [], _∷_, _++_}
+use mathlib.Core.List.{List, [], _∷_, _++_, append-assoc}
 use Prim.Native.Nat.{ℕ, zero, suc, _+_, _-_, _≤_, _<_}
 use native.Mathlib.Omega.{arith}
-use lib.ListN.{length, take, drop, getD, replicate, length-append, length-take, length-drop, length-replicate, take-append-drop, List·getD-append}
-use lib.Seq.{take-at, drop-at, getD-append-add, getD-drop}
+use lib.ListN.{length, take, drop, getD, set, replicate, length-append, length-take, length-drop, length-replicate, take-append-drop, List·getD-append}
+use lib.Seq.{take-at, drop-at, set-at, getD-append-add, getD-drop}
 use lib.Dec.{leb, eqb}
 use borrow.Author.Tests.{leb-true, eqb-true}
 use Rattle.lists.specs.Lists.{all, concat}
@@ -105,3 +105,11 @@ fitting-fit room (r ∷ rs) = go (leb (length r) room) refl (fitting-fit (room -
         length {A = ℕ} (concat (elim t as (λ _. List (List ℕ)) [ true ↦ r ∷ fitting (room - length r) rs | false ↦ [] ])) ≤ room
     go true e ih = omega (arith, leb-true (length r) room e, ih, length-append r (concat (fitting (room - length r) rs)))
     go false e ih = omega arith
+
+-- One number more
+pub add-pad : (m : ℕ) (l : List ℕ) (v : ℕ) → length l < m → set (pad m l) (length l) v ≡ pad m (l ++ v ∷ [])
+unfolding pad
+add-pad m l v h =
+    let n : m - length l ≡ suc (m - suc (length l)) = omega arith in
+    let q : length (l ++ v ∷ []) ≡ suc (length l) = simp length-append (omega arith) in
+    rw (n, set-at l 0 (replicate (m - suc (length l)) 0) v (length l) refl, q, append-assoc)

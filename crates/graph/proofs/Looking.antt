@@ -1,0 +1,142 @@
+-- The lookups in the words of the code's tests: what is refused, and what is read. Assumes nothing.
+use mathlib.Core.Path.{_≡_, refl, _∙_}
+use mathlib.Core.Bool.{Bool, true, false, not, _&&_}
+use mathlib.Core.List.{List, [], _∷_}
+use Prim.Native.Nat.{ℕ, zero, suc, _+_, _-_, _<_, _≤_}
+use native.Mathlib.Numerals.{add-one}
+use native.Mathlib.Omega.{arith}
+use lib.ListN.{length, take, getD, length-take}
+use lib.Seq.{getD-take}
+use lib.Dec.{leb, ltb}
+use borrow.Author.Tests.{ltb-true, lt-ltb, le-ltb, le-leb, lt-leb, eq-eqb}
+use Rattle.lists.specs.Lists.{rising, below, all, mem}
+use Rattle.lists.specs.Areas.{pad, part}
+use Rattle.lists.specs.Scans.{groupsFit, lastAtMost}
+use Rattle.lists.proofs.Truth.{and-left, and-right, or-left}
+use Rattle.lists.proofs.Groups.{climbs-at, length-part, part-take, group-at}
+use Rattle.lists.proofs.Rising.{rising-tail, rising-above}
+use Rattle.model.specs.declared.record.CausalGraph.{CausalGraph}
+use Rattle.model.specs.declared.answers.Listed.{Listed}
+use Rattle.model.specs.declared.answers.Refusal.the-variants.{Broken, Outside}
+use Rattle.model.specs.declared.answers.Outcome.the-variants.{Done, Refused}
+use Rattle.model.specs.Refusals.{firstOf}
+use Rattle.model.specs.Graph.{runs, firstHeld, len, containing}
+use Rattle.model.specs.Record.{view}
+use Rattle.model.specs.Broken.{broken, Held}
+use Rattle.model.specs.Lookups.{lookup, listedOr}
+use Rattle.model.proofs.Stored.{not-broken, clauses-of}
+use Rattle.model.proofs.FormedReads.{containing-in}
+use Rattle.graph.proofs.Views.{containing-view, facts, runs-view, first-view, len-view}
+
+-- The two tests of a lookup
+module _ (g : CausalGraph) where
+  pub look-broken : broken g ≡ true → (outside : Bool) → lookup g outside ≡ Refused Broken
+  unfolding lookup firstOf
+  look-broken e outside = rw e
+
+  pub look-outside : broken g ≡ false → (outside : Bool) → outside ≡ true → lookup g outside ≡ Refused Outside
+  unfolding lookup firstOf
+  look-outside e outside o = rw (e, o)
+
+  pub look-done : broken g ≡ false → (outside : Bool) → outside ≡ false → lookup g outside ≡ Done
+  unfolding lookup firstOf
+  look-done e outside o = rw (e, o)
+
+-- Events that are held, and those that are not
+module _ (g : CausalGraph) (held : Held g) (e : ℕ) where
+  pub outside-before : e < getD (g .starts) 0 0 → not (leb (firstHeld (view g)) e && ltb e (len (view g))) ≡ true
+  outside-before h = rw (first-view g held, lt-leb (getD (g .starts) 0 0) e h)
+
+  pub outside-past : getD (g .starts) 0 0 ≤ e → getD (g .starts) (g .«run_count») 0 ≤ e → not (leb (firstHeld (view g)) e && ltb e (len (view g))) ≡ true
+  outside-past h k = rw (first-view g held, le-leb (getD (g .starts) 0 0) e h, len-view g held, le-ltb e (getD (g .starts) (g .«run_count») 0) k)
+
+  pub outside-not : getD (g .starts) 0 0 ≤ e → e < getD (g .starts) (g .«run_count») 0 → not (leb (firstHeld (view g)) e && ltb e (len (view g))) ≡ false
+  outside-not h k = rw (first-view g held, le-leb (getD (g .starts) 0 0) e h, len-view g held, lt-ltb e (getD (g .starts) (g .«run_count») 0) k)
+
+-- A run's parents
+
+-- numbers from lo on that rise below n are no more than there are
+rising-room : (lo n : ℕ) (l : List ℕ) → rising l ≡ true → below n l ≡ true → ((z : ℕ) → mem z l ≡ true → lo ≤ z) → length l ≤ n - lo
+unfolding below all mem
+rising-room lo n [] r b h = omega arith
+rising-room lo n (x ∷ xs) r b h =
+    let low : lo ≤ x = h x (or-left (mem x xs) (eq-eqb x x refl)) in
+    omega (
+      arith,
+      ltb-true x n (and-left (ltb x n) (all (λ y. ltb y n) xs) b),
+      rising-room (suc lo) n xs (rising-tail x xs r) (and-right (ltb x n) (all (λ y. ltb y n) xs) b) (λ z m. omega (arith, rising-above x xs r z m)),
+    )
+
+-- a group that fits has no more items than its number
+fits-at : (k i : ℕ) (xs : List (List ℕ)) → groupsFit k xs ≡ true → i < length xs → length (getD xs i []) ≤ k + i
+unfolding groupsFit
+fits-at k i [] e h = absurd (omega arith)
+fits-at k zero (x ∷ xs) e h =
+    let p = and-left (rising x && below k x) (groupsFit (suc k) xs) e in
+    omega (arith, rising-room 0 k x (and-left (rising x) (below k x) p) (and-right (rising x) (below k x) p) (λ z m. omega arith))
+fits-at k (suc i) (x ∷ xs) e h = omega (arith, fits-at (suc k) i xs (and-right (rising x && below k x) (groupsFit (suc k) xs) e) (omega arith))
+
+module _ (g : CausalGraph) (held : Held g) (run : ℕ) (h : run < g .«run_count») where
+  starts-in : suc run < length (take (g .«run_count» + 1) (g .«parent_starts»))
+  starts-in = simp length-take (omega (arith, facts g held .runs, facts g held .sized .«parent_starts»))
+
+  start-here : getD (take (g .«run_count» + 1) (g .«parent_starts»)) run 0 ≡ getD (g .«parent_starts») run 0
+  start-here = getD-take (g .«run_count» + 1) (g .«parent_starts») run 0 (omega arith)
+
+  start-next : getD (take (g .«run_count» + 1) (g .«parent_starts»)) (suc run) 0 ≡ getD (g .«parent_starts») (run + 1) 0
+  start-next = getD-take (g .«run_count» + 1) (g .«parent_starts») (suc run) 0 (omega arith) ∙ rw (add-one run)
+
+  -- their places
+  pub group-bounds :
+      (getD (g .«parent_starts») run 0 ≤ getD (g .«parent_starts») (run + 1) 0) × (getD (g .«parent_starts») (run + 1) 0 ≤ g .«entry_count»)
+  group-bounds =
+      rw (← start-here, ← start-next)
+      (climbs-at (g .«entry_count») (take (g .«run_count» + 1) (g .«parent_starts»)) (clauses-of g (not-broken g held) .groups-climb) run starts-in)
+
+  pub group-end : getD (g .«parent_starts») (run + 1) 0 ≤ length (g .parents)
+  group-end = omega (arith, group-bounds .1, facts g held .entries, facts g held .sized .parents)
+
+  -- what stands there
+  pub group-view : getD (view g .parents) run [] ≡ part (getD (g .«parent_starts») run 0) (getD (g .«parent_starts») (run + 1) 0) (g .parents)
+  unfolding view
+  group-view =
+      rw (
+        group-at (take (g .«run_count» + 1) (g .«parent_starts»)) (take (g .«entry_count») (g .parents)) run starts-in,
+        start-here,
+        start-next,
+      )
+      (part-take _ _ (g .«entry_count») (g .parents) (group-bounds .1))
+
+  pub group-short : length (part (getD (g .«parent_starts») run 0) (getD (g .«parent_starts») (run + 1) 0) (g .parents)) ≤ 512
+  unfolding runs
+  group-short = rw (← group-view) (omega (arith, fits-at 0 run (view g .parents) (held .formed .parents) (omega (arith, runs-view g held)), facts g held .runs))
+
+  pub group-count : getD (g .«parent_starts») (run + 1) 0 - getD (g .«parent_starts») run 0 ≡ length (getD (view g .parents) run [])
+  group-count =
+      rw group-view
+      (omega (
+        arith,
+        length-part (getD (g .«parent_starts») run 0) (getD (g .«parent_starts») (run + 1) 0) (g .parents) (group-bounds .0) group-end,
+        group-bounds .0,
+      ))
+
+-- The run found for a held event
+module _ (g : CausalGraph) (held : Held g) (e : ℕ) (lo : getD (g .starts) 0 0 ≤ e) (hi : e < getD (g .starts) (g .«run_count») 0) where
+  pub found-run : containing (view g) e ≡ lastAtMost (g .starts) e (g .«run_count»)
+  found-run = containing-view g held e (omega (arith, first-view g held)) (omega (arith, len-view g held))
+
+  pub found-in : lastAtMost (g .starts) e (g .«run_count») < 512
+  found-in =
+      omega (
+        arith,
+        found-run,
+        containing-in (view g) (held .formed) e (omega (arith, first-view g held)) (omega (arith, len-view g held)) .0,
+        runs-view g held,
+        facts g held .runs,
+      )
+
+-- A list as it is answered
+pub listed-done : (items : List ℕ) (n : ℕ) (l : List ℕ) → items ≡ pad 512 l → n ≡ length l →
+    _≡_ {A = Listed} (record { items = items; count = n; outcome = Done }) (listedOr Done l)
+unfolding listedOr
+listed-done items n l p q = λ i. record { items = p i; count = q i; outcome = Done }

@@ -1,0 +1,12 @@
+-- `graph::fresh::zeros_512` meets its contract: zeros are the padding of no list. Assumes nothing.
+use mathlib.Core.Path.{refl}
+use Rattle.lists.specs.Areas.{pad}
+use Rattle.graph.proofs.fresh.zeros_512.Statement.{statement}
+use Rattle.graph.proofs.fresh.zeros_512.Tie as tie
+
+returns : tie.Need-returns
+unfolding pad
+returns c = refl
+
+pub zeros-512-spec : {M : Type 1} → statement M
+zeros-512-spec = tie.close (tie.spec returns)

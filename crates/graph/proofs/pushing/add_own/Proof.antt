@@ -1,0 +1,66 @@
+use native.Mathlib.Omega.{arith}
+use Rattle.graph.proofs.Views.{facts, first-view}
+use Rattle.graph.proofs.Owning.{run-in, own-no, own-yes}
+use borrow.Author.Needs.{needs}
+use Rattle.graph.proofs.pushing.add_own.Statement.{statement}
+use Rattle.graph.proofs.pushing.add_own.Tie as tie
+use Rattle.graph.proofs.pushing.add_own.Reads as reads
+use Rattle.graph.proofs.pushing.add_own.Lts as lts
+use Rattle.graph.proofs.pushing.seen_after.Reads as seen-after-reads
+use Rattle.lists.proofs.larger.Reads as larger-reads
+use Rattle.lists.proofs.last_at_most.Reads as last-at-most-reads
+
+-- src/pushing.rt:126:12
+element-copy-out-if1 : tie.Need-element-copy-out-if1
+element-copy-out-if1 c = search needs
+
+-- src/pushing.rt:127:9
+returns : tie.Need-returns
+returns c = own-no (c .before .before .args .t1) (c .before .before .pre .0) (c .before .before .args .t) (c .before .before .args .p) (c .if1 .taken)
+
+-- src/pushing.rt:129:9
+last-at-most-requires : tie.Need-last-at-most-requires
+last-at-most-requires c κs = omega (arith, facts (c .before .before .before .before .before .args .t1) (c .before .before .before .before .before .pre .0) .runs)
+
+-- src/pushing.rt:130:9
+seen-after-requires : tie.Need-seen-after-requires
+seen-after-requires c κs = (c .before .before .before .before .before .before .pre .0, run-in (c .before .before .before .before .before .before .args .t1) (c .before .before .before .before .before .before .pre .0) (c .before .before .before .before .before .before .args .p) _ (c .before .before .before .before .if1 .left) (c .before .before .before .before .before .before .pre .1 .0) (c .last-at-most .ensures) .1)
+
+-- src/pushing.rt:133:18
+cast-h : tie.Need-cast-h
+cast-h c = omega (arith, facts (c .before .before .before .before .before .before .before .args .t1) (c .before .before .before .before .before .before .before .pre .0) .runs, run-in (c .before .before .before .before .before .before .before .args .t1) (c .before .before .before .before .before .before .before .pre .0) (c .before .before .before .before .before .before .before .args .p) _ (c .before .before .before .before .before .if1 .left) (c .before .before .before .before .before .before .before .pre .1 .0) (c .before .last-at-most .ensures) .1)
+
+-- src/pushing.rt:133:5
+mul-h : tie.Need-mul-h
+mul-h c = omega (arith, (c .before .before .before .before .before .before .before .pre .1 .1 (omega (arith, first-view (c .before .before .before .before .before .before .before .args .t1) (c .before .before .before .before .before .before .before .pre .0), c .before .before .before .before .before .if1 .left))))
+
+-- src/pushing.rt:133:5
+element-write-h : tie.Need-element-write-h
+element-write-h c = (c .before .before .before .before .before .before .before .pre .1 .1 (omega (arith, first-view (c .before .before .before .before .before .before .before .args .t1) (c .before .before .before .before .before .before .before .pre .0), c .before .before .before .before .before .if1 .left)))
+
+-- src/pushing.rt:134:15
+add-h : tie.Need-add-h
+add-h c = omega (arith, (c .before .before .before .before .before .before .before .pre .1 .1 (omega (arith, first-view (c .before .before .before .before .before .before .before .args .t1) (c .before .before .before .before .before .before .before .pre .0), c .before .before .before .before .before .if1 .left))))
+
+-- src/pushing.rt:135:14
+larger-requires : tie.Need-larger-requires
+larger-requires c κs = search needs
+
+-- src/pushing.rt:120:1
+returns-2 : tie.Need-returns-2
+returns-2 c = own-yes (c .before .before .before .before .before .before .before .before .args .t1) (c .before .before .before .before .before .before .before .before .pre .0) (c .before .before .before .before .before .before .before .before .args .t) (c .before .before .before .before .before .before .before .before .args .p) _ _ _ (c .before .before .before .before .before .before .if1 .left) (run-in (c .before .before .before .before .before .before .before .before .args .t1) (c .before .before .before .before .before .before .before .before .pre .0) (c .before .before .before .before .before .before .before .before .args .p) _ (c .before .before .before .before .before .before .if1 .left) (c .before .before .before .before .before .before .before .before .pre .1 .0) (c .before .before .last-at-most .ensures) .0) (c .before .seen-after .ensures) (c .larger .ensures)
+
+pub add-own-spec : {M : Type 1} → statement M
+add-own-spec =
+    tie.close
+    (tie.spec
+    element-copy-out-if1
+    returns
+    last-at-most-requires
+    seen-after-requires
+    cast-h
+    mul-h
+    element-write-h
+    add-h
+    larger-requires
+    returns-2)

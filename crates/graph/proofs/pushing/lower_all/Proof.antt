@@ -1,0 +1,83 @@
+use borrow.Author.Needs.{needs}
+use mathlib.Core.Path.{_≡_, refl, sym, _∙_}
+use Prim.Native.Nat.{_≤_, _-_}
+use native.Mathlib.Omega.{arith}
+use lib.ListN.{drop}
+use Rattle.model.specs.Graph.{marks}
+use Rattle.model.specs.Record.{view}
+use Rattle.graph.specs.Loops.{lowerAll}
+use Rattle.graph.proofs.Views.{facts}
+use Rattle.graph.proofs.Lowering.{mark-in, lower-step, lower-end}
+use Rattle.graph.proofs.pushing.lower_all.Statement.{statement}
+use Rattle.graph.proofs.pushing.lower_all.Tie as tie
+use Rattle.graph.proofs.pushing.lower_all.Reads as reads
+use Rattle.graph.proofs.pushing.lower_all.Lts as lts
+use Rattle.graph.proofs.pushing.lower.Reads as lower-reads
+
+abbrev Inv-loop : tie.InvT-loop
+Inv-loop seen from g c₀ i₀ c i = (i ≤ g .«mark_count») × (lowerAll (view g .starts) seen c (drop i (marks (view g))) ≡ lowerAll (view g .starts) seen from (marks (view g)))
+
+abbrev μ-loop : tie.MeasureT-loop
+μ-loop seen from g c₀ i₀ c i = g .«mark_count» - i
+
+-- src/pushing.rt:192:5
+loop-holds : tie.Need-loop-holds Inv-loop μ-loop
+loop-holds c = (omega arith, refl)
+
+-- src/pushing.rt:193:17
+mul-m : tie.Need-mul-m Inv-loop μ-loop
+mul-m c = omega (arith, facts (c .before .before .args .t1) (c .before .before .pre) .marked)
+
+-- src/pushing.rt:193:17
+element-copy-out-m : tie.Need-element-copy-out-m Inv-loop μ-loop
+element-copy-out-m c = omega (arith, facts (c .before .before .args .t1) (c .before .before .pre) .marked, c .loop-test .taken)
+
+-- src/pushing.rt:194:18
+cast-at : tie.Need-cast-at Inv-loop μ-loop
+cast-at c = omega (arith, facts (c .before .before .before .args .t1) (c .before .before .before .pre) .runs, mark-in (c .before .before .before .args .t1) (c .before .before .before .pre) (c .before .before .loop .i) (c .before .loop-test .taken))
+
+-- src/pushing.rt:195:29
+mul-lower : tie.Need-mul-lower Inv-loop μ-loop
+mul-lower c = omega (arith, facts (c .before .before .before .args .t1) (c .before .before .before .pre) .runs, mark-in (c .before .before .before .args .t1) (c .before .before .before .pre) (c .before .before .loop .i) (c .before .loop-test .taken))
+
+-- src/pushing.rt:195:29
+element-copy-out-lower : tie.Need-element-copy-out-lower Inv-loop μ-loop
+element-copy-out-lower c = omega (arith, facts (c .before .before .before .args .t1) (c .before .before .before .pre) .runs, mark-in (c .before .before .before .args .t1) (c .before .before .before .pre) (c .before .before .loop .i) (c .before .loop-test .taken))
+
+-- src/pushing.rt:195:9
+lower-requires : tie.Need-lower-requires Inv-loop μ-loop
+lower-requires c κs = search needs
+
+-- src/pushing.rt:196:9
+add-i : tie.Need-add-i Inv-loop μ-loop
+add-i c = omega (arith, facts (c .before .before .before .before .before .args .t1) (c .before .before .before .before .before .pre) .marked, c .before .before .before .loop-test .taken)
+
+-- src/pushing.rt:192:5
+loop-less : tie.Need-loop-less Inv-loop μ-loop
+loop-less c = search needs
+
+-- src/pushing.rt:192:5
+loop-again : tie.Need-loop-again Inv-loop μ-loop
+loop-again c = (omega arith, sym (lower-step (c .before .before .before .before .before .args .t1) (c .before .before .before .before .before .pre) (c .before .before .before .before .before .args .seen) (c .before .before .before .before .loop .c) (c .before .before .before .before .loop .i) (c .lower .result) (c .before .before .before .loop-test .taken) (c .lower .ensures)) ∙ c .before .before .before .before .loop .inv .1)
+
+-- src/pushing.rt:186:1
+returns : tie.Need-returns Inv-loop μ-loop
+returns c = sym (lower-end (c .before .before .args .t1) (c .before .before .pre) (c .before .before .args .seen) (c .before .loop .c) (c .before .loop .i) (c .loop-test .left)) ∙ c .before .loop .inv .1
+
+pub lower-all-spec : {M : Type 1} → statement M
+lower-all-spec =
+    tie.close
+    (tie.spec
+    Inv-loop
+    μ-loop
+    loop-holds
+    mul-m
+    element-copy-out-m
+    cast-at
+    mul-lower
+    element-copy-out-lower
+    lower-requires
+    add-i
+    loop-less
+    loop-again
+    returns)

@@ -1,0 +1,24 @@
+use mathlib.Core.Path.{sym, _∙_}
+use native.Mathlib.Omega.{arith}
+use lib.Seq.{take-length}
+use Rattle.graph.proofs.Views.{facts, frontier-list}
+use Rattle.graph.proofs.pushing.pick_seen.Statement.{statement}
+use Rattle.graph.proofs.pushing.pick_seen.Tie as tie
+use Rattle.graph.proofs.pushing.pick_seen.Reads as reads
+use Rattle.graph.proofs.pushing.pick_seen.Lts as lts
+use Rattle.lists.proofs.is_same.Reads as is-same-reads
+
+-- src/pushing.rt:170:8
+is-same-requires : tie.Need-is-same-requires
+is-same-requires c κs = (omega arith, omega (arith, facts (c .before .before .before .before .args .t1) (c .before .before .before .before .pre) .tips))
+
+-- src/pushing.rt:171:9
+returns : tie.Need-returns
+returns c = rw (frontier-list (c .before .before .before .before .before .before .args .t1) (c .before .before .before .before .before .before .pre), ← take-length (c .before .before .before .before .before .before .args .ps .now), sym (c .before .is-same .ensures) ∙ c .if1 .taken)
+
+-- src/pushing.rt:166:1
+returns-2 : tie.Need-returns-2
+returns-2 c = rw (frontier-list (c .before .before .before .before .before .before .args .t1) (c .before .before .before .before .before .before .pre), ← take-length (c .before .before .before .before .before .before .args .ps .now), sym (c .before .is-same .ensures) ∙ c .if1 .left)
+
+pub pick-seen-spec : {M : Type 1} → statement M
+pick-seen-spec = tie.close (tie.spec is-same-requires returns returns-2)

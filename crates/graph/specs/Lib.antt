@@ -1,0 +1,2 @@
+-- What the loops of the graph's code compute.
+pub mod Loops

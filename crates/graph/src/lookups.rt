@@ -1,0 +1,163 @@
+// What is read off a graph.
+ghost use mathlib.Core.Path.{_≡_};
+ghost use mathlib.Core.List.{[]};
+ghost use Rattle.model.specs.declared.answers.Outcome.the-variants.{Refused as Outcome·Refused};
+ghost use Rattle.model.specs.Lookups.{
+  listedOr,
+  startOf,
+  eventsOf,
+  parentsOf,
+  containingOf,
+  lenOf,
+  isEmptyOf,
+  frontierOf,
+  extendsLastEventOf,
+  firstHeldEventOf,
+};
+use model::BoolAnswer;
+use model::CausalGraph;
+use model::EventAnswer;
+use model::EventIndex;
+use model::EventRunIndex;
+use model::EventsAnswer;
+use model::Listed;
+use model::Outcome;
+use model::Refusal;
+use model::RunAnswer;
+
+// A run's first event; for one past the last run, the number of events.
+pub fn start(g: CausalGraph, run: EventRunIndex) -> EventAnswer
+    ensures { λ r. ⌜ r ≡ startOf g (run .0) ⌝ }
+{
+    if crate::broken::is_broken(g) {
+        return EventAnswer::Refused(Refusal::Broken);
+    }
+    let n = run.0 as usize;
+    if g.run_count < n {
+        return EventAnswer::Refused(Refusal::Outside);
+    }
+    EventAnswer::Event(EventIndex(g.starts[n]))
+}
+
+// A run's events: the first and the end.
+pub fn events(g: CausalGraph, run: EventRunIndex) -> EventsAnswer
+    ensures { λ r. ⌜ r ≡ eventsOf g (run .0) ⌝ }
+{
+    if crate::broken::is_broken(g) {
+        return EventsAnswer::Refused(Refusal::Broken);
+    }
+    let n = run.0 as usize;
+    if g.run_count <= n {
+        return EventsAnswer::Refused(Refusal::Outside);
+    }
+    let next = n + 1;
+    EventsAnswer::Events(EventIndex(g.starts[n]), EventIndex(g.starts[next]))
+}
+
+// A refusal, with nothing listed.
+fn refused(refusal: Refusal) -> Listed
+    ensures { λ r. ⌜ r ≡ listedOr (Outcome·Refused refusal) [] ⌝ }
+{
+    Listed {
+        items: [0; 512],
+        count: 0,
+        outcome: Outcome::Refused(refusal),
+    }
+}
+
+// The runs whose last events are the parents of a run's first event.
+pub fn parents(g: CausalGraph, run: EventRunIndex) -> Listed
+    ensures { λ r. ⌜ r ≡ parentsOf g (run .0) ⌝ }
+{
+    if crate::broken::is_broken(g) {
+        return refused(Refusal::Broken);
+    }
+    let n = run.0 as usize;
+    if g.run_count <= n {
+        return refused(Refusal::Outside);
+    }
+    let next = n + 1;
+    let from = g.parent_starts[n] as usize;
+    let to = g.parent_starts[next] as usize;
+    let entries = g.parents;
+    let items = crate::fresh::padded_512(&entries[from..to]);
+    Listed {
+        items: items,
+        count: to - from,
+        outcome: Outcome::Done,
+    }
+}
+
+// The run that holds an event.
+pub fn containing(g: CausalGraph, event: EventIndex) -> RunAnswer
+    ensures { λ r. ⌜ r ≡ containingOf g (event .0) ⌝ }
+{
+    if crate::broken::is_broken(g) {
+        return RunAnswer::Refused(Refusal::Broken);
+    }
+    let e = event.0;
+    let runs = g.run_count;
+    if e < g.starts[0] {
+        return RunAnswer::Refused(Refusal::Outside);
+    }
+    if g.starts[runs] <= e {
+        return RunAnswer::Refused(Refusal::Outside);
+    }
+    let run = lists::last_at_most(&g.starts, runs, e);
+    RunAnswer::Run(EventRunIndex(run as u32))
+}
+
+// The number of events, including those before the first held one.
+pub fn len(g: CausalGraph) -> EventAnswer
+    ensures { λ r. ⌜ r ≡ lenOf g ⌝ }
+{
+    if crate::broken::is_broken(g) {
+        return EventAnswer::Refused(Refusal::Broken);
+    }
+    let runs = g.run_count;
+    EventAnswer::Event(EventIndex(g.starts[runs]))
+}
+
+// Whether there are no runs.
+pub fn is_empty(g: CausalGraph) -> BoolAnswer
+    ensures { λ r. ⌜ r ≡ isEmptyOf g ⌝ }
+{
+    if crate::broken::is_broken(g) {
+        return BoolAnswer::Refused(Refusal::Broken);
+    }
+    BoolAnswer::Told(g.run_count == 0)
+}
+
+// The frontier, rising.
+pub fn frontier(g: CausalGraph) -> Listed
+    ensures { λ r. ⌜ r ≡ frontierOf g ⌝ }
+{
+    if crate::broken::is_broken(g) {
+        return refused(Refusal::Broken);
+    }
+    let items = g.frontier;
+    Listed {
+        items: items,
+        count: g.frontier_count,
+        outcome: Outcome::Done,
+    }
+}
+
+// Whether an event with `parents` extends the last event's run.
+pub fn extends_last_event(g: CausalGraph, parents: &[u32]) -> BoolAnswer
+    ensures { λ r. ⌜ r ≡ extendsLastEventOf g (now (parents .entry)) ⌝ }
+{
+    if crate::broken::is_broken(g) {
+        return BoolAnswer::Refused(Refusal::Broken);
+    }
+    BoolAnswer::Told(crate::pushing::does_extend(g, parents))
+}
+
+pub fn first_held_event(g: CausalGraph) -> EventAnswer
+    ensures { λ r. ⌜ r ≡ firstHeldEventOf g ⌝ }
+{
+    if crate::broken::is_broken(g) {
+        return EventAnswer::Refused(Refusal::Broken);
+    }
+    EventAnswer::Event(EventIndex(g.starts[0]))
+}
