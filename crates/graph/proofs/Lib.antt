@@ -11,4 +11,5 @@ pub mod Assembling
 pub mod PushWays
 pub mod StartWays
 pub mod Looking
+pub mod RangeWays
 pub mod Beginning

@@ -6,5 +6,6 @@ pub mod fresh;
 pub mod lookups;
 pub mod marks;
 pub mod pushing;
+pub mod ranges;
 pub mod splitting;
 pub mod starting;
