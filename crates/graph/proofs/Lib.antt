@@ -13,3 +13,13 @@ pub mod StartWays
 pub mod Looking
 pub mod RangeWays
 pub mod Beginning
+pub mod Writing
+pub mod Cuts
+pub mod Joining
+pub mod CutWays
+pub mod Flagging
+pub mod Comparing
+pub mod Entries
+pub mod Passes
+pub mod Points
+pub mod ConcurrentWays

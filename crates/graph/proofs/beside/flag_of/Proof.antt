@@ -1,0 +1,61 @@
+-- `graph::beside::flag_of` meets its contract. The loop's invariant: such a number stands in the part just if one stands in what is left. The measure is what is left. Assumes nothing.
+use borrow.Author.Needs.{needs}
+use mathlib.Core.Path.{_≡_, refl, sym, _∙_, ap}
+use Prim.Native.Nat.{_-_, _+_}
+use lib.ListN.{getD}
+use Rattle.lists.specs.Lists.{bit, any}
+use Rattle.lists.specs.Areas.{part}
+use Rattle.lists.proofs.Scanning.{missed, found}
+use Rattle.graph.specs.Flags.{flagged}
+use Rattle.graph.proofs.Passes.{any-next, any-none}
+use Rattle.graph.proofs.beside.flag_of.Statement.{statement}
+use Rattle.graph.proofs.beside.flag_of.Tie as tie
+
+abbrev Inv-loop : tie.InvT-loop
+Inv-loop flags run items from to i₀ i = any (flagged flags run) (part i₀ to items) ≡ any (flagged flags run) (part i to items)
+
+abbrev μ-loop : tie.MeasureT-loop
+μ-loop flags run items from to i₀ i = to - i
+
+loop-holds : tie.Need-loop-holds Inv-loop μ-loop
+loop-holds c = refl
+
+mul-is-flagged : tie.Need-mul-is-flagged Inv-loop μ-loop
+mul-is-flagged c = search needs
+
+shared-slice-read-is-flagged : tie.Need-shared-slice-read-is-flagged Inv-loop μ-loop
+shared-slice-read-is-flagged c = search needs
+
+is-flagged-requires : tie.Need-is-flagged-requires Inv-loop μ-loop
+is-flagged-requires c κs = search needs
+
+returns : tie.Need-returns Inv-loop μ-loop
+returns c = ap bit (found (flagged (c .before .before .before .before .before .before .before .args .flags .now) (c .before .before .before .before .before .before .before .args .run) (getD (c .before .before .before .before .before .before .before .args .items .now) (c .before .before .before .before .loop .i) 0)) (any (flagged (c .before .before .before .before .before .before .before .args .flags .now) (c .before .before .before .before .before .before .before .args .run)) (part (c .before .before .before .before .loop .i + 1) (c .before .before .before .before .before .before .before .args .to) (c .before .before .before .before .before .before .before .args .items .now))) (c .before .before .before .before .loop .inv) (any-next (c .before .before .before .before .before .before .before .args .items .now) (c .before .before .before .before .before .before .before .args .to) (c .before .before .before .before .before .before .before .pre) (c .before .before .before .before .loop .i) (flagged (c .before .before .before .before .before .before .before .args .flags .now) (c .before .before .before .before .before .before .before .args .run)) (c .before .before .before .loop-test .taken)) (sym (c .before .is-flagged .ensures) ∙ c .if1 .taken))
+
+add-i : tie.Need-add-i Inv-loop μ-loop
+add-i c = search needs
+
+loop-less : tie.Need-loop-less Inv-loop μ-loop
+loop-less c = search needs
+
+loop-again : tie.Need-loop-again Inv-loop μ-loop
+loop-again c = missed (flagged (c .before .before .before .before .before .before .before .args .flags .now) (c .before .before .before .before .before .before .before .args .run) (getD (c .before .before .before .before .before .before .before .args .items .now) (c .before .before .before .before .loop .i) 0)) (any (flagged (c .before .before .before .before .before .before .before .args .flags .now) (c .before .before .before .before .before .before .before .args .run)) (part (c .before .before .before .before .loop .i + 1) (c .before .before .before .before .before .before .before .args .to) (c .before .before .before .before .before .before .before .args .items .now))) (c .before .before .before .before .loop .inv) (any-next (c .before .before .before .before .before .before .before .args .items .now) (c .before .before .before .before .before .before .before .args .to) (c .before .before .before .before .before .before .before .pre) (c .before .before .before .before .loop .i) (flagged (c .before .before .before .before .before .before .before .args .flags .now) (c .before .before .before .before .before .before .before .args .run)) (c .before .before .before .loop-test .taken)) (sym (c .before .is-flagged .ensures) ∙ c .if1 .left)
+
+returns-2 : tie.Need-returns-2 Inv-loop μ-loop
+returns-2 c = sym (ap bit (c .before .loop .inv ∙ any-none (c .before .before .before .before .args .items .now) (c .before .before .before .before .args .to) (c .before .before .before .before .pre) (c .before .loop .i) (flagged (c .before .before .before .before .args .flags .now) (c .before .before .before .before .args .run)) (c .loop-test .left)))
+
+pub flag-of-spec : {M : Type 1} → statement M
+flag-of-spec =
+    tie.close
+    (tie.spec
+    Inv-loop
+    μ-loop
+    loop-holds
+    mul-is-flagged
+    shared-slice-read-is-flagged
+    is-flagged-requires
+    returns
+    add-i
+    loop-less
+    loop-again
+    returns-2)

@@ -1,0 +1,68 @@
+-- `graph::beside::flag_parents` meets its contract: the run has a flag or none. Assumes nothing.
+use borrow.Author.Needs.{needs}
+use mathlib.Core.Path.{_∙_}
+use Prim.Native.Nat.{_+_}
+use native.Mathlib.Omega.{arith}
+use lib.ListN.{length}
+use Rattle.graph.specs.Flags.{row}
+use Rattle.graph.proofs.Passes.{row-below, parents-none, parents-all}
+use Rattle.graph.proofs.beside.flag_parents.Statement.{statement}
+use Rattle.graph.proofs.beside.flag_parents.Tie as tie
+
+mul-if1 : tie.Need-mul-if1
+mul-if1 c = search needs
+
+slice-read-if1 : tie.Need-slice-read-if1
+slice-read-if1 c = search needs
+
+returns : tie.Need-returns
+returns c = parents-none (row (c .before .before .before .before .before .args .starts .now) (c .before .before .before .before .before .args .items .now)) (c .before .before .before .before .before .args .flags .now) (c .before .before .before .before .before .args .run) (c .if1 .taken)
+
+mul-flag-part : tie.Need-mul-flag-part
+mul-flag-part c = search needs
+
+shared-slice-read-flag-part : tie.Need-shared-slice-read-flag-part
+shared-slice-read-flag-part c = search needs
+
+cast-flag-part : tie.Need-cast-flag-part
+cast-flag-part c = omega (arith, c .before .before .before .before .before .shared-slice-known .given (c .before .before .before .before .before .before .before .args .run))
+
+add-flag-part : tie.Need-add-flag-part
+add-flag-part c = search needs
+
+mul-flag-part-2 : tie.Need-mul-flag-part-2
+mul-flag-part-2 c = search needs
+
+shared-slice-read-flag-part-2 : tie.Need-shared-slice-read-flag-part-2
+shared-slice-read-flag-part-2 c = search needs
+
+cast-flag-part-2 : tie.Need-cast-flag-part-2
+cast-flag-part-2 c = omega (arith, c .before .before .before .before .before .before .shared-slice-known .given (c .before .before .before .before .before .before .before .before .args .run + 1))
+
+flag-part-requires : tie.Need-flag-part-requires
+flag-part-requires c κs = (c .before .before .before .before .before .before .before .before .pre .0 .inside (c .before .before .before .before .before .before .before .before .args .run) (c .before .before .before .before .before .before .before .before .pre .1 .1), row-below (c .before .before .before .before .before .before .before .before .args .starts .now) (c .before .before .before .before .before .before .before .before .args .items .now) (c .before .before .before .before .before .before .before .before .args .n) (length (c .before .before .before .before .before .before .before .before .args .flags .now)) (c .before .before .before .before .before .before .before .before .args .run) (c .before .before .before .before .before .before .before .before .pre .0) (c .before .before .before .before .before .before .before .before .pre .1 .1) (c .before .before .before .before .before .before .before .before .pre .1 .0))
+
+same-length : tie.Need-same-length
+same-length c = search needs
+
+returns-2 : tie.Need-returns-2
+unfolding row
+returns-2 c = c .before .before .flag-part .ensures ∙ parents-all (row (c .before .before .before .before .before .before .before .before .before .before .before .args .starts .now) (c .before .before .before .before .before .before .before .before .before .before .before .args .items .now)) (c .before .before .before .before .before .before .before .before .before .before .before .args .flags .now) (c .before .before .before .before .before .before .before .before .before .before .before .args .run) (c .before .before .before .before .before .before .if1 .left)
+
+pub flag-parents-spec : {M : Type 1} → statement M
+flag-parents-spec =
+    tie.close
+    (tie.spec
+    mul-if1
+    slice-read-if1
+    returns
+    mul-flag-part
+    shared-slice-read-flag-part
+    cast-flag-part
+    add-flag-part
+    mul-flag-part-2
+    shared-slice-read-flag-part-2
+    cast-flag-part-2
+    flag-part-requires
+    same-length
+    returns-2)

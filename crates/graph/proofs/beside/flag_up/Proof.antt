@@ -1,0 +1,52 @@
+-- `graph::beside::flag_up` meets its contract. The loop's invariant: what is left, flagged from here, is the whole. The measure is what is left of `n`. Assumes nothing.
+use borrow.Author.Needs.{needs}
+use mathlib.Core.Path.{_≡_, refl, sym, _∙_, ap}
+use mathlib.Core.List.{List}
+use Prim.Native.Nat.{ℕ, _-_, _+_}
+use native.Mathlib.Omega.{arith}
+use lib.ListN.{length}
+use Rattle.graph.specs.Flags.{row, flagUp}
+use Rattle.graph.proofs.Passes.{up-next, up-none}
+use Rattle.graph.proofs.beside.flag_up.Statement.{statement}
+use Rattle.graph.proofs.beside.flag_up.Tie as tie
+
+abbrev Inv-loop : tie.InvT-loop
+Inv-loop flags₀ run starts items n from q₀ flags q = (length flags ≡ length flags₀) × (flagUp (row starts items) run flags q (n - q) ≡ flagUp (row starts items) run flags₀ q₀ (n - q₀))
+
+abbrev μ-loop : tie.MeasureT-loop
+μ-loop flags₀ run starts items n from q₀ flags q = n - q
+
+loop-holds : tie.Need-loop-holds Inv-loop μ-loop
+loop-holds c = (refl, refl)
+
+flag-child-requires : tie.Need-flag-child-requires Inv-loop μ-loop
+flag-child-requires c κs = (c .before .before .before .before .before .before .pre .0, (omega arith, omega arith))
+
+add-q : tie.Need-add-q Inv-loop μ-loop
+add-q c = search needs
+
+loop-less : tie.Need-loop-less Inv-loop μ-loop
+loop-less c = search needs
+
+loop-again : tie.Need-loop-again Inv-loop μ-loop
+loop-again c = (c .before .before .flag-child .kept .0 ∙ c .before .before .before .before .before .loop .inv .0, ap (λ (l : List ℕ). flagUp (row (c .before .before .before .before .before .before .before .before .before .args .starts .now) (c .before .before .before .before .before .before .before .before .before .args .items .now)) (c .before .before .before .before .before .before .before .before .before .args .run) l (c .before .before .before .before .before .loop .q + 1) (c .before .before .before .before .before .before .before .before .before .args .n - (c .before .before .before .before .before .loop .q + 1))) (c .before .before .flag-child .ensures) ∙ (up-next (row (c .before .before .before .before .before .before .before .before .before .args .starts .now) (c .before .before .before .before .before .before .before .before .before .args .items .now)) (c .before .before .before .before .before .before .before .before .before .args .run) (c .before .before .before .before .before .loop .flags) (c .before .before .before .before .before .loop .q) (c .before .before .before .before .before .before .before .before .before .args .n) (c .before .before .before .before .loop-test .taken) ∙ c .before .before .before .before .before .loop .inv .1))
+
+same-length : tie.Need-same-length Inv-loop μ-loop
+same-length c = c .before .loop .inv .0
+
+returns : tie.Need-returns Inv-loop μ-loop
+returns c = sym (up-none (row (c .before .before .before .before .before .args .starts .now) (c .before .before .before .before .before .args .items .now)) (c .before .before .before .before .before .args .run) (c .before .loop .flags) (c .before .loop .q) (c .before .before .before .before .before .args .n) (c .loop-test .left)) ∙ c .before .loop .inv .1
+
+pub flag-up-spec : {M : Type 1} → statement M
+flag-up-spec =
+    tie.close
+    (tie.spec
+    Inv-loop
+    μ-loop
+    loop-holds
+    flag-child-requires
+    add-q
+    loop-less
+    loop-again
+    same-length
+    returns)

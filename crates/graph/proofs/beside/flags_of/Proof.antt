@@ -1,0 +1,58 @@
+-- `graph::beside::flags_of` meets its contract: both passes, from flags that are all 0. Assumes nothing.
+use borrow.Author.Needs.{needs}
+use mathlib.Core.Path.{sym, _∙_, ap, subst}
+use mathlib.Core.List.{List}
+use Prim.Native.Nat.{ℕ, _-_, _+_}
+use native.Mathlib.Omega.{arith}
+use Rattle.model.specs.Record.{view}
+use Rattle.graph.specs.Flags.{row, flagUp, Flags}
+use Rattle.graph.proofs.Views.{facts}
+use Rattle.graph.proofs.Entries.{rows-of}
+use Rattle.graph.proofs.ConcurrentWays.{kept-room, passes-flag}
+use Rattle.graph.proofs.beside.flags_of.Statement.{statement}
+use Rattle.graph.proofs.beside.flags_of.Tie as tie
+
+nothing-requires : tie.Need-nothing-requires
+nothing-requires c κs = search needs
+
+mul-f : tie.Need-mul-f
+mul-f c = search needs
+
+array-write-f : tie.Need-array-write-f
+array-write-f c = omega (arith, facts (c .before .before .args .t1) (c .before .before .pre .0) .runs)
+
+slice-aggregate-flag-down : tie.Need-slice-aggregate-flag-down
+slice-aggregate-flag-down c = search needs
+
+add-flag-down : tie.Need-add-flag-down
+add-flag-down c = search needs
+
+flag-down-requires : tie.Need-flag-down-requires
+flag-down-requires c κs = (rows-of (c .before .before .before .before .before .before .before .before .args .t1) (c .before .before .before .before .before .before .before .before .pre .0), (kept-room (c .before .before .before .before .before .before .before .nothing .result) (c .before .before .before .before .before .before .before .before .args .run) (c .before .before .before .before .before .before .before .before .args .t1 .«run_count») (c .before .before .before .before .before .before .before .nothing .ensures) (facts (c .before .before .before .before .before .before .before .before .args .t1) (c .before .before .before .before .before .before .before .before .pre .0) .runs), omega arith))
+
+slice-aggregate-flag-up : tie.Need-slice-aggregate-flag-up
+slice-aggregate-flag-up c = search needs
+
+add-flag-up : tie.Need-add-flag-up
+add-flag-up c = search needs
+
+flag-up-requires : tie.Need-flag-up-requires
+flag-up-requires c κs = (rows-of (c .before .before .before .before .before .before .before .before .before .before .before .before .before .before .before .before .args .t1) (c .before .before .before .before .before .before .before .before .before .before .before .before .before .before .before .before .pre .0), omega (arith, facts (c .before .before .before .before .before .before .before .before .before .before .before .before .before .before .before .before .args .t1) (c .before .before .before .before .before .before .before .before .before .before .before .before .before .before .before .before .pre .0) .runs))
+
+returns : tie.Need-returns
+returns c = subst (λ (l : List ℕ). Flags (view (c .before .before .before .before .before .before .before .before .before .before .before .before .before .before .before .before .before .before .args .t1)) (c .before .before .before .before .before .before .before .before .before .before .before .before .before .before .before .before .before .before .args .run) l) (sym (c .before .flag-up .ensures ∙ ap (λ (l : List ℕ). flagUp (row (c .before .before .before .before .before .before .before .before .before .before .before .before .before .before .before .before .before .before .args .t1 .«parent_starts») (c .before .before .before .before .before .before .before .before .before .before .before .before .before .before .before .before .before .before .args .t1 .parents)) (c .before .before .before .before .before .before .before .before .before .before .before .before .before .before .before .before .before .before .args .run) l (c .before .before .before .before .before .before .before .before .before .before .before .before .before .before .before .before .before .before .args .run + 1) (c .before .before .before .before .before .before .before .before .before .before .before .before .before .before .before .before .before .before .args .t1 .«run_count» - (c .before .before .before .before .before .before .before .before .before .before .before .before .before .before .before .before .before .before .args .run + 1))) (c .before .before .before .before .before .before .before .before .before .flag-down .ensures))) (passes-flag (c .before .before .before .before .before .before .before .before .before .before .before .before .before .before .before .before .before .before .args .t1) (c .before .before .before .before .before .before .before .before .before .before .before .before .before .before .before .before .before .before .pre .0) (c .before .before .before .before .before .before .before .before .before .before .before .before .before .before .before .before .before .before .args .run) (c .before .before .before .before .before .before .before .before .before .before .before .before .before .before .before .before .before .before .pre .1) (c .before .before .before .before .before .before .before .before .before .before .before .before .before .before .before .before .before .nothing .result) (c .before .before .before .before .before .before .before .before .before .before .before .before .before .before .before .before .before .nothing .ensures))
+
+pub flags-of-spec : {M : Type 1} → statement M
+flags-of-spec =
+    tie.close
+    (tie.spec
+    nothing-requires
+    mul-f
+    array-write-f
+    slice-aggregate-flag-down
+    add-flag-down
+    flag-down-requires
+    slice-aggregate-flag-up
+    add-flag-up
+    flag-up-requires
+    returns)

@@ -1,0 +1,24 @@
+-- `graph::beside::is_flagged` meets its contract: each way out is one law. Assumes nothing.
+use borrow.Author.Needs.{needs}
+use Rattle.graph.proofs.Passes.{flagged-low, flagged-out, flagged-is}
+use Rattle.graph.proofs.beside.is_flagged.Statement.{statement}
+use Rattle.graph.proofs.beside.is_flagged.Tie as tie
+
+returns : tie.Need-returns
+returns c = flagged-low (c .before .args .flags .now) (c .before .args .run) (c .before .args .p) (c .if1 .taken)
+
+returns-2 : tie.Need-returns-2
+returns-2 c = flagged-out (c .before .before .args .flags .now) (c .before .before .args .run) (c .before .before .args .p) (c .before .if1 .left) (c .if2 .taken)
+
+mul-result : tie.Need-mul-result
+mul-result c = search needs
+
+shared-slice-read-result : tie.Need-shared-slice-read-result
+shared-slice-read-result c = search needs
+
+returns-3 : tie.Need-returns-3
+returns-3 c = flagged-is (c .before .before .before .args .flags .now) (c .before .before .before .args .run) (c .before .before .before .args .p) (c .before .before .if1 .left)
+
+pub is-flagged-spec : {M : Type 1} → statement M
+is-flagged-spec =
+    tie.close (tie.spec returns returns-2 mul-result shared-slice-read-result returns-3)

@@ -1,0 +1,35 @@
+-- `graph::beside::put_one` meets its contract: the word is a record at its place. Assumes nothing.
+use borrow.Author.Needs.{needs}
+use mathlib.Core.Path.{sym, _∙_, ap}
+use mathlib.Core.List.{List, [], _∷_}
+use Prim.Native.Nat.{ℕ, _+_}
+use native.Mathlib.Omega.{arith}
+use Rattle.graph.specs.declared.cut.Put.{Put}
+use Rattle.graph.proofs.Writing.{put-after, put-none, put-one, one-word}
+use Rattle.graph.proofs.beside.put_one.Statement.{statement}
+use Rattle.graph.proofs.beside.put_one.Tie as tie
+
+returns : tie.Need-returns
+returns c = sym (put-after 1 (c .before .before .args .p .count) (c .before .before .args .list .now) (c .before .before .args .a ∷ []) (c .before .before .args .p .short) (c .if1 .taken))
+
+returns-2 : tie.Need-returns-2
+returns-2 c = sym (put-none 1 (c .before .before .before .args .p .count) (c .before .before .before .args .list .now) (c .before .before .before .args .a ∷ []) (c .before .before .before .args .p .short) (c .before .if1 .left) (omega arith))
+
+mul-list : tie.Need-mul-list
+mul-list c = search needs
+
+slice-write-list : tie.Need-slice-write-list
+slice-write-list c = search needs
+
+add-t6 : tie.Need-add-t6
+add-t6 c = search needs
+
+same-length : tie.Need-same-length
+same-length c = search needs
+
+returns-3 : tie.Need-returns-3
+returns-3 c = ap {B = Put × List ℕ} (λ (l : List ℕ). (record { count = c .before .before .before .args .p .count + 1; short = 0 }, l)) (one-word (c .before .before .before .args .list .now) (c .before .before .before .args .p .count) (c .before .before .before .args .a) (omega arith)) ∙ sym (put-one 1 (c .before .before .before .args .p .count) (c .before .before .before .args .list .now) (c .before .before .before .args .a ∷ []) (c .before .before .before .args .p .short) (c .before .if1 .left) (omega arith))
+
+pub put-one-spec : {M : Type 1} → statement M
+put-one-spec =
+    tie.close (tie.spec returns returns-2 mul-list slice-write-list add-t6 same-length returns-3)

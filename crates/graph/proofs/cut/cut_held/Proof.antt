@@ -1,0 +1,54 @@
+-- `graph::cut::cut_held` meets its contract: each way out of a cut is one law. Assumes nothing.
+use borrow.Author.Needs.{needs}
+use mathlib.Core.Path.{sym, _∙_}
+use native.Mathlib.Omega.{arith}
+use borrow.Author.Tests.{not-true, not-false}
+use Rattle.graph.proofs.Views.{facts}
+use Rattle.graph.proofs.CutWays.{cut-empty, cut-outside, cut-unmarked, cut-done}
+use Rattle.graph.proofs.cut.cut_held.Statement.{statement}
+use Rattle.graph.proofs.cut.cut_held.Tie as tie
+
+returns : tie.Need-returns
+returns c = cut-empty (c .before .before .args .t1) (c .before .before .args .from) (c .before .before .args .list .now) (c .before .before .pre) (c .if1 .taken)
+
+returns-2 : tie.Need-returns-2
+returns-2 c = cut-outside (c .before .before .before .args .t1) (c .before .before .before .args .from) (c .before .before .before .args .list .now) (c .before .before .before .pre) (c .before .if1 .left) (c .if2 .taken)
+
+is-among-requires : tie.Need-is-among-requires
+is-among-requires c κs = omega (arith, facts (c .before .before .before .before .before .before .args .t1) (c .before .before .before .before .before .before .pre) .marked, facts (c .before .before .before .before .before .before .args .t1) (c .before .before .before .before .before .before .pre) .sized .«critical_versions»)
+
+returns-3 : tie.Need-returns-3
+returns-3 c = cut-unmarked (c .before .before .before .before .before .before .before .before .args .t1) (c .before .before .before .before .before .before .before .before .args .from) (c .before .before .before .before .before .before .before .before .args .list .now) (c .before .before .before .before .before .before .before .before .pre) (c .before .before .before .before .before .before .if1 .left) (c .before .before .before .before .before .if2 .left) (sym (c .before .is-among .ensures) ∙ not-true _ (c .if3 .taken))
+
+last-at-most-requires : tie.Need-last-at-most-requires
+last-at-most-requires c κs = omega (arith, facts (c .before .before .before .before .before .before .before .before .before .before .before .args .t1) (c .before .before .before .before .before .before .before .before .before .before .before .pre) .marked, facts (c .before .before .before .before .before .before .before .before .before .before .before .args .t1) (c .before .before .before .before .before .before .before .before .before .before .before .pre) .sized .«critical_versions»)
+
+cast-cut-from : tie.Need-cast-cut-from
+cast-cut-from c = omega (arith, facts (c .before .before .before .before .before .before .before .before .before .before .before .before .before .before .before .args .t1) (c .before .before .before .before .before .before .before .before .before .before .before .before .before .before .before .pre) .runs)
+
+cut-from-requires : tie.Need-cut-from-requires
+cut-from-requires c κs = omega (arith, facts (c .before .before .before .before .before .before .before .before .before .before .before .before .before .before .before .before .args .t1) (c .before .before .before .before .before .before .before .before .before .before .before .before .before .before .before .before .pre) .marked, facts (c .before .before .before .before .before .before .before .before .before .before .before .before .before .before .before .before .args .t1) (c .before .before .before .before .before .before .before .before .before .before .before .before .before .before .before .before .pre) .sized .«critical_versions»)
+
+written-requires : tie.Need-written-requires
+written-requires c κs = search needs
+
+same-length : tie.Need-same-length
+same-length c = search needs
+
+returns-4 : tie.Need-returns-4
+returns-4 c = rw (c .written .ensures) (cut-done (c .before .before .before .before .before .before .before .before .before .before .before .before .before .before .before .before .before .before .before .before .args .t1) (c .before .before .before .before .before .before .before .before .before .before .before .before .before .before .before .before .before .before .before .before .args .from) (c .before .before .before .before .before .before .before .before .before .before .before .before .before .before .before .before .before .before .before .before .args .list .now) (c .before .before .before .before .before .before .before .before .before .before .before .before .before .before .before .before .before .before .before .before .pre) (c .before .before .before .before .before .before .before .before .before .before .before .before .before .before .before .before .before .before .if1 .left) (c .before .before .before .before .before .before .before .before .before .before .before .before .before .before .before .before .before .if2 .left) (sym (c .before .before .before .before .before .before .before .before .before .before .before .before .before .is-among .ensures) ∙ not-false _ (c .before .before .before .before .before .before .before .before .before .before .before .before .if3 .left)) (c .before .before .before .before .before .before .before .before .last-at-most .result) (c .before .before .before .before .before .before .before .before .last-at-most .ensures) _ _ (c .before .before .before .cut-from .ensures))
+
+pub cut-held-spec : {M : Type 1} → statement M
+cut-held-spec =
+    tie.close
+    (tie.spec
+    returns
+    returns-2
+    is-among-requires
+    returns-3
+    last-at-most-requires
+    cast-cut-from
+    cut-from-requires
+    written-requires
+    same-length
+    returns-4)

@@ -1,0 +1,294 @@
+// Archive points, and the runs that are concurrent with a run, into lent lists.
+ghost use mathlib.Core.Path.{_≡_};
+ghost use mathlib.Core.Bool.{true, not, cond, _&&_};
+ghost use mathlib.Core.List.{[], _∷_, map};
+ghost use Prim.Native.Nat.{_+_, _-_, _≤_, _<_};
+ghost use lib.ListN.{length, take, getD};
+ghost use lib.Dec.{eqb};
+ghost use Rattle.lists.specs.Lists.{bit, any, below};
+ghost use Rattle.lists.specs.Areas.{part};
+ghost use Rattle.model.specs.Record.{view};
+ghost use Rattle.model.specs.Broken.{Held};
+ghost use Rattle.model.specs.Beside.{archivePointsOf, ConcurrencyList};
+ghost use Rattle.graph.specs.Cutting.{blank, put, putAll};
+ghost use Rattle.graph.specs.Flags.{row, Rows, flagAll, flagParents, flagDown, flagged, flagChild, flagUp, free, Flags};
+use crate::cut::Put;
+use model::CausalGraph;
+use model::EventRunIndex;
+use model::Outcome;
+use model::Refusal;
+use model::Written;
+
+// Writes one word after the others, if it fits and all before it did.
+pub fn put_one(list: &mut [u32], p: Put, a: u32) -> Put
+    ensures { λ r. ⌜ (r, now (list .exit)) ≡ put 1 (p, now (list .entry)) (a ∷ []) ⌝ }
+{
+    let n = p.count;
+    if p.short != 0 {
+        return Put { count: n, short: 1 };
+    }
+    if list.len() <= n {
+        return Put { count: n, short: 1 };
+    }
+    list[n] = a;
+    Put {
+        count: n + 1,
+        short: 0,
+    }
+}
+
+// The starts of n marked runs, a word each.
+fn put_points<'a>(starts: &'a [u32], marks: &'a [u32], n: usize, list: &mut [u32]) -> Put
+    requires { ⌜ n ≤ length (now marks) ⌝ }
+    requires { ⌜ below (length (now starts)) (take n (now marks)) ≡ true ⌝ }
+    ensures { λ r. ⌜ (r, now (list .exit)) ≡ putAll 1 (blank, now (list .entry))
+        (map (λ m. getD (now (starts .entry)) m 0 ∷ []) (take n (now (marks .entry)))) ⌝ }
+{
+    let mut p = Put { count: 0, short: 0 };
+    let mut i = 0;
+    while i < n {
+        p = put_one(list, p, starts[marks[i] as usize]);
+        i += 1;
+    }
+    p
+}
+
+// `archive_points` on a graph that is known not to be broken.
+pub fn archive_held(g: CausalGraph, list: &mut [u32]) -> Written
+    requires { ⌜ Held g ⌝ }
+    ensures { λ r. ⌜ (r, now (list .exit)) ≡ archivePointsOf g (now (list .entry)) ⌝ }
+{
+    let p = put_points(&g.starts, &g.critical_versions, g.mark_count, list);
+    crate::cut::written(p)
+}
+
+// The archive points into `list`: the starts of marked runs, rising.
+pub fn archive_points(g: CausalGraph, list: &mut [u32]) -> Written
+    ensures { λ r. ⌜ (r, now (list .exit)) ≡ archivePointsOf g (now (list .entry)) ⌝ }
+{
+    if crate::broken::is_broken(g) {
+        return Written {
+            count: 0,
+            outcome: Outcome::Refused(Refusal::Broken),
+        };
+    }
+    archive_held(g, list)
+}
+
+// Flags the numbers of a part of a list.
+fn flag_part(flags: &mut [u32], items: &[u32], from: usize, to: usize)
+    requires { ⌜ to ≤ length (now items) ⌝ }
+    requires { ⌜ below (length (now flags)) (part from to (now items)) ≡ true ⌝ }
+    ensures { λ _. ⌜ now (flags .exit) ≡ flagAll (now (flags .entry)) (part from to (now (items .entry))) ⌝ }
+{
+    let mut i = from;
+    while i < to {
+        flags[items[i] as usize] = 1;
+        i += 1;
+    }
+}
+
+// The parents of a run are flagged if it is.
+fn flag_parents<'a>(flags: &mut [u32], starts: &'a [u32], items: &'a [u32], n: usize, run: usize)
+    requires { ⌜ Rows (now starts) (now items) n ⌝ }
+    requires { ⌜ n ≤ length (now flags) ⌝ }
+    requires { ⌜ run < n ⌝ }
+    ensures { λ _. ⌜ now (flags .exit) ≡ flagParents (row (now (starts .entry)) (now (items .entry))) (now (flags .entry)) run ⌝ }
+{
+    if flags[run] == 0 {
+        return;
+    }
+    flag_part(flags, items, starts[run] as usize, starts[run + 1] as usize)
+}
+
+// The same of the runs before `end`, from the last down.
+fn flag_down<'a>(flags: &mut [u32], starts: &'a [u32], items: &'a [u32], n: usize, end: usize)
+    requires { ⌜ Rows (now starts) (now items) n ⌝ }
+    requires { ⌜ n ≤ length (now flags) ⌝ }
+    requires { ⌜ end ≤ n ⌝ }
+    ensures { λ _. ⌜ now (flags .exit) ≡ flagDown (row (now (starts .entry)) (now (items .entry))) (now (flags .entry)) end ⌝ }
+{
+    let mut c = end;
+    while 0 < c {
+        c -= 1;
+        flag_parents(flags, starts, items, n, c);
+    }
+}
+
+// Whether a number is at least `run` and flagged.
+fn is_flagged(flags: &[u32], run: u32, p: u32) -> bool
+    ensures { λ r. ⌜ r ≡ flagged (now (flags .entry)) run p ⌝ }
+{
+    if p < run {
+        return false;
+    }
+    let at = p as usize;
+    if flags.len() <= at {
+        return false;
+    }
+    flags[at] != 0
+}
+
+// 1 if such a number stands in a part of a list, 0 if none does.
+fn flag_of(flags: &[u32], run: u32, items: &[u32], from: usize, to: usize) -> u32
+    requires { ⌜ to ≤ length (now items) ⌝ }
+    ensures { λ r. ⌜ r ≡ bit (any (flagged (now (flags .entry)) run) (part from to (now (items .entry)))) ⌝ }
+{
+    let mut i = from;
+    while i < to {
+        if is_flagged(flags, run, items[i]) {
+            return 1;
+        }
+        i += 1;
+    }
+    0
+}
+
+// A run is flagged if it has such a parent.
+fn flag_child<'a>(
+    flags: &mut [u32],
+    run: u32,
+    starts: &'a [u32],
+    items: &'a [u32],
+    n: usize,
+    q: usize,
+)
+    requires { ⌜ Rows (now starts) (now items) n ⌝ }
+    requires { ⌜ n ≤ length (now flags) ⌝ }
+    requires { ⌜ q < n ⌝ }
+    ensures { λ _. ⌜ now (flags .exit) ≡ flagChild (row (now (starts .entry)) (now (items .entry))) run (now (flags .entry)) q ⌝ }
+{
+    let v = flag_of(
+        flags,
+        run,
+        items,
+        starts[q] as usize,
+        starts[q + 1] as usize,
+    );
+    flags[q] = v;
+}
+
+// The same of the runs from `from` on.
+fn flag_up<'a>(
+    flags: &mut [u32],
+    run: u32,
+    starts: &'a [u32],
+    items: &'a [u32],
+    n: usize,
+    from: usize,
+)
+    requires { ⌜ Rows (now starts) (now items) n ⌝ }
+    requires { ⌜ n ≤ length (now flags) ⌝ }
+    ensures { λ _. ⌜ now (flags .exit) ≡ flagUp (row (now (starts .entry)) (now (items .entry))) run (now (flags .entry)) from (n - from) ⌝ }
+{
+    let mut q = from;
+    while q < n {
+        flag_child(flags, run, starts, items, n, q);
+        q += 1;
+    }
+}
+
+// A flag for each run that is an ancestor of `run`, `run` itself, or a descendant.
+fn flags_of(g: CausalGraph, run: u32) -> [u32; 512]
+    requires { ⌜ Held g ⌝ }
+    requires { ⌜ run < g .«run_count» ⌝ }
+    ensures { λ r. ⌜ Flags (view g) run r ⌝ }
+{
+    let at = run as usize;
+    let none = lists::nothing();
+    let mut f = none.items;
+    f[at] = 1;
+    flag_down(&mut f, &g.parent_starts, &g.parents, g.run_count, at + 1);
+    flag_up(
+        &mut f,
+        run,
+        &g.parent_starts,
+        &g.parents,
+        g.run_count,
+        at + 1,
+    );
+    f
+}
+
+fn one_if_free(flag: u32) -> usize
+    ensures { λ r. ⌜ (r ≡ bit (eqb flag 0)) × (r ≤ 1) ⌝ }
+{
+    if flag == 0 { 1 } else { 0 }
+}
+
+// How many of n runs have no flag.
+fn count_free(flags: &[u32], n: usize) -> usize
+    requires { ⌜ n ≤ length (now flags) ⌝ }
+    ensures { λ r. ⌜ r ≡ length (free (now (flags .entry)) n) ⌝ }
+{
+    let mut k = 0;
+    let mut q = 0;
+    while q < n {
+        k += one_if_free(flags[q]);
+        q += 1;
+    }
+    k
+}
+
+// Writes a run if it has no flag.
+fn put_free(list: &mut [u32], p: Put, run: u32, flag: u32) -> Put
+    ensures { λ r. ⌜ (r, now (list .exit)) ≡ cond (eqb flag 0) (put 1 (p, now (list .entry)) (run ∷ [])) (p, now (list .entry)) ⌝ }
+{
+    if flag == 0 {
+        return put_one(list, p, run);
+    }
+    p
+}
+
+// Those of n runs that have no flag, a word each.
+fn put_all_free(flags: &[u32], n: usize, list: &mut [u32]) -> Put
+    requires { ⌜ n ≤ length (now flags) ⌝ }
+    requires { ⌜ n ≤ 512 ⌝ }
+    ensures { λ r. ⌜ (r, now (list .exit)) ≡ putAll 1 (blank, now (list .entry))
+        (map (λ q. q ∷ []) (free (now (flags .entry)) n)) ⌝ }
+{
+    let mut p = Put { count: 0, short: 0 };
+    let mut q = 0;
+    while q < n {
+        p = put_free(list, p, q as u32, flags[q]);
+        q += 1;
+    }
+    p
+}
+
+// `concurrent_runs` on a graph that is known not to be broken.
+pub fn concurrent_held(g: CausalGraph, run: u32, list: &mut [u32]) -> Written
+    requires { ⌜ Held g ⌝ }
+    ensures { λ r. ⌜ ConcurrencyList g run (now (list .entry)) r (now (list .exit)) ⌝ }
+{
+    let n = g.run_count;
+    if n <= run as usize {
+        return Written {
+            count: 0,
+            outcome: Outcome::Refused(Refusal::Outside),
+        };
+    }
+    let flags = flags_of(g, run);
+    let k = count_free(&flags, n);
+    if list.len() < k {
+        return Written {
+            count: 0,
+            outcome: Outcome::Refused(Refusal::ListTooShort),
+        };
+    }
+    let p = put_all_free(&flags, n, list);
+    crate::cut::written(p)
+}
+
+// The runs that are neither ancestor nor descendant of `run`, nor `run` itself, into `list`.
+pub fn concurrent_runs(g: CausalGraph, run: EventRunIndex, list: &mut [u32]) -> Written
+    ensures { λ r. ⌜ ConcurrencyList g (run .0) (now (list .entry)) r (now (list .exit)) ⌝ }
+{
+    if crate::broken::is_broken(g) {
+        return Written {
+            count: 0,
+            outcome: Outcome::Refused(Refusal::Broken),
+        };
+    }
+    concurrent_held(g, run.0, list)
+}
