@@ -12,7 +12,7 @@ use Rattle.lists.specs.Lists.{filter}
 use Rattle.lists.specs.Areas.{pad}
 use Rattle.lists.specs.Scans.{keptIn, addIn, addIf}
 use Rattle.lists.proofs.Counts.{filter-length}
-use Rattle.lists.proofs.Pads.{add-pad}
+use Rattle.lists.proofs.Pads.{length-pad, add-pad}
 
 -- An area that holds a list: the list, and that its count lies within it
 pub kept-list : (k : Kept) (l : List ℕ) → k ≡ keptIn l → take (k .count) (k .items) ≡ l
@@ -26,6 +26,11 @@ kept-fits k l e = rw e (simp (length-append, length-replicate) (omega arith))
 pub kept-count : (k : Kept) (l : List ℕ) → k ≡ keptIn l → k .count ≡ length l
 unfolding keptIn
 kept-count k l e = ap (λ (j : Kept). j .count) e
+
+-- the list behind it has 512 places
+pub kept-long : (k : Kept) (l : List ℕ) → k ≡ keptIn l → length l ≤ 512 → length (k .items) ≡ 512
+unfolding keptIn
+kept-long k l e h = rw e (length-pad 512 l h)
 
 pub add-kept : (l : List ℕ) (v : ℕ) → length l < 512 → addIn (keptIn l) v ≡ keptIn (l ++ v ∷ [])
 unfolding keptIn

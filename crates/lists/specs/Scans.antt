@@ -40,6 +40,10 @@ between f (x ∷ xs) (s ∷ ss) = leb f s && leb s x && between f xs ss
 unfoldable pub keptIn : List ℕ → Kept
 keptIn l = record { items = pad 512 l; count = length l }
 
+-- a list of 512 places and how many are used
+abbrev pub kept : List ℕ → ℕ → Kept
+kept items n = record { items = items; count = n }
+
 -- one number more
 abbrev pub addIn : Kept → ℕ → Kept
 addIn k v = record { items = set (k .items) (k .count) v; count = k .count + 1 }

@@ -6,7 +6,7 @@ ghost use Prim.Native.Nat.{ℕ, suc, _+_, _<_, _≤_, _^_, min, max};
 ghost use lib.ListN.{getD, length, take, drop};
 ghost use Rattle.lists.specs.Lists.{rising, below, mem, same, filter};
 ghost use Rattle.lists.specs.Areas.{zeros, climbs, groups, part};
-ghost use Rattle.lists.specs.Scans.{lastAtMost, grow, insertIn, groupsFit, between, keptIn, addIn, addIf};
+ghost use Rattle.lists.specs.Scans.{lastAtMost, grow, insertIn, groupsFit, between, keptIn, kept, addIn, addIf};
 
 // Whether the first n are strictly rising.
 pub fn is_rising(s: &[u32], n: usize) -> bool
@@ -219,19 +219,37 @@ pub fn add_if(b: bool, k: Kept, v: u32) -> Kept
     k
 }
 
+// The same into a lent list of n numbers; answers their count.
+fn put_if(b: bool, items: &mut [u32], n: usize, v: u32) -> usize
+    requires { ⌜ n < length (now items) ⌝ }
+    requires { ⌜ n < 512 ⌝ }
+    ensures { λ r. ⌜ kept (now (items .exit)) r ≡ addIf b (kept (now (items .entry)) n) v ⌝ }
+{
+    if b {
+        items[n] = v;
+        return n + 1;
+    }
+    n
+}
+
 // Those of the first n that are not among `ps`.
 pub fn keep_all(a: &[u32], n: usize, ps: &[u32]) -> Kept
     requires { ⌜ n ≤ length (now a) ⌝ }
     requires { ⌜ n ≤ 512 ⌝ }
     ensures { λ r. ⌜ r ≡ keptIn (filter (λ e. not (mem e (now (ps .entry)))) (take n (now (a .entry)))) ⌝ }
 {
-    let mut k = nothing();
+    let none = nothing();
+    let mut items = none.items;
+    let mut c = 0;
     let mut i = 0;
     while i < n {
-        k = add_if(!is_among(ps, ps.len(), a[i]), k, a[i]);
+        c = put_if(!is_among(ps, ps.len(), a[i]), &mut items, c, a[i]);
         i += 1;
     }
-    k
+    Kept {
+        items: items,
+        count: c,
+    }
 }
 
 fn grown(v: u32, from: u32, by: u32) -> u32
