@@ -6,7 +6,7 @@ ghost use Rattle.lists.specs.Scans.{keptIn};
 ghost use Rattle.graph.specs.Loops.{lowest, marksOf};
 use lists::Kept;
 
-pub fn blank() -> [u32; 512] {
+fn blank() -> [u32; 512] {
     [0; 512]
 }
 

@@ -63,7 +63,7 @@ pub fn split_run(g: CausalGraph, run: usize, at: u32) -> CausalGraph
 }
 
 // Whether a parent is held and no run, nor the graph, ends in it.
-pub fn needs_split(g: CausalGraph, p: u32) -> bool
+fn needs_split(g: CausalGraph, p: u32) -> bool
     requires { ⌜ Held g ⌝ }
     requires { ⌜ p + 1 < 2 ^ 32 ⌝ }
     ensures { λ r. ⌜ r ≡ leb (firstHeld (view g)) p && not (ends (view g) p) ⌝ }
