@@ -10,10 +10,14 @@ is-broken-requires : tie.Need-is-broken-requires
 is-broken-requires c κs = search needs
 
 returns : tie.Need-returns
-returns c = concurrent-broken (c .before .before .before .args .g) (c .before .before .before .args .run .0) (c .before .before .before .args .list .now) (sym (c .before .is-broken .ensures) ∙ c .if1 .taken)
+returns c =
+    let a = c .before .before .before .args in
+    concurrent-broken (a .g) (a .run .0) (a .list .now) (sym (c .before .is-broken .ensures) ∙ c .if1 .taken)
 
 concurrent-held-requires : tie.Need-concurrent-held-requires
-concurrent-held-requires c κs = held-of (c .before .before .before .before .args .g) (search needs) (sym (c .before .before .is-broken .ensures) ∙ c .before .if1 .left)
+concurrent-held-requires c κs =
+    let a = c .before .before .before .before .args in
+    held-of (a .g) (search needs) (sym (c .before .before .is-broken .ensures) ∙ c .before .if1 .left)
 
 same-length : tie.Need-same-length
 same-length c = search needs

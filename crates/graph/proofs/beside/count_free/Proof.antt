@@ -36,10 +36,16 @@ loop-less : tie.Need-loop-less Inv-loop μ-loop
 loop-less c = search needs
 
 loop-again : tie.Need-loop-again Inv-loop μ-loop
-loop-again c = (omega (arith, c .one-if-free .ensures .1), omega (arith, c .one-if-free .ensures .0, count-next (c .before .before .before .before .before .args .flags .now) (c .before .before .before .loop .q) (c .before .before .before .before .before .args .n) (c .before .before .loop-test .taken), c .before .before .before .loop .inv .1))
+loop-again c =
+    let a = c .before .before .before .before .before .args in
+    let l = c .before .before .before .loop in
+    (omega (arith, c .one-if-free .ensures .1), omega (arith, c .one-if-free .ensures .0, count-next (a .flags .now) (l .q) (a .n) (c .before .before .loop-test .taken), l .inv .1))
 
 returns : tie.Need-returns Inv-loop μ-loop
-returns c = omega (arith, ap length (free-none (c .before .before .before .args .flags .now) (c .before .loop .q) (c .before .before .before .args .n) (c .loop-test .left)), c .before .loop .inv .1, ap length (free-start (c .before .before .before .args .flags .now) (c .before .before .before .args .n)))
+returns c =
+    let a = c .before .before .before .args in
+    let l = c .before .loop in
+    omega (arith, ap length (free-none (a .flags .now) (l .q) (a .n) (c .loop-test .left)), l .inv .1, ap length (free-start (a .flags .now) (a .n)))
 
 pub count-free-spec : {M : Type 1} → statement M
 count-free-spec =

@@ -27,10 +27,15 @@ shared-slice-read-flag-of-2 : tie.Need-shared-slice-read-flag-of-2
 shared-slice-read-flag-of-2 c = search needs
 
 cast-flag-of-2 : tie.Need-cast-flag-of-2
-cast-flag-of-2 c = omega (arith, c .before .before .before .before .shared-slice-known .given (c .before .before .before .before .before .before .args .q + 1))
+cast-flag-of-2 c =
+    let a = c .before .before .before .before .before .before .args in
+    omega (arith, c .before .before .before .before .shared-slice-known .given (a .q + 1))
 
 flag-of-requires : tie.Need-flag-of-requires
-flag-of-requires c κs = c .before .before .before .before .before .before .pre .0 .inside (c .before .before .before .before .before .before .args .q) (c .before .before .before .before .before .before .pre .1 .1)
+flag-of-requires c κs =
+    let a = c .before .before .before .before .before .before .args in
+    let p = c .before .before .before .before .before .before .pre in
+    p .0 .inside (a .q) (p .1 .1)
 
 mul-flags : tie.Need-mul-flags
 mul-flags c = search needs
@@ -43,7 +48,9 @@ same-length c = search needs
 
 returns : tie.Need-returns
 unfolding flagChild row
-returns c = ap (λ (v : ℕ). set (c .before .before .before .before .before .before .before .args .flags .now) (c .before .before .before .before .before .before .before .args .q) v) (c .flag-of .ensures)
+returns c =
+    let a = c .before .before .before .before .before .before .before .args in
+    ap (λ (v : ℕ). set (a .flags .now) (a .q) v) (c .flag-of .ensures)
 
 pub flag-child-spec : {M : Type 1} → statement M
 flag-child-spec =

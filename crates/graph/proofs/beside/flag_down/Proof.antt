@@ -29,13 +29,18 @@ loop-less : tie.Need-loop-less Inv-loop μ-loop
 loop-less c = search needs
 
 loop-again : tie.Need-loop-again Inv-loop μ-loop
-loop-again c = (c .before .before .flag-parents .kept .0 ∙ c .before .before .before .before .before .loop .inv .0, (omega arith, ap (λ (l : List ℕ). flagDown (row (c .before .before .before .before .before .before .before .before .before .args .starts .now) (c .before .before .before .before .before .before .before .before .before .args .items .now)) l (c .before .before .before .before .before .loop .c - 1)) (c .before .before .flag-parents .ensures) ∙ (down-next (row (c .before .before .before .before .before .before .before .before .before .args .starts .now) (c .before .before .before .before .before .before .before .before .before .args .items .now)) (c .before .before .before .before .before .loop .flags) (c .before .before .before .before .before .loop .c) (c .before .before .before .before .loop-test .taken) ∙ c .before .before .before .before .before .loop .inv .1 .1)))
+loop-again c =
+    let a = c .before .before .before .before .before .before .before .before .before .args in
+    (c .before .before .flag-parents .kept .0 ∙ c .before .before .before .before .before .loop .inv .0, (omega arith, ap (λ (l : List ℕ). flagDown (row (a .starts .now) (a .items .now)) l (c .before .before .before .before .before .loop .c - 1)) (c .before .before .flag-parents .ensures) ∙ (down-next (row (a .starts .now) (a .items .now)) (c .before .before .before .before .before .loop .flags) (c .before .before .before .before .before .loop .c) (c .before .before .before .before .loop-test .taken) ∙ c .before .before .before .before .before .loop .inv .1 .1)))
 
 same-length : tie.Need-same-length Inv-loop μ-loop
 same-length c = c .before .loop .inv .0
 
 returns : tie.Need-returns Inv-loop μ-loop
-returns c = sym (down-none (row (c .before .before .before .before .before .args .starts .now) (c .before .before .before .before .before .args .items .now)) (c .before .loop .flags) (c .before .loop .c) (c .loop-test .left)) ∙ c .before .loop .inv .1 .1
+returns c =
+    let a = c .before .before .before .before .before .args in
+    let l = c .before .loop in
+    sym (down-none (row (a .starts .now) (a .items .now)) (l .flags) (l .c) (c .loop-test .left)) ∙ l .inv .1 .1
 
 pub flag-down-spec : {M : Type 1} → statement M
 flag-down-spec =

@@ -30,7 +30,11 @@ is-flagged-requires : tie.Need-is-flagged-requires Inv-loop μ-loop
 is-flagged-requires c κs = search needs
 
 returns : tie.Need-returns Inv-loop μ-loop
-returns c = ap bit (found (flagged (c .before .before .before .before .before .before .before .args .flags .now) (c .before .before .before .before .before .before .before .args .run) (getD (c .before .before .before .before .before .before .before .args .items .now) (c .before .before .before .before .loop .i) 0)) (any (flagged (c .before .before .before .before .before .before .before .args .flags .now) (c .before .before .before .before .before .before .before .args .run)) (part (c .before .before .before .before .loop .i + 1) (c .before .before .before .before .before .before .before .args .to) (c .before .before .before .before .before .before .before .args .items .now))) (c .before .before .before .before .loop .inv) (any-next (c .before .before .before .before .before .before .before .args .items .now) (c .before .before .before .before .before .before .before .args .to) (c .before .before .before .before .before .before .before .pre) (c .before .before .before .before .loop .i) (flagged (c .before .before .before .before .before .before .before .args .flags .now) (c .before .before .before .before .before .before .before .args .run)) (c .before .before .before .loop-test .taken)) (sym (c .before .is-flagged .ensures) ∙ c .if1 .taken))
+returns c =
+    let a = c .before .before .before .before .before .before .before .args in
+    let p = c .before .before .before .before .before .before .before .pre in
+    let l = c .before .before .before .before .loop in
+    ap bit (found (flagged (a .flags .now) (a .run) (getD (a .items .now) (l .i) 0)) (any (flagged (a .flags .now) (a .run)) (part (l .i + 1) (a .to) (a .items .now))) (l .inv) (any-next (a .items .now) (a .to) (p) (l .i) (flagged (a .flags .now) (a .run)) (c .before .before .before .loop-test .taken)) (sym (c .before .is-flagged .ensures) ∙ c .if1 .taken))
 
 add-i : tie.Need-add-i Inv-loop μ-loop
 add-i c = search needs
@@ -39,10 +43,18 @@ loop-less : tie.Need-loop-less Inv-loop μ-loop
 loop-less c = search needs
 
 loop-again : tie.Need-loop-again Inv-loop μ-loop
-loop-again c = missed (flagged (c .before .before .before .before .before .before .before .args .flags .now) (c .before .before .before .before .before .before .before .args .run) (getD (c .before .before .before .before .before .before .before .args .items .now) (c .before .before .before .before .loop .i) 0)) (any (flagged (c .before .before .before .before .before .before .before .args .flags .now) (c .before .before .before .before .before .before .before .args .run)) (part (c .before .before .before .before .loop .i + 1) (c .before .before .before .before .before .before .before .args .to) (c .before .before .before .before .before .before .before .args .items .now))) (c .before .before .before .before .loop .inv) (any-next (c .before .before .before .before .before .before .before .args .items .now) (c .before .before .before .before .before .before .before .args .to) (c .before .before .before .before .before .before .before .pre) (c .before .before .before .before .loop .i) (flagged (c .before .before .before .before .before .before .before .args .flags .now) (c .before .before .before .before .before .before .before .args .run)) (c .before .before .before .loop-test .taken)) (sym (c .before .is-flagged .ensures) ∙ c .if1 .left)
+loop-again c =
+    let a = c .before .before .before .before .before .before .before .args in
+    let p = c .before .before .before .before .before .before .before .pre in
+    let l = c .before .before .before .before .loop in
+    missed (flagged (a .flags .now) (a .run) (getD (a .items .now) (l .i) 0)) (any (flagged (a .flags .now) (a .run)) (part (l .i + 1) (a .to) (a .items .now))) (l .inv) (any-next (a .items .now) (a .to) (p) (l .i) (flagged (a .flags .now) (a .run)) (c .before .before .before .loop-test .taken)) (sym (c .before .is-flagged .ensures) ∙ c .if1 .left)
 
 returns-2 : tie.Need-returns-2 Inv-loop μ-loop
-returns-2 c = sym (ap bit (c .before .loop .inv ∙ any-none (c .before .before .before .before .args .items .now) (c .before .before .before .before .args .to) (c .before .before .before .before .pre) (c .before .loop .i) (flagged (c .before .before .before .before .args .flags .now) (c .before .before .before .before .args .run)) (c .loop-test .left)))
+returns-2 c =
+    let a = c .before .before .before .before .args in
+    let p = c .before .before .before .before .pre in
+    let l = c .before .loop in
+    sym (ap bit (l .inv ∙ any-none (a .items .now) (a .to) (p) (l .i) (flagged (a .flags .now) (a .run)) (c .loop-test .left)))
 
 pub flag-of-spec : {M : Type 1} → statement M
 flag-of-spec =

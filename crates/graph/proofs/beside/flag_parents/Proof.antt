@@ -16,7 +16,9 @@ slice-read-if1 : tie.Need-slice-read-if1
 slice-read-if1 c = search needs
 
 returns : tie.Need-returns
-returns c = parents-none (row (c .before .before .before .before .before .args .starts .now) (c .before .before .before .before .before .args .items .now)) (c .before .before .before .before .before .args .flags .now) (c .before .before .before .before .before .args .run) (c .if1 .taken)
+returns c =
+    let a = c .before .before .before .before .before .args in
+    parents-none (row (a .starts .now) (a .items .now)) (a .flags .now) (a .run) (c .if1 .taken)
 
 mul-flag-part : tie.Need-mul-flag-part
 mul-flag-part c = search needs
@@ -25,7 +27,9 @@ shared-slice-read-flag-part : tie.Need-shared-slice-read-flag-part
 shared-slice-read-flag-part c = search needs
 
 cast-flag-part : tie.Need-cast-flag-part
-cast-flag-part c = omega (arith, c .before .before .before .before .before .shared-slice-known .given (c .before .before .before .before .before .before .before .args .run))
+cast-flag-part c =
+    let a = c .before .before .before .before .before .before .before .args in
+    omega (arith, c .before .before .before .before .before .shared-slice-known .given (a .run))
 
 add-flag-part : tie.Need-add-flag-part
 add-flag-part c = search needs
@@ -37,17 +41,24 @@ shared-slice-read-flag-part-2 : tie.Need-shared-slice-read-flag-part-2
 shared-slice-read-flag-part-2 c = search needs
 
 cast-flag-part-2 : tie.Need-cast-flag-part-2
-cast-flag-part-2 c = omega (arith, c .before .before .before .before .before .before .shared-slice-known .given (c .before .before .before .before .before .before .before .before .args .run + 1))
+cast-flag-part-2 c =
+    let a = c .before .before .before .before .before .before .before .before .args in
+    omega (arith, c .before .before .before .before .before .before .shared-slice-known .given (a .run + 1))
 
 flag-part-requires : tie.Need-flag-part-requires
-flag-part-requires c κs = (c .before .before .before .before .before .before .before .before .pre .0 .inside (c .before .before .before .before .before .before .before .before .args .run) (c .before .before .before .before .before .before .before .before .pre .1 .1), row-below (c .before .before .before .before .before .before .before .before .args .starts .now) (c .before .before .before .before .before .before .before .before .args .items .now) (c .before .before .before .before .before .before .before .before .args .n) (length (c .before .before .before .before .before .before .before .before .args .flags .now)) (c .before .before .before .before .before .before .before .before .args .run) (c .before .before .before .before .before .before .before .before .pre .0) (c .before .before .before .before .before .before .before .before .pre .1 .1) (c .before .before .before .before .before .before .before .before .pre .1 .0))
+flag-part-requires c κs =
+    let a = c .before .before .before .before .before .before .before .before .args in
+    let p = c .before .before .before .before .before .before .before .before .pre in
+    (p .0 .inside (a .run) (p .1 .1), row-below (a .starts .now) (a .items .now) (a .n) (length (a .flags .now)) (a .run) (p .0) (p .1 .1) (p .1 .0))
 
 same-length : tie.Need-same-length
 same-length c = search needs
 
 returns-2 : tie.Need-returns-2
 unfolding row
-returns-2 c = c .before .before .flag-part .ensures ∙ parents-all (row (c .before .before .before .before .before .before .before .before .before .before .before .args .starts .now) (c .before .before .before .before .before .before .before .before .before .before .before .args .items .now)) (c .before .before .before .before .before .before .before .before .before .before .before .args .flags .now) (c .before .before .before .before .before .before .before .before .before .before .before .args .run) (c .before .before .before .before .before .before .if1 .left)
+returns-2 c =
+    let a = c .before .before .before .before .before .before .before .before .before .before .before .args in
+    c .before .before .flag-part .ensures ∙ parents-all (row (a .starts .now) (a .items .now)) (a .flags .now) (a .run) (c .before .before .before .before .before .before .if1 .left)
 
 pub flag-parents-spec : {M : Type 1} → statement M
 flag-parents-spec =

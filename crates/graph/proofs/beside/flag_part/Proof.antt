@@ -34,7 +34,11 @@ mul-flags-2 : tie.Need-mul-flags-2 Inv-loop μ-loop
 mul-flags-2 c = omega (arith, c .shared-slice-known .given (c .before .before .loop .i))
 
 slice-write-flags : tie.Need-slice-write-flags Inv-loop μ-loop
-slice-write-flags c = omega (arith, part-here (c .before .before .before .args .items .now) (c .before .before .before .args .to) (c .before .before .before .pre .0) (c .before .before .loop .i) (length (c .before .before .before .args .flags .now)) (c .before .loop-test .taken) (c .before .before .loop .inv .1 .0), c .before .before .loop .inv .0)
+slice-write-flags c =
+    let a = c .before .before .before .args in
+    let p = c .before .before .before .pre in
+    let l = c .before .before .loop in
+    omega (arith, part-here (a .items .now) (a .to) (p .0) (l .i) (length (a .flags .now)) (c .before .loop-test .taken) (l .inv .1 .0), l .inv .0)
 
 add-i : tie.Need-add-i Inv-loop μ-loop
 add-i c = search needs
@@ -43,13 +47,21 @@ loop-less : tie.Need-loop-less Inv-loop μ-loop
 loop-less c = search needs
 
 loop-again : tie.Need-loop-again Inv-loop μ-loop
-loop-again c = (simp length-set (c .before .before .loop .inv .0), (part-later (c .before .before .before .args .items .now) (c .before .before .before .args .to) (c .before .before .before .pre .0) (c .before .before .loop .i) (length (c .before .before .before .args .flags .now)) (c .before .loop-test .taken) (c .before .before .loop .inv .1 .0), flag-next (c .before .before .before .args .items .now) (c .before .before .before .args .to) (c .before .before .before .pre .0) (c .before .before .loop .i) (c .before .before .loop .flags) (c .before .loop-test .taken) ∙ c .before .before .loop .inv .1 .1))
+loop-again c =
+    let a = c .before .before .before .args in
+    let p = c .before .before .before .pre in
+    let l = c .before .before .loop in
+    (simp length-set (l .inv .0), (part-later (a .items .now) (a .to) (p .0) (l .i) (length (a .flags .now)) (c .before .loop-test .taken) (l .inv .1 .0), flag-next (a .items .now) (a .to) (p .0) (l .i) (l .flags) (c .before .loop-test .taken) ∙ l .inv .1 .1))
 
 same-length : tie.Need-same-length Inv-loop μ-loop
 same-length c = c .before .loop .inv .0
 
 returns : tie.Need-returns Inv-loop μ-loop
-returns c = flag-none (c .before .before .args .items .now) (c .before .before .args .to) (c .before .before .pre .0) (c .before .loop .i) (c .before .loop .flags) (c .loop-test .left) ∙ c .before .loop .inv .1 .1
+returns c =
+    let a = c .before .before .args in
+    let p = c .before .before .pre in
+    let l = c .before .loop in
+    flag-none (a .items .now) (a .to) (p .0) (l .i) (l .flags) (c .loop-test .left) ∙ l .inv .1 .1
 
 pub flag-part-spec : {M : Type 1} → statement M
 flag-part-spec =

@@ -29,13 +29,18 @@ loop-less : tie.Need-loop-less Inv-loop μ-loop
 loop-less c = search needs
 
 loop-again : tie.Need-loop-again Inv-loop μ-loop
-loop-again c = (c .before .before .flag-child .kept .0 ∙ c .before .before .before .before .before .loop .inv .0, ap (λ (l : List ℕ). flagUp (row (c .before .before .before .before .before .before .before .before .before .args .starts .now) (c .before .before .before .before .before .before .before .before .before .args .items .now)) (c .before .before .before .before .before .before .before .before .before .args .run) l (c .before .before .before .before .before .loop .q + 1) (c .before .before .before .before .before .before .before .before .before .args .n - (c .before .before .before .before .before .loop .q + 1))) (c .before .before .flag-child .ensures) ∙ (up-next (row (c .before .before .before .before .before .before .before .before .before .args .starts .now) (c .before .before .before .before .before .before .before .before .before .args .items .now)) (c .before .before .before .before .before .before .before .before .before .args .run) (c .before .before .before .before .before .loop .flags) (c .before .before .before .before .before .loop .q) (c .before .before .before .before .before .before .before .before .before .args .n) (c .before .before .before .before .loop-test .taken) ∙ c .before .before .before .before .before .loop .inv .1))
+loop-again c =
+    let a = c .before .before .before .before .before .before .before .before .before .args in
+    (c .before .before .flag-child .kept .0 ∙ c .before .before .before .before .before .loop .inv .0, ap (λ (l : List ℕ). flagUp (row (a .starts .now) (a .items .now)) (a .run) l (c .before .before .before .before .before .loop .q + 1) (a .n - (c .before .before .before .before .before .loop .q + 1))) (c .before .before .flag-child .ensures) ∙ (up-next (row (a .starts .now) (a .items .now)) (a .run) (c .before .before .before .before .before .loop .flags) (c .before .before .before .before .before .loop .q) (a .n) (c .before .before .before .before .loop-test .taken) ∙ c .before .before .before .before .before .loop .inv .1))
 
 same-length : tie.Need-same-length Inv-loop μ-loop
 same-length c = c .before .loop .inv .0
 
 returns : tie.Need-returns Inv-loop μ-loop
-returns c = sym (up-none (row (c .before .before .before .before .before .args .starts .now) (c .before .before .before .before .before .args .items .now)) (c .before .before .before .before .before .args .run) (c .before .loop .flags) (c .before .loop .q) (c .before .before .before .before .before .args .n) (c .loop-test .left)) ∙ c .before .loop .inv .1
+returns c =
+    let a = c .before .before .before .before .before .args in
+    let l = c .before .loop in
+    sym (up-none (row (a .starts .now) (a .items .now)) (a .run) (l .flags) (l .q) (a .n) (c .loop-test .left)) ∙ l .inv .1
 
 pub flag-up-spec : {M : Type 1} → statement M
 flag-up-spec =

@@ -28,7 +28,10 @@ add-flag-down : tie.Need-add-flag-down
 add-flag-down c = search needs
 
 flag-down-requires : tie.Need-flag-down-requires
-flag-down-requires c κs = (rows-of (c .before .before .before .before .before .before .before .before .args .t1) (c .before .before .before .before .before .before .before .before .pre .0), (kept-room (c .before .before .before .before .before .before .before .nothing .result) (c .before .before .before .before .before .before .before .before .args .run) (c .before .before .before .before .before .before .before .before .args .t1 .«run_count») (c .before .before .before .before .before .before .before .nothing .ensures) (facts (c .before .before .before .before .before .before .before .before .args .t1) (c .before .before .before .before .before .before .before .before .pre .0) .runs), omega arith))
+flag-down-requires c κs =
+    let a = c .before .before .before .before .before .before .before .before .args in
+    let p = c .before .before .before .before .before .before .before .before .pre in
+    (rows-of (a .t1) (p .0), (kept-room (c .before .before .before .before .before .before .before .nothing .result) (a .run) (a .t1 .«run_count») (c .before .before .before .before .before .before .before .nothing .ensures) (facts (a .t1) (p .0) .runs), omega arith))
 
 slice-aggregate-flag-up : tie.Need-slice-aggregate-flag-up
 slice-aggregate-flag-up c = search needs
@@ -37,10 +40,16 @@ add-flag-up : tie.Need-add-flag-up
 add-flag-up c = search needs
 
 flag-up-requires : tie.Need-flag-up-requires
-flag-up-requires c κs = (rows-of (c .before .before .before .before .before .before .before .before .before .before .before .before .before .before .before .before .args .t1) (c .before .before .before .before .before .before .before .before .before .before .before .before .before .before .before .before .pre .0), omega (arith, facts (c .before .before .before .before .before .before .before .before .before .before .before .before .before .before .before .before .args .t1) (c .before .before .before .before .before .before .before .before .before .before .before .before .before .before .before .before .pre .0) .runs))
+flag-up-requires c κs =
+    let a = c .before .before .before .before .before .before .before .before .before .before .before .before .before .before .before .before .args in
+    let p = c .before .before .before .before .before .before .before .before .before .before .before .before .before .before .before .before .pre in
+    (rows-of (a .t1) (p .0), omega (arith, facts (a .t1) (p .0) .runs))
 
 returns : tie.Need-returns
-returns c = subst (λ (l : List ℕ). Flags (view (c .before .before .before .before .before .before .before .before .before .before .before .before .before .before .before .before .before .before .args .t1)) (c .before .before .before .before .before .before .before .before .before .before .before .before .before .before .before .before .before .before .args .run) l) (sym (c .before .flag-up .ensures ∙ ap (λ (l : List ℕ). flagUp (row (c .before .before .before .before .before .before .before .before .before .before .before .before .before .before .before .before .before .before .args .t1 .«parent_starts») (c .before .before .before .before .before .before .before .before .before .before .before .before .before .before .before .before .before .before .args .t1 .parents)) (c .before .before .before .before .before .before .before .before .before .before .before .before .before .before .before .before .before .before .args .run) l (c .before .before .before .before .before .before .before .before .before .before .before .before .before .before .before .before .before .before .args .run + 1) (c .before .before .before .before .before .before .before .before .before .before .before .before .before .before .before .before .before .before .args .t1 .«run_count» - (c .before .before .before .before .before .before .before .before .before .before .before .before .before .before .before .before .before .before .args .run + 1))) (c .before .before .before .before .before .before .before .before .before .flag-down .ensures))) (passes-flag (c .before .before .before .before .before .before .before .before .before .before .before .before .before .before .before .before .before .before .args .t1) (c .before .before .before .before .before .before .before .before .before .before .before .before .before .before .before .before .before .before .pre .0) (c .before .before .before .before .before .before .before .before .before .before .before .before .before .before .before .before .before .before .args .run) (c .before .before .before .before .before .before .before .before .before .before .before .before .before .before .before .before .before .before .pre .1) (c .before .before .before .before .before .before .before .before .before .before .before .before .before .before .before .before .before .nothing .result) (c .before .before .before .before .before .before .before .before .before .before .before .before .before .before .before .before .before .nothing .ensures))
+returns c =
+    let a = c .before .before .before .before .before .before .before .before .before .before .before .before .before .before .before .before .before .before .args in
+    let p = c .before .before .before .before .before .before .before .before .before .before .before .before .before .before .before .before .before .before .pre in
+    subst (λ (l : List ℕ). Flags (view (a .t1)) (a .run) l) (sym (c .before .flag-up .ensures ∙ ap (λ (l : List ℕ). flagUp (row (a .t1 .«parent_starts») (a .t1 .parents)) (a .run) l (a .run + 1) (a .t1 .«run_count» - (a .run + 1))) (c .before .before .before .before .before .before .before .before .before .flag-down .ensures))) (passes-flag (a .t1) (p .0) (a .run) (p .1) (c .before .before .before .before .before .before .before .before .before .before .before .before .before .before .before .before .before .nothing .result) (c .before .before .before .before .before .before .before .before .before .before .before .before .before .before .before .before .before .nothing .ensures))
 
 pub flags-of-spec : {M : Type 1} → statement M
 flags-of-spec =

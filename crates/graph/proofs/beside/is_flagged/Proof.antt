@@ -8,7 +8,9 @@ returns : tie.Need-returns
 returns c = flagged-low (c .before .args .flags .now) (c .before .args .run) (c .before .args .p) (c .if1 .taken)
 
 returns-2 : tie.Need-returns-2
-returns-2 c = flagged-out (c .before .before .args .flags .now) (c .before .before .args .run) (c .before .before .args .p) (c .before .if1 .left) (c .if2 .taken)
+returns-2 c =
+    let a = c .before .before .args in
+    flagged-out (a .flags .now) (a .run) (a .p) (c .before .if1 .left) (c .if2 .taken)
 
 mul-result : tie.Need-mul-result
 mul-result c = search needs
@@ -17,7 +19,9 @@ shared-slice-read-result : tie.Need-shared-slice-read-result
 shared-slice-read-result c = search needs
 
 returns-3 : tie.Need-returns-3
-returns-3 c = flagged-is (c .before .before .before .args .flags .now) (c .before .before .before .args .run) (c .before .before .before .args .p) (c .before .before .if1 .left)
+returns-3 c =
+    let a = c .before .before .before .args in
+    flagged-is (a .flags .now) (a .run) (a .p) (c .before .before .if1 .left)
 
 pub is-flagged-spec : {M : Type 1} → statement M
 is-flagged-spec =

@@ -38,13 +38,18 @@ loop-less : tie.Need-loop-less Inv-loop μ-loop
 loop-less c = search needs
 
 loop-again : tie.Need-loop-again Inv-loop μ-loop
-loop-again c = (c .before .before .put-free .kept .0 ∙ c .before .before .before .before .before .before .loop .inv .0, ap (λ (w : Put × List ℕ). putAll 1 w (map (λ x. x ∷ []) (freeFrom (c .before .before .before .before .before .before .before .before .before .args .flags .now) (c .before .before .before .before .before .before .loop .q + 1) (c .before .before .before .before .before .before .before .before .before .args .n)))) (c .before .before .put-free .ensures) ∙ (free-put (c .before .before .before .before .before .before .before .before .before .args .flags .now) (c .before .before .before .before .before .before .loop .q) (c .before .before .before .before .before .before .before .before .before .args .n) (c .before .before .before .before .before .before .loop .p, c .before .before .before .before .before .before .loop .list) (c .before .before .before .before .before .loop-test .taken) ∙ c .before .before .before .before .before .before .loop .inv .1))
+loop-again c =
+    let a = c .before .before .before .before .before .before .before .before .before .args in
+    let l = c .before .before .before .before .before .before .loop in
+    (c .before .before .put-free .kept .0 ∙ l .inv .0, ap (λ (w : Put × List ℕ). putAll 1 w (map (λ x. x ∷ []) (freeFrom (a .flags .now) (l .q + 1) (a .n)))) (c .before .before .put-free .ensures) ∙ (free-put (a .flags .now) (l .q) (a .n) (l .p, l .list) (c .before .before .before .before .before .loop-test .taken) ∙ l .inv .1))
 
 same-length : tie.Need-same-length Inv-loop μ-loop
 same-length c = c .before .loop .inv .0
 
 returns : tie.Need-returns Inv-loop μ-loop
-returns c = free-written (c .before .before .before .before .args .flags .now) (c .before .loop .q) (c .before .before .before .before .args .n) (c .before .loop .p, c .before .loop .list) (c .loop-test .left) ∙ (c .before .loop .inv .1 ∙ ap (λ (l : List ℕ). putAll 1 (blank, c .before .before .before .before .args .list .now) (map (λ x. x ∷ []) l)) (free-start (c .before .before .before .before .args .flags .now) (c .before .before .before .before .args .n)))
+returns c =
+    let a = c .before .before .before .before .args in
+    free-written (a .flags .now) (c .before .loop .q) (a .n) (c .before .loop .p, c .before .loop .list) (c .loop-test .left) ∙ (c .before .loop .inv .1 ∙ ap (λ (l : List ℕ). putAll 1 (blank, a .list .now) (map (λ x. x ∷ []) l)) (free-start (a .flags .now) (a .n)))
 
 pub put-all-free-spec : {M : Type 1} → statement M
 put-all-free-spec =

@@ -12,7 +12,9 @@ same-length : tie.Need-same-length
 same-length c = search needs
 
 returns : tie.Need-returns
-returns c = rw (eq-eqb (c .before .before .before .before .before .before .args .flag) 0 (c .before .before .before .before .if1 .taken)) (c .before .before .put-one .ensures)
+returns c =
+    let a = c .before .before .before .before .before .before .args in
+    rw (eq-eqb (a .flag) 0 (c .before .before .before .before .if1 .taken)) (c .before .before .put-one .ensures)
 
 returns-2 : tie.Need-returns-2
 returns-2 c = rw (ne-eqb (c .before .before .args .flag) 0 (c .if1 .left))

@@ -10,10 +10,14 @@ use Rattle.graph.proofs.beside.put_one.Statement.{statement}
 use Rattle.graph.proofs.beside.put_one.Tie as tie
 
 returns : tie.Need-returns
-returns c = sym (put-after 1 (c .before .before .args .p .count) (c .before .before .args .list .now) (c .before .before .args .a ∷ []) (c .before .before .args .p .short) (c .if1 .taken))
+returns c =
+    let a = c .before .before .args in
+    sym (put-after 1 (a .p .count) (a .list .now) (a .a ∷ []) (a .p .short) (c .if1 .taken))
 
 returns-2 : tie.Need-returns-2
-returns-2 c = sym (put-none 1 (c .before .before .before .args .p .count) (c .before .before .before .args .list .now) (c .before .before .before .args .a ∷ []) (c .before .before .before .args .p .short) (c .before .if1 .left) (omega arith))
+returns-2 c =
+    let a = c .before .before .before .args in
+    sym (put-none 1 (a .p .count) (a .list .now) (a .a ∷ []) (a .p .short) (c .before .if1 .left) (omega arith))
 
 mul-list : tie.Need-mul-list
 mul-list c = search needs
@@ -28,7 +32,9 @@ same-length : tie.Need-same-length
 same-length c = search needs
 
 returns-3 : tie.Need-returns-3
-returns-3 c = ap {B = Put × List ℕ} (λ (l : List ℕ). (record { count = c .before .before .before .args .p .count + 1; short = 0 }, l)) (one-word (c .before .before .before .args .list .now) (c .before .before .before .args .p .count) (c .before .before .before .args .a) (omega arith)) ∙ sym (put-one 1 (c .before .before .before .args .p .count) (c .before .before .before .args .list .now) (c .before .before .before .args .a ∷ []) (c .before .before .before .args .p .short) (c .before .if1 .left) (omega arith))
+returns-3 c =
+    let a = c .before .before .before .args in
+    ap {B = Put × List ℕ} (λ (l : List ℕ). (record { count = a .p .count + 1; short = 0 }, l)) (one-word (a .list .now) (a .p .count) (a .a) (omega arith)) ∙ sym (put-one 1 (a .p .count) (a .list .now) (a .a ∷ []) (a .p .short) (c .before .if1 .left) (omega arith))
 
 pub put-one-spec : {M : Type 1} → statement M
 put-one-spec =

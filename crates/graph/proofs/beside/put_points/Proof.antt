@@ -34,7 +34,11 @@ mul-put-one-2 : tie.Need-mul-put-one-2 Inv-loop μ-loop
 mul-put-one-2 c = omega (arith, c .shared-slice-known3 .given (c .before .before .before .loop .i))
 
 shared-slice-read-put-one-2 : tie.Need-shared-slice-read-put-one-2 Inv-loop μ-loop
-shared-slice-read-put-one-2 c = point-in (c .before .before .before .before .before .before .before .before .args .starts .now) (c .before .before .before .before .before .before .before .before .args .marks .now) (c .before .before .before .before .before .before .before .before .args .n) (c .before .before .before .before .before .before .before .before .pre .0) (c .before .before .before .before .loop .i) (c .before .before .before .before .before .before .before .before .pre .1) (c .before .before .before .loop-test .taken)
+shared-slice-read-put-one-2 c =
+    let a = c .before .before .before .before .before .before .before .before .args in
+    let p = c .before .before .before .before .before .before .before .before .pre in
+    let l = c .before .before .before .before .loop in
+    point-in (a .starts .now) (a .marks .now) (a .n) (p .0) (l .i) (p .1) (c .before .before .before .loop-test .taken)
 
 put-one-requires : tie.Need-put-one-requires Inv-loop μ-loop
 put-one-requires c κs = search needs
@@ -46,14 +50,22 @@ loop-less : tie.Need-loop-less Inv-loop μ-loop
 loop-less c = search needs
 
 loop-again : tie.Need-loop-again Inv-loop μ-loop
-loop-again c = (c .before .before .put-one .kept .0 ∙ c .before .before .before .before .before .before .before .loop .inv .0, ap (λ (w : Put × List ℕ). putAll 1 w (pointsOf (c .before .before .before .before .before .before .before .before .before .before .before .args .starts .now) (drop (c .before .before .before .before .before .before .before .loop .i + 1) (take (c .before .before .before .before .before .before .before .before .before .before .before .args .n) (c .before .before .before .before .before .before .before .before .before .before .before .args .marks .now))))) (c .before .before .put-one .ensures) ∙ (point-next (c .before .before .before .before .before .before .before .before .before .before .before .args .starts .now) (c .before .before .before .before .before .before .before .before .before .before .before .args .marks .now) (c .before .before .before .before .before .before .before .before .before .before .before .args .n) (c .before .before .before .before .before .before .before .before .before .before .before .pre .0) (c .before .before .before .before .before .before .before .loop .i) (c .before .before .before .before .before .before .before .loop .p, c .before .before .before .before .before .before .before .loop .list) (c .before .before .before .before .before .before .loop-test .taken) ∙ c .before .before .before .before .before .before .before .loop .inv .1))
+loop-again c =
+    let a = c .before .before .before .before .before .before .before .before .before .before .before .args in
+    let p = c .before .before .before .before .before .before .before .before .before .before .before .pre in
+    let l = c .before .before .before .before .before .before .before .loop in
+    (c .before .before .put-one .kept .0 ∙ l .inv .0, ap (λ (w : Put × List ℕ). putAll 1 w (pointsOf (a .starts .now) (drop (l .i + 1) (take (a .n) (a .marks .now))))) (c .before .before .put-one .ensures) ∙ (point-next (a .starts .now) (a .marks .now) (a .n) (p .0) (l .i) (l .p, l .list) (c .before .before .before .before .before .before .loop-test .taken) ∙ l .inv .1))
 
 same-length : tie.Need-same-length Inv-loop μ-loop
 same-length c = c .before .loop .inv .0
 
 returns : tie.Need-returns Inv-loop μ-loop
 unfolding pointsOf
-returns c = point-none (c .before .before .before .before .before .args .starts .now) (c .before .before .before .before .before .args .marks .now) (c .before .before .before .before .before .args .n) (c .before .before .before .before .before .pre .0) (c .before .loop .i) (c .before .loop .p, c .before .loop .list) (c .loop-test .left) ∙ c .before .loop .inv .1
+returns c =
+    let a = c .before .before .before .before .before .args in
+    let p = c .before .before .before .before .before .pre in
+    let l = c .before .loop in
+    point-none (a .starts .now) (a .marks .now) (a .n) (p .0) (l .i) (l .p, l .list) (c .loop-test .left) ∙ l .inv .1
 
 pub put-points-spec : {M : Type 1} → statement M
 put-points-spec =

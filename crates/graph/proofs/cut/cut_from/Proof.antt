@@ -44,7 +44,11 @@ loop-less : tie.Need-loop-less Inv-loop μ-loop
 loop-less c = search needs
 
 loop-again : tie.Need-loop-again Inv-loop μ-loop
-loop-again c = (c .before .before .cut-on .kept .0 ∙ c .before .before .before .before .before .before .before .loop .inv .0, ap (λ (w : Cutting × List ℕ). cutRest w (rangesFrom (drop (c .before .before .before .before .before .before .before .loop .i + 1) (take (c .before .before .before .before .before .before .before .before .before .before .before .args .n) (c .before .before .before .before .before .before .before .before .before .before .before .args .marks .now))) (c .before .before .before .before .before .before .before .before .before .before .before .args .end)) (c .before .before .before .before .before .before .before .before .before .before .before .args .end)) (c .before .before .cut-on .ensures) ∙ (cut-turn (c .before .before .before .before .before .before .before .before .before .before .before .args .marks .now) (c .before .before .before .before .before .before .before .before .before .before .before .args .n) (c .before .before .before .before .before .before .before .before .before .before .before .args .end) (c .before .before .before .before .before .before .before .before .before .before .before .pre) (c .before .before .before .before .before .before .before .loop .s, c .before .before .before .before .before .before .before .loop .list) (c .before .before .before .before .before .before .before .loop .i) (c .before .before .before .mark-at2 .result) (c .before .before .before .before .before .before .loop-test .taken) (c .before .before .before .mark-at2 .ensures) ∙ c .before .before .before .before .before .before .before .loop .inv .1))
+loop-again c =
+    let a = c .before .before .before .before .before .before .before .before .before .before .before .args in
+    let p = c .before .before .before .before .before .before .before .before .before .before .before .pre in
+    let l = c .before .before .before .before .before .before .before .loop in
+    (c .before .before .cut-on .kept .0 ∙ l .inv .0, ap (λ (w : Cutting × List ℕ). cutRest w (rangesFrom (drop (l .i + 1) (take (a .n) (a .marks .now))) (a .end)) (a .end)) (c .before .before .cut-on .ensures) ∙ (cut-turn (a .marks .now) (a .n) (a .end) (p) (l .s, l .list) (l .i) (c .before .before .before .mark-at2 .result) (c .before .before .before .before .before .before .loop-test .taken) (c .before .before .before .mark-at2 .ensures) ∙ l .inv .1))
 
 put-linear-requires : tie.Need-put-linear-requires Inv-loop μ-loop
 put-linear-requires c κs = search needs
@@ -53,7 +57,11 @@ same-length : tie.Need-same-length Inv-loop μ-loop
 same-length c = c .before .before .put-linear .kept .0 ∙ c .before .before .before .before .before .before .loop .inv .0
 
 returns : tie.Need-returns Inv-loop μ-loop
-returns c = c .before .before .put-linear .ensures ∙ (cut-end (c .before .before .before .before .before .before .before .before .before .before .args .marks .now) (c .before .before .before .before .before .before .before .before .before .before .args .n) (c .before .before .before .before .before .before .before .before .before .before .args .end) (c .before .before .before .before .before .before .before .before .before .before .pre) (c .before .before .before .before .before .before .loop .s, c .before .before .before .before .before .before .loop .list) (c .before .before .before .before .before .before .loop .i) (c .before .before .before .before .before .loop-test .left) ∙ (c .before .before .before .before .before .before .loop .inv .1 ∙ cut-begin (c .before .before .before .before .before .before .before .before .before .before .args .marks .now) (c .before .before .before .before .before .before .before .before .before .before .args .n) (c .before .before .before .before .before .before .before .before .before .before .args .end) (c .before .before .before .before .before .before .before .before .before .before .pre) _ _ (c .before .before .before .before .before .before .before .before .before .before .args .from) (c .before .before .before .before .before .before .before .mark-at .result) (c .before .before .before .before .before .before .before .mark-at .ensures)))
+returns c =
+    let a = c .before .before .before .before .before .before .before .before .before .before .args in
+    let p = c .before .before .before .before .before .before .before .before .before .before .pre in
+    let l = c .before .before .before .before .before .before .loop in
+    c .before .before .put-linear .ensures ∙ (cut-end (a .marks .now) (a .n) (a .end) (p) (l .s, l .list) (l .i) (c .before .before .before .before .before .loop-test .left) ∙ (l .inv .1 ∙ cut-begin (a .marks .now) (a .n) (a .end) (p) _ _ (a .from) (c .before .before .before .before .before .before .before .mark-at .result) (c .before .before .before .before .before .before .before .mark-at .ensures)))
 
 pub cut-from-spec : {M : Type 1} → statement M
 cut-from-spec =

@@ -9,25 +9,46 @@ use Rattle.graph.proofs.cut.cut_held.Statement.{statement}
 use Rattle.graph.proofs.cut.cut_held.Tie as tie
 
 returns : tie.Need-returns
-returns c = cut-empty (c .before .before .args .t1) (c .before .before .args .from) (c .before .before .args .list .now) (c .before .before .pre) (c .if1 .taken)
+returns c =
+    let a = c .before .before .args in
+    let p = c .before .before .pre in
+    cut-empty (a .t1) (a .from) (a .list .now) (p) (c .if1 .taken)
 
 returns-2 : tie.Need-returns-2
-returns-2 c = cut-outside (c .before .before .before .args .t1) (c .before .before .before .args .from) (c .before .before .before .args .list .now) (c .before .before .before .pre) (c .before .if1 .left) (c .if2 .taken)
+returns-2 c =
+    let a = c .before .before .before .args in
+    let p = c .before .before .before .pre in
+    cut-outside (a .t1) (a .from) (a .list .now) (p) (c .before .if1 .left) (c .if2 .taken)
 
 is-among-requires : tie.Need-is-among-requires
-is-among-requires c κs = omega (arith, facts (c .before .before .before .before .before .before .args .t1) (c .before .before .before .before .before .before .pre) .marked, facts (c .before .before .before .before .before .before .args .t1) (c .before .before .before .before .before .before .pre) .sized .«critical_versions»)
+is-among-requires c κs =
+    let a = c .before .before .before .before .before .before .args in
+    let p = c .before .before .before .before .before .before .pre in
+    omega (arith, facts (a .t1) (p) .marked, facts (a .t1) (p) .sized .«critical_versions»)
 
 returns-3 : tie.Need-returns-3
-returns-3 c = cut-unmarked (c .before .before .before .before .before .before .before .before .args .t1) (c .before .before .before .before .before .before .before .before .args .from) (c .before .before .before .before .before .before .before .before .args .list .now) (c .before .before .before .before .before .before .before .before .pre) (c .before .before .before .before .before .before .if1 .left) (c .before .before .before .before .before .if2 .left) (sym (c .before .is-among .ensures) ∙ not-true _ (c .if3 .taken))
+returns-3 c =
+    let a = c .before .before .before .before .before .before .before .before .args in
+    let p = c .before .before .before .before .before .before .before .before .pre in
+    cut-unmarked (a .t1) (a .from) (a .list .now) (p) (c .before .before .before .before .before .before .if1 .left) (c .before .before .before .before .before .if2 .left) (sym (c .before .is-among .ensures) ∙ not-true _ (c .if3 .taken))
 
 last-at-most-requires : tie.Need-last-at-most-requires
-last-at-most-requires c κs = omega (arith, facts (c .before .before .before .before .before .before .before .before .before .before .before .args .t1) (c .before .before .before .before .before .before .before .before .before .before .before .pre) .marked, facts (c .before .before .before .before .before .before .before .before .before .before .before .args .t1) (c .before .before .before .before .before .before .before .before .before .before .before .pre) .sized .«critical_versions»)
+last-at-most-requires c κs =
+    let a = c .before .before .before .before .before .before .before .before .before .before .before .args in
+    let p = c .before .before .before .before .before .before .before .before .before .before .before .pre in
+    omega (arith, facts (a .t1) (p) .marked, facts (a .t1) (p) .sized .«critical_versions»)
 
 cast-cut-from : tie.Need-cast-cut-from
-cast-cut-from c = omega (arith, facts (c .before .before .before .before .before .before .before .before .before .before .before .before .before .before .before .args .t1) (c .before .before .before .before .before .before .before .before .before .before .before .before .before .before .before .pre) .runs)
+cast-cut-from c =
+    let a = c .before .before .before .before .before .before .before .before .before .before .before .before .before .before .before .args in
+    let p = c .before .before .before .before .before .before .before .before .before .before .before .before .before .before .before .pre in
+    omega (arith, facts (a .t1) (p) .runs)
 
 cut-from-requires : tie.Need-cut-from-requires
-cut-from-requires c κs = omega (arith, facts (c .before .before .before .before .before .before .before .before .before .before .before .before .before .before .before .before .args .t1) (c .before .before .before .before .before .before .before .before .before .before .before .before .before .before .before .before .pre) .marked, facts (c .before .before .before .before .before .before .before .before .before .before .before .before .before .before .before .before .args .t1) (c .before .before .before .before .before .before .before .before .before .before .before .before .before .before .before .before .pre) .sized .«critical_versions»)
+cut-from-requires c κs =
+    let a = c .before .before .before .before .before .before .before .before .before .before .before .before .before .before .before .before .args in
+    let p = c .before .before .before .before .before .before .before .before .before .before .before .before .before .before .before .before .pre in
+    omega (arith, facts (a .t1) (p) .marked, facts (a .t1) (p) .sized .«critical_versions»)
 
 written-requires : tie.Need-written-requires
 written-requires c κs = search needs
@@ -36,7 +57,10 @@ same-length : tie.Need-same-length
 same-length c = search needs
 
 returns-4 : tie.Need-returns-4
-returns-4 c = rw (c .written .ensures) (cut-done (c .before .before .before .before .before .before .before .before .before .before .before .before .before .before .before .before .before .before .before .before .args .t1) (c .before .before .before .before .before .before .before .before .before .before .before .before .before .before .before .before .before .before .before .before .args .from) (c .before .before .before .before .before .before .before .before .before .before .before .before .before .before .before .before .before .before .before .before .args .list .now) (c .before .before .before .before .before .before .before .before .before .before .before .before .before .before .before .before .before .before .before .before .pre) (c .before .before .before .before .before .before .before .before .before .before .before .before .before .before .before .before .before .before .if1 .left) (c .before .before .before .before .before .before .before .before .before .before .before .before .before .before .before .before .before .if2 .left) (sym (c .before .before .before .before .before .before .before .before .before .before .before .before .before .is-among .ensures) ∙ not-false _ (c .before .before .before .before .before .before .before .before .before .before .before .before .if3 .left)) (c .before .before .before .before .before .before .before .before .last-at-most .result) (c .before .before .before .before .before .before .before .before .last-at-most .ensures) _ _ (c .before .before .before .cut-from .ensures))
+returns-4 c =
+    let a = c .before .before .before .before .before .before .before .before .before .before .before .before .before .before .before .before .before .before .before .before .args in
+    let p = c .before .before .before .before .before .before .before .before .before .before .before .before .before .before .before .before .before .before .before .before .pre in
+    rw (c .written .ensures) (cut-done (a .t1) (a .from) (a .list .now) (p) (c .before .before .before .before .before .before .before .before .before .before .before .before .before .before .before .before .before .before .if1 .left) (c .before .before .before .before .before .before .before .before .before .before .before .before .before .before .before .before .before .if2 .left) (sym (c .before .before .before .before .before .before .before .before .before .before .before .before .before .is-among .ensures) ∙ not-false _ (c .before .before .before .before .before .before .before .before .before .before .before .before .if3 .left)) (c .before .before .before .before .before .before .before .before .last-at-most .result) (c .before .before .before .before .before .before .before .before .last-at-most .ensures) _ _ (c .before .before .before .cut-from .ensures))
 
 pub cut-held-spec : {M : Type 1} → statement M
 cut-held-spec =

@@ -12,7 +12,9 @@ shared-slice-read-result : tie.Need-shared-slice-read-result
 shared-slice-read-result c = search needs
 
 returns : tie.Need-returns
-returns c = mark-in (c .before .before .args .marks .now) (c .before .before .args .n) (c .before .before .args .end) (omega arith) (c .before .before .args .i) (omega arith)
+returns c =
+    let a = c .before .before .args in
+    mark-in (a .marks .now) (a .n) (a .end) (omega arith) (a .i) (omega arith)
 
 returns-2 : tie.Need-returns-2
 returns-2 c = mark-out (c .before .args .marks .now) (c .before .args .n) (c .before .args .end) (omega arith) (c .before .args .i) (omega arith)

@@ -12,10 +12,14 @@ same-length : tie.Need-same-length
 same-length c = search needs
 
 returns : tie.Need-returns
-returns c = c .before .before .put-three .ensures ∙ sym (linear-put (c .before .before .before .before .before .before .args .p, c .before .before .before .before .before .before .args .list .now) (c .before .before .before .before .before .before .args .first) (c .before .before .before .before .before .before .args .end) (c .before .before .before .before .if1 .taken))
+returns c =
+    let a = c .before .before .before .before .before .before .args in
+    c .before .before .put-three .ensures ∙ sym (linear-put (a .p, a .list .now) (a .first) (a .end) (c .before .before .before .before .if1 .taken))
 
 returns-2 : tie.Need-returns-2
-returns-2 c = sym (linear-none (c .before .before .args .p, c .before .before .args .list .now) (c .before .before .args .first) (c .before .before .args .end) (c .if1 .left))
+returns-2 c =
+    let a = c .before .before .args in
+    sym (linear-none (a .p, a .list .now) (a .first) (a .end) (c .if1 .left))
 
 pub put-linear-spec : {M : Type 1} → statement M
 put-linear-spec = tie.close (tie.spec put-three-requires same-length returns returns-2)

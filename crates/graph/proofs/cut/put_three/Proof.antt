@@ -11,10 +11,14 @@ use Rattle.graph.proofs.cut.put_three.Statement.{statement}
 use Rattle.graph.proofs.cut.put_three.Tie as tie
 
 returns : tie.Need-returns
-returns c = sym (put-after 3 (c .before .before .args .p .count) (c .before .before .args .list .now) (c .before .before .args .a ∷ c .before .before .args .b ∷ c .before .before .args .c ∷ []) (c .before .before .args .p .short) (c .if1 .taken))
+returns c =
+    let a = c .before .before .args in
+    sym (put-after 3 (a .p .count) (a .list .now) (a .a ∷ a .b ∷ a .c ∷ []) (a .p .short) (c .if1 .taken))
 
 returns-2 : tie.Need-returns-2
-returns-2 c = sym (put-none 3 (c .before .before .before .args .p .count) (c .before .before .before .args .list .now) (c .before .before .before .args .a ∷ c .before .before .before .args .b ∷ c .before .before .before .args .c ∷ []) (c .before .before .before .args .p .short) (c .before .if1 .left) (c .if2 .taken))
+returns-2 c =
+    let a = c .before .before .before .args in
+    sym (put-none 3 (a .p .count) (a .list .now) (a .a ∷ a .b ∷ a .c ∷ []) (a .p .short) (c .before .if1 .left) (c .if2 .taken))
 
 mul-at : tie.Need-mul-at
 mul-at c = search needs
@@ -50,7 +54,9 @@ same-length : tie.Need-same-length
 same-length c = search needs
 
 returns-3 : tie.Need-returns-3
-returns-3 c = ap {B = Put × List ℕ} (λ (l : List ℕ). (record { count = c .before .before .before .args .p .count + 1; short = 0 }, l)) (three-words (c .before .before .before .args .list .now) (c .before .before .before .args .p .count * 3) (c .before .before .before .args .a) (c .before .before .before .args .b) (c .before .before .before .args .c) (omega arith)) ∙ sym (put-one 3 (c .before .before .before .args .p .count) (c .before .before .before .args .list .now) (c .before .before .before .args .a ∷ c .before .before .before .args .b ∷ c .before .before .before .args .c ∷ []) (c .before .before .before .args .p .short) (c .before .if1 .left) (omega arith))
+returns-3 c =
+    let a = c .before .before .before .args in
+    ap {B = Put × List ℕ} (λ (l : List ℕ). (record { count = a .p .count + 1; short = 0 }, l)) (three-words (a .list .now) (a .p .count * 3) (a .a) (a .b) (a .c) (omega arith)) ∙ sym (put-one 3 (a .p .count) (a .list .now) (a .a ∷ a .b ∷ a .c ∷ []) (a .p .short) (c .before .if1 .left) (omega arith))
 
 pub put-three-spec : {M : Type 1} → statement M
 put-three-spec =

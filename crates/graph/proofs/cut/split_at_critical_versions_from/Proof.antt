@@ -10,10 +10,14 @@ is-broken-requires : tie.Need-is-broken-requires
 is-broken-requires c κs = search needs
 
 returns : tie.Need-returns
-returns c = cut-broken (c .before .before .before .args .g) (c .before .before .before .args .from .0) (c .before .before .before .args .list .now) (sym (c .before .is-broken .ensures) ∙ c .if1 .taken)
+returns c =
+    let a = c .before .before .before .args in
+    cut-broken (a .g) (a .from .0) (a .list .now) (sym (c .before .is-broken .ensures) ∙ c .if1 .taken)
 
 cut-held-requires : tie.Need-cut-held-requires
-cut-held-requires c κs = held-of (c .before .before .before .before .args .g) (search needs) (sym (c .before .before .is-broken .ensures) ∙ c .before .if1 .left)
+cut-held-requires c κs =
+    let a = c .before .before .before .before .args in
+    held-of (a .g) (search needs) (sym (c .before .before .is-broken .ensures) ∙ c .before .if1 .left)
 
 same-length : tie.Need-same-length
 same-length c = search needs

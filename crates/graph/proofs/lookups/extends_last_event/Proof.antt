@@ -19,7 +19,9 @@ does-extend-requires c κs = held-of _ (search needs) (sym (c .before .is-broken
 
 returns-2 : tie.Need-returns-2
 unfolding extendsLastEventOf boolOr
-returns-2 c = rw (look-done (c .before .before .before .before .args .g) (sym (c .before .before .is-broken .ensures) ∙ c .before .if1 .left) _ refl, c .does-extend .ensures)
+returns-2 c =
+    let a = c .before .before .before .before .args in
+    rw (look-done (a .g) (sym (c .before .before .is-broken .ensures) ∙ c .before .if1 .left) _ refl, c .does-extend .ensures)
 
 pub extends-last-event-spec : {M : Type 1} → statement M
 extends-last-event-spec =

@@ -40,7 +40,10 @@ loop-less : tie.Need-loop-less Inv-loop μ-loop
 loop-less c = search needs
 
 loop-again : tie.Need-loop-again Inv-loop μ-loop
-loop-again c = lows-turn _ _ _ _ _ _ (c .before .before .before .before .before .before .pre .0) (c .before .before .before .before .before .before .pre .1) (c .before .before .loop-test .taken) (c .before .before .before .loop .inv) (c .smaller .ensures)
+loop-again c =
+    let p = c .before .before .before .before .before .before .pre in
+    let l = c .before .before .before .loop in
+    lows-turn _ _ _ _ _ _ (p .0) (p .1) (c .before .before .loop-test .taken) (l .inv) (c .smaller .ensures)
 
 returns : tie.Need-returns Inv-loop μ-loop
 returns c = λ k h. c .before .loop .inv .done k (omega (arith, c .loop-test .left)) h

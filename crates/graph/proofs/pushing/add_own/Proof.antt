@@ -20,27 +20,45 @@ returns c = own-no (c .before .before .args .t1) (c .before .before .pre .0) (c 
 
 -- src/pushing.rt:129:9
 last-at-most-requires : tie.Need-last-at-most-requires
-last-at-most-requires c κs = omega (arith, facts (c .before .before .before .before .before .args .t1) (c .before .before .before .before .before .pre .0) .runs)
+last-at-most-requires c κs =
+    let a = c .before .before .before .before .before .args in
+    let p = c .before .before .before .before .before .pre in
+    omega (arith, facts (a .t1) (p .0) .runs)
 
 -- src/pushing.rt:130:9
 seen-after-requires : tie.Need-seen-after-requires
-seen-after-requires c κs = (c .before .before .before .before .before .before .pre .0, run-in (c .before .before .before .before .before .before .args .t1) (c .before .before .before .before .before .before .pre .0) (c .before .before .before .before .before .before .args .p) _ (c .before .before .before .before .if1 .left) (c .before .before .before .before .before .before .pre .1 .0) (c .last-at-most .ensures) .1)
+seen-after-requires c κs =
+    let a = c .before .before .before .before .before .before .args in
+    let p = c .before .before .before .before .before .before .pre in
+    (p .0, run-in (a .t1) (p .0) (a .p) _ (c .before .before .before .before .if1 .left) (p .1 .0) (c .last-at-most .ensures) .1)
 
 -- src/pushing.rt:133:18
 cast-h : tie.Need-cast-h
-cast-h c = omega (arith, facts (c .before .before .before .before .before .before .before .args .t1) (c .before .before .before .before .before .before .before .pre .0) .runs, run-in (c .before .before .before .before .before .before .before .args .t1) (c .before .before .before .before .before .before .before .pre .0) (c .before .before .before .before .before .before .before .args .p) _ (c .before .before .before .before .before .if1 .left) (c .before .before .before .before .before .before .before .pre .1 .0) (c .before .last-at-most .ensures) .1)
+cast-h c =
+    let a = c .before .before .before .before .before .before .before .args in
+    let p = c .before .before .before .before .before .before .before .pre in
+    omega (arith, facts (a .t1) (p .0) .runs, run-in (a .t1) (p .0) (a .p) _ (c .before .before .before .before .before .if1 .left) (p .1 .0) (c .before .last-at-most .ensures) .1)
 
 -- src/pushing.rt:133:5
 mul-h : tie.Need-mul-h
-mul-h c = omega (arith, (c .before .before .before .before .before .before .before .pre .1 .1 (omega (arith, first-view (c .before .before .before .before .before .before .before .args .t1) (c .before .before .before .before .before .before .before .pre .0), c .before .before .before .before .before .if1 .left))))
+mul-h c =
+    let a = c .before .before .before .before .before .before .before .args in
+    let p = c .before .before .before .before .before .before .before .pre in
+    omega (arith, (p .1 .1 (omega (arith, first-view (a .t1) (p .0), c .before .before .before .before .before .if1 .left))))
 
 -- src/pushing.rt:133:5
 element-write-h : tie.Need-element-write-h
-element-write-h c = (c .before .before .before .before .before .before .before .pre .1 .1 (omega (arith, first-view (c .before .before .before .before .before .before .before .args .t1) (c .before .before .before .before .before .before .before .pre .0), c .before .before .before .before .before .if1 .left)))
+element-write-h c =
+    let a = c .before .before .before .before .before .before .before .args in
+    let p = c .before .before .before .before .before .before .before .pre in
+    (p .1 .1 (omega (arith, first-view (a .t1) (p .0), c .before .before .before .before .before .if1 .left)))
 
 -- src/pushing.rt:134:15
 add-h : tie.Need-add-h
-add-h c = omega (arith, (c .before .before .before .before .before .before .before .pre .1 .1 (omega (arith, first-view (c .before .before .before .before .before .before .before .args .t1) (c .before .before .before .before .before .before .before .pre .0), c .before .before .before .before .before .if1 .left))))
+add-h c =
+    let a = c .before .before .before .before .before .before .before .args in
+    let p = c .before .before .before .before .before .before .before .pre in
+    omega (arith, (p .1 .1 (omega (arith, first-view (a .t1) (p .0), c .before .before .before .before .before .if1 .left))))
 
 -- src/pushing.rt:135:14
 larger-requires : tie.Need-larger-requires
@@ -48,7 +66,10 @@ larger-requires c κs = search needs
 
 -- src/pushing.rt:120:1
 returns-2 : tie.Need-returns-2
-returns-2 c = own-yes (c .before .before .before .before .before .before .before .before .args .t1) (c .before .before .before .before .before .before .before .before .pre .0) (c .before .before .before .before .before .before .before .before .args .t) (c .before .before .before .before .before .before .before .before .args .p) _ _ _ (c .before .before .before .before .before .before .if1 .left) (run-in (c .before .before .before .before .before .before .before .before .args .t1) (c .before .before .before .before .before .before .before .before .pre .0) (c .before .before .before .before .before .before .before .before .args .p) _ (c .before .before .before .before .before .before .if1 .left) (c .before .before .before .before .before .before .before .before .pre .1 .0) (c .before .before .last-at-most .ensures) .0) (c .before .seen-after .ensures) (c .larger .ensures)
+returns-2 c =
+    let a = c .before .before .before .before .before .before .before .before .args in
+    let p = c .before .before .before .before .before .before .before .before .pre in
+    own-yes (a .t1) (p .0) (a .t) (a .p) _ _ _ (c .before .before .before .before .before .before .if1 .left) (run-in (a .t1) (p .0) (a .p) _ (c .before .before .before .before .before .before .if1 .left) (p .1 .0) (c .before .before .last-at-most .ensures) .0) (c .before .seen-after .ensures) (c .larger .ensures)
 
 pub add-own-spec : {M : Type 1} → statement M
 add-own-spec =

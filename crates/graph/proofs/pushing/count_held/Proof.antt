@@ -40,7 +40,10 @@ one-requires c κs = search needs
 
 -- src/pushing.rt:81:9
 add-n : tie.Need-add-n Inv-loop μ-loop
-add-n c = omega (arith, c .one .ensures, one-le (leb (getD (c .before .before .before .before .before .before .args .t1 .starts) 0 0) (getD (c .before .before .before .before .before .before .args .ps .now) (c .before .before .before .loop .i) 0)), c .before .before .before .loop .inv .1 .0)
+add-n c =
+    let a = c .before .before .before .before .before .before .args in
+    let l = c .before .before .before .loop in
+    omega (arith, c .one .ensures, one-le (leb (getD (a .t1 .starts) 0 0) (getD (a .ps .now) (l .i) 0)), l .inv .1 .0)
 
 -- src/pushing.rt:82:9
 add-i : tie.Need-add-i Inv-loop μ-loop
@@ -60,7 +63,11 @@ loop-again c = let l = c .before .before .before .loop in
 
 -- src/pushing.rt:73:1
 returns : tie.Need-returns Inv-loop μ-loop
-returns c = omega (arith, c .before .loop .inv .1 .1, from-end (getD (c .before .before .before .before .args .t1 .starts) 0 0) (c .before .before .before .before .args .ps .now) (c .before .loop .i) (c .loop-test .left)) ∙ held-from (c .before .before .before .before .args .t1) (c .before .before .before .before .pre) (c .before .before .before .before .args .ps .now)
+returns c =
+    let a = c .before .before .before .before .args in
+    let p = c .before .before .before .before .pre in
+    let l = c .before .loop in
+    omega (arith, l .inv .1 .1, from-end (getD (a .t1 .starts) 0 0) (a .ps .now) (l .i) (c .loop-test .left)) ∙ held-from (a .t1) (p) (a .ps .now)
 
 pub count-held-spec : {M : Type 1} → statement M
 count-held-spec =

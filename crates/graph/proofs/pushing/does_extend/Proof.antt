@@ -34,7 +34,10 @@ is-last-requires c κs = search needs
 
 -- src/pushing.rt:50:1
 returns-3 : tie.Need-returns-3
-returns-3 c = extends-one (c .before .before .before .before .before .before .args .t1) (c .before .before .before .before .before .before .pre) _ _ (c .before .before .before .before .if1 .left) (c .before .before .before .if2 .left) (c .is-last .ensures)
+returns-3 c =
+    let a = c .before .before .before .before .before .before .args in
+    let p = c .before .before .before .before .before .before .pre in
+    extends-one (a .t1) (p) _ _ (c .before .before .before .before .if1 .left) (c .before .before .before .if2 .left) (c .is-last .ensures)
 
 pub does-extend-spec : {M : Type 1} → statement M
 does-extend-spec =

@@ -46,11 +46,17 @@ mul-h-2 c = omega (arith, facts (c .before .before .args .g) (c .before .before 
 
 -- src/pushing.rt:103:5
 element-write-h-2 : tie.Need-element-write-h-2
-element-write-h-2 c = omega (arith, facts (c .before .before .args .g) (c .before .before .pre .0) .tips, some-tip (c .before .before .args .g) (c .before .before .pre .0) (c .before .before .pre .1 .1 .0))
+element-write-h-2 c =
+    let a = c .before .before .args in
+    let p = c .before .before .pre in
+    omega (arith, facts (a .g) (p .0) .tips, some-tip (a .g) (p .0) (p .1 .1 .0))
 
 -- src/pushing.rt:88:1
 returns : tie.Need-returns
-returns c = grown-stored (c .before .before .args .g) (c .before .before .pre .0) (c .before .before .pre .1 .1 .0) (c .before .before .args .n) (c .before .before .args .start) _ (c .before .before .pre .1 .0) (c .smaller .ensures)
+returns c =
+    let a = c .before .before .args in
+    let p = c .before .before .pre in
+    grown-stored (a .g) (p .0) (p .1 .1 .0) (a .n) (a .start) _ (p .1 .0) (c .smaller .ensures)
 
 pub grow-last-spec : {M : Type 1} → statement M
 grow-last-spec =

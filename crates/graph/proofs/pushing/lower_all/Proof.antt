@@ -34,15 +34,27 @@ element-copy-out-m c = omega (arith, facts (c .before .before .args .t1) (c .bef
 
 -- src/pushing.rt:194:18
 cast-at : tie.Need-cast-at Inv-loop μ-loop
-cast-at c = omega (arith, facts (c .before .before .before .args .t1) (c .before .before .before .pre) .runs, mark-in (c .before .before .before .args .t1) (c .before .before .before .pre) (c .before .before .loop .i) (c .before .loop-test .taken))
+cast-at c =
+    let a = c .before .before .before .args in
+    let p = c .before .before .before .pre in
+    let l = c .before .before .loop in
+    omega (arith, facts (a .t1) (p) .runs, mark-in (a .t1) (p) (l .i) (c .before .loop-test .taken))
 
 -- src/pushing.rt:195:29
 mul-lower : tie.Need-mul-lower Inv-loop μ-loop
-mul-lower c = omega (arith, facts (c .before .before .before .args .t1) (c .before .before .before .pre) .runs, mark-in (c .before .before .before .args .t1) (c .before .before .before .pre) (c .before .before .loop .i) (c .before .loop-test .taken))
+mul-lower c =
+    let a = c .before .before .before .args in
+    let p = c .before .before .before .pre in
+    let l = c .before .before .loop in
+    omega (arith, facts (a .t1) (p) .runs, mark-in (a .t1) (p) (l .i) (c .before .loop-test .taken))
 
 -- src/pushing.rt:195:29
 element-copy-out-lower : tie.Need-element-copy-out-lower Inv-loop μ-loop
-element-copy-out-lower c = omega (arith, facts (c .before .before .before .args .t1) (c .before .before .before .pre) .runs, mark-in (c .before .before .before .args .t1) (c .before .before .before .pre) (c .before .before .loop .i) (c .before .loop-test .taken))
+element-copy-out-lower c =
+    let a = c .before .before .before .args in
+    let p = c .before .before .before .pre in
+    let l = c .before .before .loop in
+    omega (arith, facts (a .t1) (p) .runs, mark-in (a .t1) (p) (l .i) (c .before .loop-test .taken))
 
 -- src/pushing.rt:195:9
 lower-requires : tie.Need-lower-requires Inv-loop μ-loop
@@ -50,7 +62,10 @@ lower-requires c κs = search needs
 
 -- src/pushing.rt:196:9
 add-i : tie.Need-add-i Inv-loop μ-loop
-add-i c = omega (arith, facts (c .before .before .before .before .before .args .t1) (c .before .before .before .before .before .pre) .marked, c .before .before .before .loop-test .taken)
+add-i c =
+    let a = c .before .before .before .before .before .args in
+    let p = c .before .before .before .before .before .pre in
+    omega (arith, facts (a .t1) (p) .marked, c .before .before .before .loop-test .taken)
 
 -- src/pushing.rt:192:5
 loop-less : tie.Need-loop-less Inv-loop μ-loop
@@ -58,11 +73,19 @@ loop-less c = search needs
 
 -- src/pushing.rt:192:5
 loop-again : tie.Need-loop-again Inv-loop μ-loop
-loop-again c = (omega arith, sym (lower-step (c .before .before .before .before .before .args .t1) (c .before .before .before .before .before .pre) (c .before .before .before .before .before .args .seen) (c .before .before .before .before .loop .c) (c .before .before .before .before .loop .i) (c .lower .result) (c .before .before .before .loop-test .taken) (c .lower .ensures)) ∙ c .before .before .before .before .loop .inv .1)
+loop-again c =
+    let a = c .before .before .before .before .before .args in
+    let p = c .before .before .before .before .before .pre in
+    let l = c .before .before .before .before .loop in
+    (omega arith, sym (lower-step (a .t1) (p) (a .seen) (l .c) (l .i) (c .lower .result) (c .before .before .before .loop-test .taken) (c .lower .ensures)) ∙ l .inv .1)
 
 -- src/pushing.rt:186:1
 returns : tie.Need-returns Inv-loop μ-loop
-returns c = sym (lower-end (c .before .before .args .t1) (c .before .before .pre) (c .before .before .args .seen) (c .before .loop .c) (c .before .loop .i) (c .loop-test .left)) ∙ c .before .loop .inv .1
+returns c =
+    let a = c .before .before .args in
+    let p = c .before .before .pre in
+    let l = c .before .loop in
+    sym (lower-end (a .t1) (p) (a .seen) (l .c) (l .i) (c .loop-test .left)) ∙ l .inv .1
 
 pub lower-all-spec : {M : Type 1} → statement M
 lower-all-spec =

@@ -37,7 +37,10 @@ shared-slice-read-add-own c = search needs
 
 -- src/pushing.rt:160:9
 add-own-requires : tie.Need-add-own-requires Inv-loop μ-loop
-add-own-requires c κs = let l = c .before .before .loop in (c .before .before .before .before .pre .0, (below-at _ _ (c .before .before .before .before .pre .1 .0) _ (getD-mem (c .before .before .before .before .args .ps .now) (l .i) 0 (c .before .loop-test .taken)), λ f. own-room (view (c .before .before .before .before .args .g)) (c .before .before .before .before .args .ps .now) (l .h .count) (l .i) (c .before .loop-test .taken) (l .inv .1 .0) f))
+add-own-requires c κs =
+    let a = c .before .before .before .before .args in
+    let p = c .before .before .before .before .pre in
+    let l = c .before .before .loop in (p .0, (below-at _ _ (p .1 .0) _ (getD-mem (a .ps .now) (l .i) 0 (c .before .loop-test .taken)), λ f. own-room (view (a .g)) (a .ps .now) (l .h .count) (l .i) (c .before .loop-test .taken) (l .inv .1 .0) f))
 
 -- src/pushing.rt:161:9
 add-i : tie.Need-add-i Inv-loop μ-loop
@@ -57,7 +60,10 @@ loop-again c = let l = c .before .before .before .loop in let a = view (c .befor
 
 -- src/pushing.rt:151:1
 returns : tie.Need-returns Inv-loop μ-loop
-returns c = sym (own-end (view (c .before .before .before .args .g)) (c .before .loop .h) (c .before .before .before .args .ps .now) (c .before .loop .i) (c .loop-test .left)) ∙ c .before .loop .inv .1 .1
+returns c =
+    let a = c .before .before .before .args in
+    let l = c .before .loop in
+    sym (own-end (view (a .g)) (l .h) (a .ps .now) (l .i) (c .loop-test .left)) ∙ l .inv .1 .1
 
 pub own-all-spec : {M : Type 1} → statement M
 own-all-spec =

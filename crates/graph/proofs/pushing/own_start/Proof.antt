@@ -13,7 +13,10 @@ element-copy-out-t7 c = search needs
 
 -- src/pushing.rt:139:1
 returns : tie.Need-returns
-returns c = rw (first-view (c .before .before .args .t1) (c .before .before .pre), ← parents-pad (c .before .before .args .t1) (c .before .before .pre), ← entries-flat (view (c .before .before .args .t1)), entries-view (c .before .before .args .t1) (c .before .before .pre))
+returns c =
+    let a = c .before .before .args in
+    let p = c .before .before .pre in
+    rw (first-view (a .t1) (p), ← parents-pad (a .t1) (p), ← entries-flat (view (a .t1)), entries-view (a .t1) (p))
 
 pub own-start-spec : {M : Type 1} → statement M
 own-start-spec = tie.close (tie.spec element-copy-out-t7 returns)

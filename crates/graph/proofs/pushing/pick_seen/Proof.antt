@@ -10,15 +10,24 @@ use Rattle.lists.proofs.is_same.Reads as is-same-reads
 
 -- src/pushing.rt:170:8
 is-same-requires : tie.Need-is-same-requires
-is-same-requires c κs = (omega arith, omega (arith, facts (c .before .before .before .before .args .t1) (c .before .before .before .before .pre) .tips))
+is-same-requires c κs =
+    let a = c .before .before .before .before .args in
+    let p = c .before .before .before .before .pre in
+    (omega arith, omega (arith, facts (a .t1) (p) .tips))
 
 -- src/pushing.rt:171:9
 returns : tie.Need-returns
-returns c = rw (frontier-list (c .before .before .before .before .before .before .args .t1) (c .before .before .before .before .before .before .pre), ← take-length (c .before .before .before .before .before .before .args .ps .now), sym (c .before .is-same .ensures) ∙ c .if1 .taken)
+returns c =
+    let a = c .before .before .before .before .before .before .args in
+    let p = c .before .before .before .before .before .before .pre in
+    rw (frontier-list (a .t1) (p), ← take-length (a .ps .now), sym (c .before .is-same .ensures) ∙ c .if1 .taken)
 
 -- src/pushing.rt:166:1
 returns-2 : tie.Need-returns-2
-returns-2 c = rw (frontier-list (c .before .before .before .before .before .before .args .t1) (c .before .before .before .before .before .before .pre), ← take-length (c .before .before .before .before .before .before .args .ps .now), sym (c .before .is-same .ensures) ∙ c .if1 .left)
+returns-2 c =
+    let a = c .before .before .before .before .before .before .args in
+    let p = c .before .before .before .before .before .before .pre in
+    rw (frontier-list (a .t1) (p), ← take-length (a .ps .now), sym (c .before .is-same .ensures) ∙ c .if1 .left)
 
 pub pick-seen-spec : {M : Type 1} → statement M
 pick-seen-spec = tie.close (tie.spec is-same-requires returns returns-2)

@@ -33,23 +33,38 @@ mul-result c = omega (arith, facts (c .before .before .before .args .t1) (c .bef
 
 -- src/pushing.rt:115:16
 element-copy-out-result : tie.Need-element-copy-out-result
-element-copy-out-result c = omega (arith, facts (c .before .before .before .args .t1) (c .before .before .before .pre .0) .runs, c .before .before .before .pre .1)
+element-copy-out-result c =
+    let a = c .before .before .before .args in
+    let p = c .before .before .before .pre in
+    omega (arith, facts (a .t1) (p .0) .runs, p .1)
 
 -- src/pushing.rt:115:9
 returns : tie.Need-returns
-returns c = after-whole (c .before .before .before .before .args .t1) (c .before .before .before .before .pre .0) (c .before .before .before .before .args .run) (c .before .before .before .before .pre .1) (c .before .if1 .taken)
+returns c =
+    let a = c .before .before .before .before .args in
+    let p = c .before .before .before .before .pre in
+    after-whole (a .t1) (p .0) (a .run) (p .1) (c .before .if1 .taken)
 
 -- src/pushing.rt:117:5
 mul-result-2 : tie.Need-mul-result-2
-mul-result-2 c = omega (arith, facts (c .before .before .before .args .t1) (c .before .before .before .pre .0) .runs, c .before .before .before .pre .1)
+mul-result-2 c =
+    let a = c .before .before .before .args in
+    let p = c .before .before .before .pre in
+    omega (arith, facts (a .t1) (p .0) .runs, p .1)
 
 -- src/pushing.rt:117:5
 element-copy-out-result-2 : tie.Need-element-copy-out-result-2
-element-copy-out-result-2 c = omega (arith, facts (c .before .before .before .args .t1) (c .before .before .before .pre .0) .runs, c .before .before .before .pre .1)
+element-copy-out-result-2 c =
+    let a = c .before .before .before .args in
+    let p = c .before .before .before .pre in
+    omega (arith, facts (a .t1) (p .0) .runs, p .1)
 
 -- src/pushing.rt:108:1
 returns-2 : tie.Need-returns-2
-returns-2 c = after-part (c .before .before .before .before .args .t1) (c .before .before .before .before .pre .0) (c .before .before .before .before .args .run) (c .before .before .before .before .pre .1) (c .before .if1 .left)
+returns-2 c =
+    let a = c .before .before .before .before .args in
+    let p = c .before .before .before .before .pre in
+    after-part (a .t1) (p .0) (a .run) (p .1) (c .before .if1 .left)
 
 pub seen-after-spec : {M : Type 1} → statement M
 seen-after-spec =

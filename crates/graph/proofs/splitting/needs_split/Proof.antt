@@ -17,7 +17,10 @@ returns c =
     rw (first-view g (c .before .before .pre .0), lt-leb _ _ (c .if1 .taken))
 
 add-is-among : tie.Need-add-is-among
-add-is-among c = omega (arith, c .before .before .before .before .before .pre, facts (c .before .before .before .before .before .args .t1) (c .before .before .before .before .before .pre .0) .runs)
+add-is-among c =
+    let a = c .before .before .before .before .before .args in
+    let p = c .before .before .before .before .before .pre in
+    omega (arith, p, facts (a .t1) (p .0) .runs)
 
 add-is-among-2 : tie.Need-add-is-among-2
 add-is-among-2 c = search needs

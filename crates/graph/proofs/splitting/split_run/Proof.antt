@@ -77,16 +77,22 @@ marks-of-requires : tie.Need-marks-of-requires
 marks-of-requires c κs = search needs
 
 cast-smaller : tie.Need-cast-smaller
-cast-smaller c = omega (arith, c .before .before .before .before .before .before .before .before .before .before .before .before .before .before .before .before .before .pre)
+cast-smaller c =
+    let p = c .before .before .before .before .before .before .before .before .before .before .before .before .before .before .before .before .before .pre in
+    omega (arith, p)
 
 smaller-requires : tie.Need-smaller-requires
 smaller-requires c κs = search needs
 
 add-h : tie.Need-add-h
-add-h c = omega (arith, c .before .before .before .before .before .before .before .before .before .before .before .before .before .before .before .before .before .before .pre)
+add-h c =
+    let p = c .before .before .before .before .before .before .before .before .before .before .before .before .before .before .before .before .before .before .pre in
+    omega (arith, p)
 
 add-h-2 : tie.Need-add-h-2
-add-h-2 c = omega (arith, c .before .before .before .before .before .before .before .before .before .before .before .before .before .before .before .before .before .before .pre)
+add-h-2 c =
+    let p = c .before .before .before .before .before .before .before .before .before .before .before .before .before .before .before .before .before .before .pre in
+    omega (arith, p)
 
 returns : tie.Need-returns
 returns c =

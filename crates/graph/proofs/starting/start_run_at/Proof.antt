@@ -18,7 +18,9 @@ start-held-requires : tie.Need-start-held-requires
 start-held-requires c κs = held-of _ (search needs) (sym (c .before .is-broken .ensures) ∙ c .if1 .left)
 
 returns-2 : tie.Need-returns-2
-returns-2 c = c .start-held .ensures ∙ start-unbroken (c .before .before .before .args .g) (c .before .before .before .args .at .0) (sym (c .before .before .is-broken .ensures) ∙ c .before .if1 .left)
+returns-2 c =
+    let a = c .before .before .before .args in
+    c .start-held .ensures ∙ start-unbroken (a .g) (a .at .0) (sym (c .before .before .is-broken .ensures) ∙ c .before .if1 .left)
 
 pub start-run-at-spec : {M : Type 1} → statement M
 start-run-at-spec = tie.close (tie.spec is-broken-requires returns start-held-requires returns-2)

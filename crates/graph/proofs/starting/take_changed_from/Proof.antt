@@ -16,7 +16,9 @@ take-held-requires : tie.Need-take-held-requires
 take-held-requires c κs = held-of _ (search needs) (sym (c .before .is-broken .ensures) ∙ c .if1 .left)
 
 returns-2 : tie.Need-returns-2
-returns-2 c = c .take-held .ensures ∙ take-unbroken (c .before .before .before .args .g) (sym (c .before .before .is-broken .ensures) ∙ c .before .if1 .left)
+returns-2 c =
+    let a = c .before .before .before .args in
+    c .take-held .ensures ∙ take-unbroken (a .g) (sym (c .before .before .is-broken .ensures) ∙ c .before .if1 .left)
 
 pub take-changed-from-spec : {M : Type 1} → statement M
 take-changed-from-spec =
