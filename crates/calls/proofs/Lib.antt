@@ -1,0 +1,3 @@
+-- The laws behind the calls given as words.
+pub mod Reading
+pub mod Making

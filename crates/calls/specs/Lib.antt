@@ -1,0 +1,2 @@
+-- Calls given as words.
+pub mod Words
