@@ -1,3 +1,4 @@
 -- The laws behind the calls given as words.
 pub mod Reading
 pub mod Making
+pub mod Covering

@@ -57,7 +57,7 @@ unfolding answer
 leaves-take g ws e = ap (λ (x : Call). answer g x .1) (sym e)
 
 -- The calls after n words and m more
-after-add : (n m : ℕ) (ws : List ℕ) → callsAfter (n + m) ws ≡ callsAfter m (drop n ws)
+pub after-add : (n m : ℕ) (ws : List ℕ) → callsAfter (n + m) ws ≡ callsAfter m (drop n ws)
 unfolding callsAfter
 after-add zero m ws = let e : 0 + m ≡ m = omega arith in ap (λ k. callsAfter k ws) e
 after-add (suc n) m [] = refl
@@ -66,7 +66,7 @@ after-add (suc n) m (w ∷ ws) =
     ap (λ k. callsAfter k (w ∷ ws)) e ∙ after-add n m ws
 
 -- The call at the front, and those after it
-front-next : (ws : List ℕ) → 0 < callSize ws → callsAfter 0 ws ≡ callOf ws ∷ callsAfter (callSize ws) ws
+pub front-next : (ws : List ℕ) → 0 < callSize ws → callsAfter 0 ws ≡ callOf ws ∷ callsAfter (callSize ws) ws
 unfolding callsAfter
 front-next [] h = absurd (omega (arith, call-in []))
 front-next (w ∷ ws) h = go (callSize (w ∷ ws)) h

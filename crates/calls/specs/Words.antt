@@ -1,7 +1,7 @@
 -- Calls given as words, as in the trace program's scripts: which start and which calls a list of words is. Every list of words is read,
 -- up to its end, to an operation that is none of these, or to a call that is cut off. Assumes nothing.
 use mathlib.Core.Bool.{cond}
-use mathlib.Core.List.{List, [], _∷_}
+use mathlib.Core.List.{List, [], _∷_, _++_}
 use Prim.Native.Nat.{ℕ, zero, suc, _+_}
 use lib.ListN.{length, getD, take, drop}
 use lib.Dec.{leb, eqb}
@@ -60,3 +60,17 @@ callsIn ws = elim (startSize ws) [ zero ↦ [] | suc n ↦ callsAfter (suc n) ws
 unfoldable pub graphAfter : CausalGraph → List Call → CausalGraph
 graphAfter g [] = g
 graphAfter g (c ∷ cs) = graphAfter (answer g c .1) cs
+
+-- the words of a start and of calls
+unfoldable pub startWords : Fresh → List ℕ
+startWords new = 0 ∷ []
+startWords (after events frontier) = 1 ∷ events ∷ length frontier ∷ frontier
+
+unfoldable pub callWords : Call → List ℕ
+callWords (push ps n) = 2 ∷ n ∷ length ps ∷ ps
+callWords (startRunAt at) = 3 ∷ at ∷ []
+callWords takeChangedFrom = 4 ∷ []
+
+unfoldable pub allWords : List Call → List ℕ
+allWords [] = []
+allWords (c ∷ cs) = callWords c ++ allWords cs
