@@ -1,0 +1,19 @@
+#!/bin/sh
+# Holds the trace program against the unchanged Rust: every line of many scripts. Status 1 and a smallest script if two differ.
+# Arguments: how many random scripts (10,000 if there is none), a seed (1). Or: --sample DIR, which writes DIR/stdin, a script of
+# every kind of call, and DIR/stdout, the Rust's lines, and needs no trace program.
+# RUST_SRC: as in differences.sh. TRACE: the trace program (target/bin/trace; proved and built by `rt check trace` if missing).
+set -eu
+here=$(cd "$(dirname "$0")" && pwd)
+rust=${RUST_SRC:-$here/../../shared/docs/src}
+out=$(mktemp -d)
+trap 'rm -rf "$out"' EXIT
+rustc --edition 2021 -O --crate-type rlib --crate-name strider_graph --out-dir "$out" "$rust/lib.rs"
+rustc --edition 2021 -O --extern strider_graph="$out/libstrider_graph.rlib" -o "$out/compare" "$here/compare.rs"
+if [ "${1:-}" = --sample ]; then
+    "$out/compare" "$@"
+    exit
+fi
+trace=${TRACE:-$here/../target/bin/trace}
+[ -x "$trace" ] || (cd "$here/.." && rt check trace)
+"$out/compare" "$trace" "$@"
