@@ -1,7 +1,7 @@
 #!/usr/bin/env python3
 """Two wrong answers for each public function of crates/graph: each edit is made in a copy of the tree, and `rt dev graph` has to refuse it.
 
-tools/wrong_answers.py            all, about four minutes
+tools/wrong_answers.py            all, about six minutes
 tools/wrong_answers.py 3 7        only these, by number
 Ends with status 1 if one is not refused, or is refused only because the proof does not fit the code's shape. LOGS=folder keeps what was said.
 """
