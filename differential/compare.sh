@@ -4,12 +4,8 @@
 # every kind of call, and DIR/stdout, the Rust's lines, and needs no trace program.
 # RUST_SRC: as in differences.sh. TRACE: the trace program (target/bin/trace; proved and built by `rt check trace` if missing).
 set -eu
-here=$(cd "$(dirname "$0")" && pwd)
-rust=${RUST_SRC:-$here/../../shared/docs/src}
-out=$(mktemp -d)
-trap 'rm -rf "$out"' EXIT
-rustc --edition 2021 -O --crate-type rlib --crate-name strider_graph --out-dir "$out" "$rust/lib.rs"
-rustc --edition 2021 -O --extern strider_graph="$out/libstrider_graph.rlib" -o "$out/compare" "$here/compare.rs"
+. "$(dirname "$0")/rust.sh"
+over_rust compare
 if [ "${1:-}" = --sample ]; then
     "$out/compare" "$@"
     exit

@@ -3,13 +3,9 @@
 # and checked by computing, in a copy of the crates. Arguments: how many lists (60 if there is none), a seed (1).
 # RUST_SRC: the folder with the Rust's lib.rs and walk.rs (../shared/docs/src from the top of the repository).
 set -eu
-here=$(cd "$(dirname "$0")" && pwd)
-rust=${RUST_SRC:-$here/../../shared/docs/src}
 count=${1:-60} seed=${2:-1}
-out=$(mktemp -d)
-trap 'rm -rf "$out"' EXIT
-rustc --edition 2021 -O --crate-type rlib --crate-name strider_graph --out-dir "$out" "$rust/lib.rs"
-rustc --edition 2021 -O --extern strider_graph="$out/libstrider_graph.rlib" -o "$out/sample" "$here/sample.rs"
+. "$(dirname "$0")/rust.sh"
+over_rust sample
 mkdir "$out/copy"
 cp -R "$here/../crates" "$here/../crates.txt" "$out/copy/"
 cd "$out/copy"

@@ -4,10 +4,6 @@
 # RUST_SRC: the folder with the Rust's lib.rs and walk.rs (../shared/docs/src from the top of the repository).
 # An argument gives the calls per script in the search: 4 if there is none; 5 takes longer.
 set -eu
-here=$(cd "$(dirname "$0")" && pwd)
-rust=${RUST_SRC:-$here/../../shared/docs/src}
-out=$(mktemp -d)
-trap 'rm -rf "$out"' EXIT
-rustc --edition 2021 -O --crate-type rlib --crate-name strider_graph --out-dir "$out" "$rust/lib.rs"
-rustc --edition 2021 -O --extern strider_graph="$out/libstrider_graph.rlib" -o "$out/differences" "$here/differences.rs"
+. "$(dirname "$0")/rust.sh"
+over_rust differences
 "$out/differences" "$@"
