@@ -321,10 +321,17 @@ fn begin(feed: &mut Feed, r: &mut Random, near_the_end: bool) {
     feed.call(after(events, &frontier));
 }
 
+/// A call that makes a graph or changes it, and the graph after it.
+fn made(feed: &mut Feed, call: Vec<u32>) {
+    feed.call(call);
+    feed.call(vec![13]);
+}
+
 /// A script of 5 to 200 calls.
 fn mixed(feed: &mut Feed, r: &mut Random) {
     let shape = r.below(8);
     begin(feed, r, shape == 7);
+    feed.call(vec![13]);
     let count = 4 + r.below(196);
     let longest = [1, 2, 3, 6, 40, 1000, 1 << 31, 3][shape as usize];
     calls(feed, r, count, longest);
@@ -336,57 +343,54 @@ fn at_limits(feed: &mut Feed, r: &mut Random, kind: u32) {
     match kind {
         // Runs, by splits.
         0 => {
-            feed.call(new());
-            feed.call(push(&[], 512 + r.below(40)));
+            made(feed, new());
+            made(feed, push(&[], 512 + r.below(40)));
             let named = upto(511 - few(r));
-            feed.call(push(&named, 1 + r.below(9)));
+            made(feed, push(&named, 1 + r.below(9)));
         }
         // Entries, by pushes with hundreds of parents.
         1 => {
-            feed.call(new());
+            made(feed, new());
             let named = upto(490 + few(r));
-            feed.call(push(&[], 520));
+            made(feed, push(&[], 520));
             for _ in 0..3 {
-                feed.call(push(&named, 1 + r.below(3)));
+                made(feed, push(&named, 1 + r.below(3)));
             }
             let left = 2048 - feed.graph().entries() as u32;
-            feed.call(push(&upto(left.min(named.len() as u32) - few(r)), 1));
+            made(feed, push(&upto(left.min(named.len() as u32) - few(r)), 1));
         }
         // Frontier, by events that are not held.
         2 => {
             let events = 513 + r.below(1000);
-            feed.call(after(events, &upto(513 - few(r))));
+            made(feed, after(events, &upto(513 - few(r))));
         }
         // Runs and frontier, by roots.
         3 => {
             let held = r.below(30);
-            feed.call(after(held, &upto(held)));
-            for nth in 0..512 - few(r) {
-                feed.call(push(&[], 1 + r.below(2)));
-                if nth % 100 == 0 {
-                    feed.call(vec![13]);
-                }
+            made(feed, after(held, &upto(held)));
+            for _ in 0..512 - few(r) {
+                made(feed, push(&[], 1 + r.below(2)));
             }
         }
         // All three at once.
         4 => {
-            feed.call(after(600, &upto(505 - few(r))));
-            feed.call(push(&[], 520));
+            made(feed, after(600, &upto(505 - few(r))));
+            made(feed, push(&[], 520));
             let named: Vec<u32> = (600..1095 + few(r)).collect();
             for _ in 0..3 {
-                feed.call(push(&named, 1));
+                made(feed, push(&named, 1));
             }
             let left = 2048 - feed.graph().entries();
-            feed.call(push(&named[..left.min(named.len()) - r.below(12) as usize], 1));
+            made(feed, push(&named[..left.min(named.len()) - r.below(12) as usize], 1));
             for _ in 0..few(r) {
-                feed.call(push(&[], 1));
+                made(feed, push(&[], 1));
             }
         }
         // Runs and entries, by many small pushes.
         5 => {
-            feed.call(new());
-            feed.call(push(&[], 3));
-            for nth in 0..700 {
+            made(feed, new());
+            made(feed, push(&[], 3));
+            for _ in 0..700 {
                 if feed.graph().runs() > 505 {
                     break;
                 }
@@ -394,23 +398,19 @@ fn at_limits(feed: &mut Feed, r: &mut Random, kind: u32) {
                 let mut list: Vec<u32> = (0..r.below(8)).map(|_| len - 1 - r.below(len.min(30))).collect();
                 list.sort();
                 list.dedup();
-                feed.call(push(&list, 1 + r.below(3)));
-                if nth % 100 == 0 {
-                    feed.call(vec![13]);
-                }
+                made(feed, push(&list, 1 + r.below(3)));
             }
         }
         // A list longer than all limits.
         _ => {
             let events = 2000 + r.below(60000);
-            feed.call(new());
-            feed.call(push(&[], events));
-            feed.call(push(&upto(events), 1));
-            feed.call(push(&upto(events + 1), 1));
-            feed.call(after(events, &upto(events)));
+            made(feed, new());
+            made(feed, push(&[], events));
+            made(feed, push(&upto(events), 1));
+            made(feed, push(&upto(events + 1), 1));
+            made(feed, after(events, &upto(events)));
         }
     }
-    feed.call(vec![13]);
     for _ in 0..10 + r.below(30) {
         let graph = feed.graph();
         // The starts of runs that can be split.
@@ -421,20 +421,17 @@ fn at_limits(feed: &mut Feed, r: &mut Random, kind: u32) {
                 let mut list: Vec<u32> = if inside.is_empty() { vec![] } else { (0..1 + r.below(3)).map(|_| r.pick(&inside)).collect() };
                 list.sort();
                 list.dedup();
-                feed.call(push(&list, 1 + r.below(3)));
-                feed.call(vec![13]);
+                made(feed, push(&list, 1 + r.below(3)));
             }
             // No split: ends of runs, one, a few or many.
             3..5 => {
                 let ends: Vec<u32> = graph.starts[1..].iter().map(|&end| end - 1).collect();
                 let one_in = [2, 50, 200][r.below(3) as usize];
                 let list = if !ends.is_empty() && r.one_in(2) { vec![r.pick(&ends)] } else { r.some_of(&ends, one_in) };
-                feed.call(push(&list, 1 + r.below(3)));
-                feed.call(vec![13]);
+                made(feed, push(&list, 1 + r.below(3)));
             }
             5 => {
-                feed.call(push(&[], 1 + r.below(3)));
-                feed.call(vec![13]);
+                made(feed, push(&[], 1 + r.below(3)));
             }
             6 | 7 if !inside.is_empty() => {
                 feed.call(vec![3, r.pick(&inside) + 1]);
