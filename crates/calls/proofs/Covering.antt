@@ -3,20 +3,12 @@ use mathlib.Core.Path.{_≡_, refl, sym, _∙_, ap}
 use mathlib.Core.List.{List, [], _∷_, _++_}
 use Prim.Native.Nat.{ℕ, zero, suc, _+_, _<_}
 use native.Mathlib.Omega.{arith}
-use lib.ListN.{length, length-append, take, drop}
+use lib.ListN.{length, length-append}
+use lib.Seq.{take-append-seam, drop-append-seam}
 use Rattle.model.specs.Log.{Fresh, new, after, Call, push, startRunAt, takeChangedFrom}
 use Rattle.calls.specs.Words.{operation, listIn, listed, startSize, startOf, callSize, callOf, callsAfter, freshIn, callsIn, startWords, callWords, allWords}
 use Rattle.calls.proofs.Reading.{whole-all}
 use Rattle.calls.proofs.Making.{after-add, front-next}
-
--- A list in front of other words
-take-front : (xs ws : List ℕ) → take (length xs) (xs ++ ws) ≡ xs
-take-front [] ws = refl
-take-front (x ∷ xs) ws = ap (λ l. x ∷ l) (take-front xs ws)
-
-drop-front : (xs ws : List ℕ) → drop (length xs) (xs ++ ws) ≡ ws
-drop-front [] ws = refl
-drop-front (x ∷ xs) ws = drop-front xs ws
 
 -- A call that ends in a list is whole where other words follow it
 listed-front : (op n : ℕ) (ps ws : List ℕ) → listed (op ∷ n ∷ length ps ∷ (ps ++ ws)) ≡ 3 + length ps
@@ -32,7 +24,7 @@ size-front takeChangedFrom ws = sym (whole-all 1 (4 ∷ ws) (omega arith))
 
 call-front : (c : Call) (ws : List ℕ) → callOf (callWords c ++ ws) ≡ c
 unfolding callOf callWords operation listIn
-call-front (push ps n) ws = ap (λ l. push l n) (take-front ps ws)
+call-front (push ps n) ws = ap (λ l. push l n) (take-append-seam ps ws)
 call-front (startRunAt at) ws = refl
 call-front takeChangedFrom ws = refl
 
@@ -53,7 +45,7 @@ calls-back (c ∷ cs) =
     let some : 0 < callSize ws = omega (arith, size, size-some c) in
     let plus : n ≡ n + 0 = omega arith in
     let rest : callsAfter (callSize ws) ws ≡ cs =
-    ap (λ k. callsAfter k ws) (size ∙ plus) ∙ after-add n 0 ws ∙ ap (callsAfter 0) (drop-front (callWords c) (allWords cs)) ∙ calls-back cs in
+    ap (λ k. callsAfter k ws) (size ∙ plus) ∙ after-add n 0 ws ∙ ap (callsAfter 0) (drop-append-seam (callWords c) (allWords cs)) ∙ calls-back cs in
     front-next ws some ∙ ap (λ d. d ∷ callsAfter (callSize ws) ws) (call-front c (allWords cs)) ∙ ap (λ ds. c ∷ ds) rest
 
 -- The same of the start
@@ -67,7 +59,7 @@ start-size (after events frontier) ws =
 start-front : (f : Fresh) (ws : List ℕ) → startOf (startWords f ++ ws) ≡ f
 unfolding startOf startWords operation listIn
 start-front new ws = refl
-start-front (after events frontier) ws = ap (after events) (take-front frontier ws)
+start-front (after events frontier) ws = ap (after events) (take-append-seam frontier ws)
 
 start-some : (f : Fresh) → 0 < length (startWords f)
 unfolding startWords
@@ -93,5 +85,5 @@ all-said f cs =
     let some : 0 < startSize ws = omega (arith, size, start-some f) in
     let plus : n ≡ n + 0 = omega arith in
     let rest : callsAfter (startSize ws) ws ≡ cs =
-    ap (λ k. callsAfter k ws) (size ∙ plus) ∙ after-add n 0 ws ∙ ap (callsAfter 0) (drop-front (startWords f) (allWords cs)) ∙ calls-back cs in
+    ap (λ k. callsAfter k ws) (size ∙ plus) ∙ after-add n 0 ws ∙ ap (callsAfter 0) (drop-append-seam (startWords f) (allWords cs)) ∙ calls-back cs in
     (said ws some .0 ∙ start-front f (allWords cs), said ws some .1 ∙ rest)

@@ -13,13 +13,13 @@ use model::Made;
 use model::Outcome;
 use model::Refusal;
 
-fn zeros_513() -> [u32; 513]
+pub fn zeros_513() -> [u32; 513]
     ensures { λ r. ⌜ r ≡ pad 513 [] ⌝ }
 {
     [0; 513]
 }
 
-fn zeros_2048() -> [u32; 2048]
+pub fn zeros_2048() -> [u32; 2048]
     ensures { λ r. ⌜ r ≡ pad 2048 [] ⌝ }
 {
     [0; 2048]

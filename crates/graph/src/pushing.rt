@@ -61,15 +61,6 @@ pub fn does_extend(g: CausalGraph, ps: &[u32]) -> bool
     is_last(ps[0], g.starts[runs])
 }
 
-fn one(b: bool) -> usize
-    ensures { λ r. ⌜ r ≡ cond b 1 0 ⌝ }
-{
-    if b {
-        return 1;
-    }
-    0
-}
-
 fn count_held(g: CausalGraph, ps: &[u32]) -> usize
     requires { ⌜ Held g ⌝ }
     ensures { λ r. ⌜ r ≡ length (held (view g) (now (ps .entry))) ⌝ }
@@ -78,7 +69,7 @@ fn count_held(g: CausalGraph, ps: &[u32]) -> usize
     let mut n = 0;
     let mut i = 0;
     while i < ps.len() {
-        n += one(first <= ps[i]);
+        n += crate::splitting::one(first <= ps[i]);
         i += 1;
     }
     n

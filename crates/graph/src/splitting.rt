@@ -102,7 +102,8 @@ pub fn split_all(g: CausalGraph, ps: &[u32]) -> CausalGraph
     h
 }
 
-fn one(b: bool) -> usize
+// 1 if a test passes.
+pub fn one(b: bool) -> usize
     ensures { λ r. ⌜ r ≡ cond b 1 0 ⌝ }
 {
     if b {

@@ -3,7 +3,6 @@ ghost use mathlib.Core.Path.{_≡_};
 ghost use mathlib.Core.List.{[]};
 ghost use Prim.Native.Nat.{_+_, _-_, _<_, _≤_};
 ghost use lib.ListN.{length};
-ghost use Rattle.lists.specs.Areas.{pad};
 ghost use Rattle.model.specs.Record.{view};
 ghost use Rattle.model.specs.Broken.{Held};
 ghost use Rattle.model.specs.Range.{parentsIn};
@@ -19,23 +18,11 @@ pub struct Parents {
     pub count: usize,
 }
 
-fn zeros_513() -> [u32; 513]
-    ensures { λ r. ⌜ r ≡ pad 513 [] ⌝ }
-{
-    [0; 513]
-}
-
-fn zeros_2048() -> [u32; 2048]
-    ensures { λ r. ⌜ r ≡ pad 2048 [] ⌝ }
-{
-    [0; 2048]
-}
-
 fn no_groups() -> Parents
     ensures { λ r. ⌜ r ≡ groupsIn [] ⌝ }
 {
-    let starts = zeros_513();
-    let items = zeros_2048();
+    let starts = graph::fresh::zeros_513();
+    let items = graph::fresh::zeros_2048();
     Parents {
         starts,
         items,

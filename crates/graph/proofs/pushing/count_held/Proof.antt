@@ -10,7 +10,7 @@ use Rattle.graph.proofs.pushing.count_held.Statement.{statement}
 use Rattle.graph.proofs.pushing.count_held.Tie as tie
 use Rattle.graph.proofs.pushing.count_held.Reads as reads
 use Rattle.graph.proofs.pushing.count_held.Lts as lts
-use Rattle.graph.proofs.pushing.one.Reads as one-reads
+use Rattle.graph.proofs.splitting.one.Reads as one-reads
 
 abbrev Inv-loop : tie.InvT-loop
 Inv-loop ps first n₀ i₀ n i = (i ≤ length ps) × ((n ≤ i) × (n + length (filter (λ e. leb first e) (drop i ps)) ≡ length (filter (λ e. leb first e) ps)))
