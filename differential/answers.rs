@@ -13,9 +13,27 @@ use crate::record::{self, Record};
 use std::fmt::{Debug, Display};
 use strider_graph::CausalGraph;
 
-/// How many words the script's first call has; none if it is cut off or unknown.
+/// The words that the trace program can lend: to rows, to steps and all other answers (the areas `rows` and `steps` of its
+/// main.rt), and to a list in the script (`list`).
+pub const ROW_ROOM: u32 = 131328;
+pub const STEP_ROOM: u32 = 524288;
+pub const LIST_ROOM: u32 = 65536;
+
+/// Whether the rooms that a call asks for are the program's own.
+fn has_rooms(call: &[u32]) -> bool {
+    let within = |at: usize, room: u32| call[at] <= room;
+    match call[0] {
+        5 | 9 => within(2, STEP_ROOM),
+        6 => within(5, ROW_ROOM) && within(6, STEP_ROOM),
+        7 => within(1, ROW_ROOM) && within(2, STEP_ROOM),
+        8 => within(1, STEP_ROOM),
+        _ => true,
+    }
+}
+
+/// How many words the script's first call has; none if it is cut off, unknown, or asks for more room than there is.
 pub fn call_length(script: &[u32]) -> Option<usize> {
-    let counted = |at: usize| script.get(at).map(|&count| at + 1 + count as usize);
+    let counted = |at: usize| script.get(at).filter(|&&count| count <= LIST_ROOM).map(|&count| at + 1 + count as usize);
     let length = match script.first()? {
         0 | 4 | 13 => 1,
         3 | 8 | 10 | 11 => 2,
@@ -26,7 +44,7 @@ pub fn call_length(script: &[u32]) -> Option<usize> {
         14 => record::WORDS,
         _ => return None,
     };
-    Some(length).filter(|&length| length <= script.len())
+    Some(length).filter(|&length| length <= script.len() && has_rooms(script))
 }
 
 /// The lines of a whole script.
@@ -313,7 +331,8 @@ impl Oracle {
                     if step[0] > 3 {
                         return line + " refused 16";
                     }
-                    line += &words(step);
+                    let end = if step[0] == 2 { step[1] as u64 + 1 } else { step[2] as u64 };
+                    line += &format!(" {} {} {}", step[0], step[1], end);
                 }
                 line + " end"
             }

@@ -1,17 +1,20 @@
 //! Holds the trace program against the unchanged Rust: makes scripts, gives them to both, and compares every line.
 //! Where two lines differ it finds a smallest script, prints it with both lines, and ends with status 1.
 //!
-//! compare TRACE [RANDOM [SEED]]   TRACE: the program; RANDOM: how many random scripts; SEED: a number
-//! compare --sample DIR            writes a script (DIR/stdin) and the Rust's lines (DIR/stdout), and runs nothing
+//! compare TRACE [RANDOM [SEED [PART]]]   TRACE: the program; RANDOM: how many random scripts; SEED: a number;
+//!                                        PART: words of a part's title, to run that alone
+//! compare --sample DIR                   writes a script (DIR/stdin) and the Rust's lines (DIR/stdout), and runs nothing
 
 mod answers;
 #[allow(dead_code)]
 mod calls;
+mod cases;
 #[allow(dead_code)]
 mod model;
 mod record;
 mod records;
 mod scripts;
+mod walks;
 
 use answers::{answer_script, Oracle};
 use std::collections::BTreeMap;
@@ -28,6 +31,8 @@ const STREAM: usize = 400000;
 
 /// Lines by operation and what is returned.
 type Counts = BTreeMap<(u32, String), u64>;
+/// Walks and replays that have something of note; how many.
+type Notes = BTreeMap<&'static str, u64>;
 
 const NAMES: [&str; 16] = ["new", "after", "push", "start", "take", "cut", "walk", "replay", "archive", "concurrent", "run", "event", "extends", "graph", "raw", "reader"];
 
@@ -76,14 +81,38 @@ fn trace_lines(trace: &str, script: Vec<u8>) -> Result<Vec<String>, String> {
 struct Outcome {
     calls: Vec<Vec<u32>>,
     counts: Counts,
+    notes: Notes,
     /// The place of the first call whose lines differ.
     differs: Option<usize>,
+}
+
+/// What is of note in a line of a walk or a replay.
+fn note(notes: &mut Notes, call: &[u32], line: &str) {
+    if ![6, 7].contains(&call[0]) {
+        return;
+    }
+    let words: Vec<u64> = line.split(' ').skip(1).take(3).filter_map(|word| word.parse().ok()).collect();
+    let (refusal, count, moved) = (words[0], words[1], words[2]);
+    let mut more = |name: &'static str, times: u64| *notes.entry(name).or_default() += times;
+    more("steps compared", count);
+    if call[0] == 7 {
+        more("replays with `moved` above 4,294,967,295", (moved > u32::MAX as u64) as u64);
+        return;
+    }
+    more("walks with `moved` above 4,294,967,295", (moved > u32::MAX as u64) as u64);
+    if [0, 11, 13].contains(&refusal) {
+        let width = call[2] - call[1];
+        more("walks with `known` the range's length", (call[3] == width) as u64);
+        more("walks with `first` above the range's length", (call[4] > width) as u64);
+        more("walks of over 100 runs", (width > 100) as u64);
+        more("walks of 512 runs", (width == 512) as u64);
+    }
 }
 
 /// Reads the trace program's lines and compares each as it comes.
 fn compare(lines: ChildStdout, expected: Receiver<Vec<(Vec<u32>, String)>>) -> Outcome {
     let mut lines = BufReader::with_capacity(1 << 16, lines);
-    let mut outcome = Outcome { calls: vec![], counts: Counts::new(), differs: None };
+    let mut outcome = Outcome { calls: vec![], counts: Counts::new(), notes: Notes::new(), differs: None };
     let mut line = String::new();
     let mut expected = expected.iter().flatten();
     while let Some((call, expected_line)) = expected.next() {
@@ -106,6 +135,7 @@ fn compare(lines: ChildStdout, expected: Receiver<Vec<(Vec<u32>, String)>>) -> O
             Some(count) => *count += 1,
             None => drop(outcome.counts.insert((call[0], returned.to_string()), 1)),
         }
+        note(&mut outcome.notes, &call, &expected_line);
         outcome.calls.push(call);
     }
     line.clear();
@@ -132,11 +162,12 @@ pub struct Feed {
     sent: usize,
     scripts: u64,
     counts: Counts,
+    notes: Notes,
 }
 
 impl Feed {
     fn new(trace: &str) -> Self {
-        Feed { oracle: Oracle::new(), trace: trace.into(), stream: None, waiting: vec![], sent: 0, scripts: 0, counts: Counts::new() }
+        Feed { oracle: Oracle::new(), trace: trace.into(), stream: None, waiting: vec![], sent: 0, scripts: 0, counts: Counts::new(), notes: Notes::new() }
     }
 
     /// The current graph by 01's model; of a broken record, the graph before it.
@@ -157,6 +188,11 @@ impl Feed {
         if self.waiting.len() >= 1000 && !self.trace.is_empty() {
             self.flush();
         }
+    }
+
+    /// The Rust's line for the last call, while it waits.
+    pub fn last_line(&self) -> &str {
+        self.waiting.last().map_or("", |(_, line)| line)
     }
 
     fn flush(&mut self) {
@@ -193,6 +229,9 @@ impl Feed {
         }
         for (key, count) in outcome.counts {
             *self.counts.entry(key).or_default() += count;
+        }
+        for (name, count) in outcome.notes {
+            *self.notes.entry(name).or_default() += count;
         }
         self.sent = 0;
     }
@@ -353,6 +392,9 @@ fn totals(counts: &Counts) -> (u64, u64) {
 
 fn write_sample(folder: &str) {
     let mut feed = Feed::new("");
+    for (name, first, last) in cases::feed_all(&mut feed) {
+        println!("{name}: lines {first} to {last}");
+    }
     scripts::sample(&mut feed);
     let calls: Vec<Vec<u32>> = feed.waiting.iter().map(|(call, _)| call.clone()).collect();
     let lines: String = feed.waiting.iter().map(|(_, line)| format!("{line}\n")).collect();
@@ -367,7 +409,7 @@ fn main() {
         return write_sample(&args[1]);
     }
     let usage = || -> ! {
-        println!("compare TRACE [RANDOM [SEED]], or compare --sample DIR");
+        println!("compare TRACE [RANDOM [SEED [PART]]], or compare --sample DIR");
         exit(2)
     };
     let number = |nth: usize, default: u64| args.get(nth).map_or(default, |text| text.parse().unwrap_or_else(|_| usage()));
@@ -380,9 +422,12 @@ fn main() {
         }
     }));
 
-    let mut all = Counts::new();
+    let (mut all, mut notes) = (Counts::new(), Notes::new());
     let mut scripts = 0;
     let mut part = |title: &str, make: &dyn Fn(&mut Feed)| {
+        if args.get(3).is_some_and(|words| !title.contains(words)) {
+            return;
+        }
         let (mut feed, begin) = (Feed::new(trace), Instant::now());
         make(&mut feed);
         feed.finish();
@@ -392,12 +437,21 @@ fn main() {
         for (key, count) in feed.counts {
             *all.entry(key).or_default() += count;
         }
+        for (name, count) in feed.notes {
+            *notes.entry(name).or_default() += count;
+        }
     };
+    part("the cases C1 to C11 of 01", &|feed| drop(cases::feed_all(feed)));
     part("records, one for each clause by which 01 calls a graph broken, and near misses", &|feed| records::by_clause(feed, true));
     part("random records, most with one word changed", &|feed| records::random(feed, (count / 4).max(1), seed));
     part("all lists of four calls from `new`, of three from each `after` of up to 2 events", &|feed| scripts::small(feed, 4));
     part("all graphs of up to six single events, asked everything", &|feed| scripts::all_graphs(feed, 6));
     part(&format!("{count} random scripts from seed {seed}, one in forty at the limits"), &|feed| scripts::random(feed, count, seed));
+    if scripts::WALKS {
+        part("walks and replays in every room from 0 to enough", &|feed| walks::in_every_room(feed, (count / 40).max(1), seed));
+        part("walks of random graphs, one in a hundred of about 512 runs", &|feed| walks::random(feed, (count / 2).max(1), seed));
+        part("walks by the limits: 512 runs, 2,048 entries, 512 frontier events", &|feed| walks::at_limits(feed, seed));
+    }
 
     let bad = scripts::bad_scripts();
     for script in &bad {
@@ -419,6 +473,9 @@ fn main() {
             let parts: Vec<String> = parts.into_iter().map(|(_, text)| text).collect();
             println!("  {name:10} {:9}   ({})", of.iter().map(|(_, count)| count).sum::<u64>(), parts.join(", "));
         }
+    }
+    for (name, count) in &notes {
+        println!("  {name}: {count}");
     }
     println!("no difference");
 }

@@ -3,12 +3,12 @@
 
 use crate::model::Graph;
 use crate::record::{self, Record};
-use crate::Feed;
+use crate::{answers, walks, Feed};
 
 /// Whether the trace program answers walks and full replays (operations 6 and 7) yet.
-pub const WALKS: bool = false;
+pub const WALKS: bool = true;
 /// Whether it answers the step reader (operation 15) yet.
-pub const READER: bool = false;
+pub const READER: bool = true;
 
 pub const LAST: u32 = u32::MAX;
 
@@ -90,8 +90,8 @@ pub fn small(feed: &mut Feed, calls: u32) {
     }
 }
 
-/// Everything that can be asked of a graph of a few single events.
-fn ask_all(feed: &mut Feed, odd: u32) {
+/// Everything that can be asked of a graph of a few single events; `all`: with all its walks.
+fn ask_all(feed: &mut Feed, odd: u32, all: bool) {
     let (runs, first, len) = (feed.graph().runs() as u32, feed.graph().first_held(), feed.graph().len());
     let marks = feed.graph().marks().len() as u32;
     feed.call(vec![13]);
@@ -114,11 +114,17 @@ fn ask_all(feed: &mut Feed, odd: u32) {
     if WALKS {
         feed.call(vec![7, 64, 192]);
         feed.call(vec![7, odd % 30, odd % 40]);
-        for from in 0..=runs {
-            for to in from..=runs {
-                feed.call(vec![6, from, to, odd % (to - from + 2), odd % (to - from + 3), 64, 192]);
-            }
-        }
+        if all { walks::every_walk(feed) } else { walks::every_range(feed, odd) }
+    }
+}
+
+/// A graph of single events: of each, `bits` has a bit for every earlier one that is its parent.
+pub fn single_events(feed: &mut Feed, count: u32, bits: u32) {
+    feed.call(new());
+    let mut left = bits;
+    for event in 0..count {
+        feed.call(push(&subsets(event)[(left & ((1 << event) - 1)) as usize], 1));
+        left >>= event;
     }
 }
 
@@ -127,13 +133,8 @@ pub fn all_graphs(feed: &mut Feed, events: u32) {
     let mut odd = 0;
     for count in 0..=events {
         for bits in 0..1u32 << (count * count.saturating_sub(1) / 2) {
-            feed.call(new());
-            let mut left = bits;
-            for event in 0..count {
-                feed.call(push(&subsets(event)[(left & ((1 << event) - 1)) as usize], 1));
-                left >>= event;
-            }
-            ask_all(feed, odd);
+            single_events(feed, count, bits);
+            ask_all(feed, odd, count <= 5);
             odd = (odd + 1) % 1009;
         }
     }
@@ -278,14 +279,13 @@ pub fn ask(feed: &mut Feed, r: &mut Random) {
         10 | 11 if WALKS => {
             let (a, b) = (r.below(runs + 1), r.below(runs + 1));
             let (from, to) = if r.one_in(20) { (a, any_run) } else { (a.min(b), a.max(b)) };
-            let width = to.saturating_sub(from);
-            let rows = if r.one_in(3) { r.below(4 * width + 2) } else { 131328 };
-            let steps = if r.one_in(3) { r.below(12 * width + 2) } else { 65536 };
+            // A range outside the graph may be of any width.
+            let width = to.saturating_sub(from).min(600);
+            let (rows, steps) = walks::rooms(r, width);
             vec![6, from, to, r.below(width + 2), r.below(width + 3), rows, steps]
         }
         12 | 13 if WALKS => {
-            let rows = if r.one_in(3) { r.below(4 * runs + 2) } else { 131328 };
-            let steps = if r.one_in(3) { r.below(12 * runs + 2) } else { 65536 };
+            let (rows, steps) = walks::rooms(r, runs);
             vec![7, rows, steps]
         }
         _ => {
@@ -464,8 +464,20 @@ pub fn bad_scripts() -> Vec<Vec<u8>> {
     all.push(with(&record));
     all.push([with(&[12, 2, 1]), vec![7, 7]].concat());
     all.push(bytes(&[good.concat(), vec![16], vec![13]]));
+    // Rooms and lists above the program's own, and as long as these.
+    let (rows, steps) = (answers::ROW_ROOM, answers::STEP_ROOM);
+    for room in [steps, steps + 1, LAST] {
+        all.extend([&[5, 0, room][..], &[8, room], &[9, 0, room]].map(with));
+    }
+    for count in [answers::LIST_ROOM, answers::LIST_ROOM + 1] {
+        all.extend([counted(&[1, LAST], &upto(count)), push(&upto(count), 1), extends(&upto(count))].iter().map(|call| with(call)));
+    }
+    all.push(with(&[2, 1, LAST, 0]));
     if WALKS {
         all.extend([&[6, 0, 1, 0, 0, 9][..], &[7, 9]].map(with));
+        for (rows, steps) in [(rows, steps), (rows + 1, steps), (rows, steps + 1), (LAST, 0), (0, LAST)] {
+            all.extend([&[6, 0, 2, 0, 0, rows, steps][..], &[7, rows, steps]].map(with));
+        }
     }
     if READER {
         all.extend([&[15][..], &[15, 3, 0, 0]].map(with));
@@ -482,14 +494,12 @@ pub fn sample(feed: &mut Feed) {
         }
         feed.call(vec![13]);
     };
-    // The cases of 01: C1, C6 to C10.
+    // C1's graph again, asked everything.
     case(feed, &[push(&[], 1), push(&[0], 1), push(&[0], 1), push(&[1, 2], 1), push(&[1, 2], 1)]);
-    ask_all(feed, 5);
-    case(feed, &[push(&[], 0), push(&[0], 1)]);
-    case(feed, &[push(&[], LAST), push(&[LAST - 1], 1)]);
-    case(feed, &[push(&[], 3), push(&[1, 0], 1), push(&[0, 0], 1)]);
-    case(feed, &[push(&[], 4), push(&[1], 1), vec![3, 3], vec![3, 3], vec![3, 2], vec![3, 1], vec![3, 0], vec![3, 5]]);
-    case(feed, &[push(&[], 5), vec![4], push(&[4], 2), push(&[4], 1), vec![4]]);
+    ask_all(feed, 5, false);
+    if WALKS {
+        walks::sample(feed);
+    }
     for nth in 0..8 {
         let mut r = Random(nth);
         begin(feed, &mut r, nth == 7);

@@ -1,12 +1,13 @@
--- Every start with every list of calls is what some words say. Assumes nothing.
+-- Every start with every list of calls, each by value or lent, is what some words say. Assumes nothing.
 use mathlib.Core.Path.{_≡_, refl, sym, _∙_, ap}
-use mathlib.Core.List.{List, [], _∷_, _++_}
+use mathlib.Core.Bool.{Bool, true, false}
+use mathlib.Core.List.{List, [], _∷_, _++_, map}
 use Prim.Native.Nat.{ℕ, zero, suc, _+_, _<_}
 use native.Mathlib.Omega.{arith}
 use lib.ListN.{length, length-append}
 use lib.Seq.{take-append-seam, drop-append-seam}
 use Rattle.model.specs.Log.{Fresh, new, after, Call, push, startRunAt, takeChangedFrom}
-use Rattle.calls.specs.Words.{operation, listIn, listed, startSize, startOf, callSize, callOf, callsAfter, freshIn, callsIn, startWords, callWords, allWords}
+use Rattle.calls.specs.Words.{operation, listIn, listed, startSize, startOf, callOperation, callSize, callOf, callsAfter, freshIn, callsIn, startWords, callWords, mixedWords, allWords}
 use Rattle.calls.proofs.Reading.{whole-all}
 use Rattle.calls.proofs.Making.{after-add, front-next}
 
@@ -16,37 +17,47 @@ unfolding listed
 listed-front op n ps ws =
     sym (whole-all (3 + length ps) (op ∷ n ∷ length ps ∷ (ps ++ ws)) (simp length-append (omega arith)))
 
-size-front : (c : Call) (ws : List ℕ) → callSize (callWords c ++ ws) ≡ length (callWords c)
-unfolding callSize callWords operation
-size-front (push ps n) ws = let e : 3 + length ps ≡ suc (suc (suc (length ps))) = omega arith in listed-front 2 n ps ws ∙ e
-size-front (startRunAt at) ws = sym (whole-all 2 (3 ∷ at ∷ ws) (omega arith))
-size-front takeChangedFrom ws = sym (whole-all 1 (4 ∷ ws) (omega arith))
+size-front : (lent : Bool) (c : Call) (ws : List ℕ) → callSize (callWords lent c ++ ws) ≡ length (callWords lent c)
+unfolding callSize callWords callOperation operation
+size-front true (push ps n) ws = let e : 3 + length ps ≡ suc (suc (suc (length ps))) = omega arith in listed-front 16 n ps ws ∙ e
+size-front false (push ps n) ws = let e : 3 + length ps ≡ suc (suc (suc (length ps))) = omega arith in listed-front 2 n ps ws ∙ e
+size-front true (startRunAt at) ws = sym (whole-all 2 (17 ∷ at ∷ ws) (omega arith))
+size-front false (startRunAt at) ws = sym (whole-all 2 (3 ∷ at ∷ ws) (omega arith))
+size-front true takeChangedFrom ws = sym (whole-all 1 (18 ∷ ws) (omega arith))
+size-front false takeChangedFrom ws = sym (whole-all 1 (4 ∷ ws) (omega arith))
 
-call-front : (c : Call) (ws : List ℕ) → callOf (callWords c ++ ws) ≡ c
-unfolding callOf callWords operation listIn
-call-front (push ps n) ws = ap (λ l. push l n) (take-append-seam ps ws)
-call-front (startRunAt at) ws = refl
-call-front takeChangedFrom ws = refl
+call-front : (lent : Bool) (c : Call) (ws : List ℕ) → callOf (callWords lent c ++ ws) ≡ c
+unfolding callOf callWords callOperation operation listIn
+call-front true (push ps n) ws = ap (λ l. push l n) (take-append-seam ps ws)
+call-front false (push ps n) ws = ap (λ l. push l n) (take-append-seam ps ws)
+call-front true (startRunAt at) ws = refl
+call-front false (startRunAt at) ws = refl
+call-front true takeChangedFrom ws = refl
+call-front false takeChangedFrom ws = refl
 
-size-some : (c : Call) → 0 < length (callWords c)
+size-some : (lent : Bool) (c : Call) → 0 < length (callWords lent c)
 unfolding callWords
-size-some (push ps n) = omega arith
-size-some (startRunAt at) = omega arith
-size-some takeChangedFrom = omega arith
+size-some lent (push ps n) = omega arith
+size-some lent (startRunAt at) = omega arith
+size-some lent takeChangedFrom = omega arith
+
+abbrev calls : List (Bool × Call) → List Call
+calls cs = map (λ c. c .1) cs
 
 -- Words of calls say these calls
-calls-back : (cs : List Call) → callsAfter 0 (allWords cs) ≡ cs
-unfolding allWords callsAfter
+calls-back : (cs : List (Bool × Call)) → callsAfter 0 (mixedWords cs) ≡ calls cs
+unfolding mixedWords callsAfter
 calls-back [] = refl
 calls-back (c ∷ cs) =
-    let ws : List ℕ = callWords c ++ allWords cs in
-    let n : ℕ = length (callWords c) in
-    let size : callSize ws ≡ n = size-front c (allWords cs) in
-    let some : 0 < callSize ws = omega (arith, size, size-some c) in
+    let front : List ℕ = callWords (c .0) (c .1) in
+    let ws : List ℕ = front ++ mixedWords cs in
+    let n : ℕ = length front in
+    let size : callSize ws ≡ n = size-front (c .0) (c .1) (mixedWords cs) in
+    let some : 0 < callSize ws = omega (arith, size, size-some (c .0) (c .1)) in
     let plus : n ≡ n + 0 = omega arith in
-    let rest : callsAfter (callSize ws) ws ≡ cs =
-    ap (λ k. callsAfter k ws) (size ∙ plus) ∙ after-add n 0 ws ∙ ap (callsAfter 0) (drop-append-seam (callWords c) (allWords cs)) ∙ calls-back cs in
-    front-next ws some ∙ ap (λ d. d ∷ callsAfter (callSize ws) ws) (call-front c (allWords cs)) ∙ ap (λ ds. c ∷ ds) rest
+    let rest : callsAfter (callSize ws) ws ≡ calls cs =
+    ap (λ k. callsAfter k ws) (size ∙ plus) ∙ after-add n 0 ws ∙ ap (callsAfter 0) (drop-append-seam front (mixedWords cs)) ∙ calls-back cs in
+    front-next ws some ∙ ap (λ d. d ∷ callsAfter (callSize ws) ws) (call-front (c .0) (c .1) (mixedWords cs)) ∙ ap (λ ds. c .1 ∷ ds) rest
 
 -- The same of the start
 start-size : (f : Fresh) (ws : List ℕ) → startSize (startWords f ++ ws) ≡ length (startWords f)
@@ -76,14 +87,24 @@ said ws h = go (startSize ws) h
     go zero h = absurd (omega arith)
     go (suc n) h = (refl, refl)
 
--- So demand 3's lists are all among those that `made_by` makes
-pub all-said : (f : Fresh) (cs : List Call) → (freshIn (startWords f ++ allWords cs) ≡ f) × (callsIn (startWords f ++ allWords cs) ≡ cs)
-all-said f cs =
-    let ws : List ℕ = startWords f ++ allWords cs in
+-- So demand 3's lists are all among those that `made_by` makes, whichever of their calls are lent
+pub mixed-said : (f : Fresh) (cs : List (Bool × Call)) →
+    (freshIn (startWords f ++ mixedWords cs) ≡ f) × (callsIn (startWords f ++ mixedWords cs) ≡ map (λ c. c .1) cs)
+mixed-said f cs =
+    let ws : List ℕ = startWords f ++ mixedWords cs in
     let n : ℕ = length (startWords f) in
-    let size : startSize ws ≡ n = start-size f (allWords cs) in
+    let size : startSize ws ≡ n = start-size f (mixedWords cs) in
     let some : 0 < startSize ws = omega (arith, size, start-some f) in
     let plus : n ≡ n + 0 = omega arith in
-    let rest : callsAfter (startSize ws) ws ≡ cs =
-    ap (λ k. callsAfter k ws) (size ∙ plus) ∙ after-add n 0 ws ∙ ap (callsAfter 0) (drop-append-seam (startWords f) (allWords cs)) ∙ calls-back cs in
-    (said ws some .0 ∙ start-front f (allWords cs), said ws some .1 ∙ rest)
+    let rest : callsAfter (startSize ws) ws ≡ calls cs =
+    ap (λ k. callsAfter k ws) (size ∙ plus) ∙ after-add n 0 ws ∙ ap (callsAfter 0) (drop-append-seam (startWords f) (mixedWords cs)) ∙ calls-back cs in
+    (said ws some .0 ∙ start-front f (mixedWords cs), said ws some .1 ∙ rest)
+
+-- and all by value
+by-value : (cs : List Call) → calls (map (λ c. (false, c)) cs) ≡ cs
+by-value [] = refl
+by-value (c ∷ cs) = ap (λ ds. c ∷ ds) (by-value cs)
+
+pub all-said : (f : Fresh) (cs : List Call) → (freshIn (startWords f ++ allWords cs) ≡ f) × (callsIn (startWords f ++ allWords cs) ≡ cs)
+unfolding allWords
+all-said f cs = let s = mixed-said f (map (λ c. (false, c)) cs) in (s .0, s .1 ∙ by-value cs)

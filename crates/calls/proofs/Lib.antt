@@ -2,3 +2,4 @@
 pub mod Reading
 pub mod Making
 pub mod Covering
+pub mod Local

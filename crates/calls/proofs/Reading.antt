@@ -2,13 +2,13 @@
 use mathlib.Core.Path.{_≡_, refl}
 use mathlib.Core.Bool.{Bool, true, false, cond}
 use mathlib.Core.List.{List}
-use Prim.Native.Nat.{ℕ, _+_, _≤_, _<_}
+use Prim.Native.Nat.{ℕ, _+_, _-_, _≤_, _<_}
 use native.Mathlib.Omega.{arith}
 use lib.ListN.{length, getD}
 use lib.Dec.{leb, eqb}
 use borrow.Author.Tests.{leb-true, le-leb, lt-leb, eq-eqb, ne-eqb}
 use Rattle.model.specs.Log.{new, after, push, startRunAt, takeChangedFrom}
-use Rattle.calls.specs.Words.{operation, listIn, whole, listed, startSize, startOf, callSize, callOf}
+use Rattle.calls.specs.Words.{operation, listIn, whole, listed, startSize, startOf, callOperation, callSize, callOf}
 
 -- The size of a call that is there, and of one that is cut off
 
@@ -73,34 +73,46 @@ module _ (op : ℕ) (ws : List ℕ) (e : op ≡ getD ws 0 0) where
       go true h = listed-there ws h
       go false h = absurd (omega arith)
 
-  -- A call, by its operation
+-- A call's operation, by value or lent
 
+module _ (op : ℕ) (ws : List ℕ) (e : op ≡ getD ws 0 0) where
+  pub lent-operation : 16 ≤ op → op - 14 ≡ callOperation ws
+  unfolding callOperation operation
+  lent-operation h = rw (← e, le-leb 16 op h)
+
+  pub value-operation : op < 16 → op ≡ callOperation ws
+  unfolding callOperation operation
+  value-operation h = rw (← e, lt-leb 16 op h)
+
+-- A call, by its operation
+
+module _ (op : ℕ) (ws : List ℕ) (e : op ≡ callOperation ws) where
   pub size-push : op ≡ 2 → listed ws ≡ callSize ws
-  unfolding callSize operation
+  unfolding callSize
   size-push h = rw (← e, eq-eqb op 2 h)
 
   pub size-start : (op ≡ 2 → ⊥) → op ≡ 3 → whole 2 ws ≡ callSize ws
-  unfolding callSize operation
+  unfolding callSize
   size-start m h = rw (← e, ne-eqb op 2 m, eq-eqb op 3 h)
 
   pub size-take : (op ≡ 2 → ⊥) → (op ≡ 3 → ⊥) → op ≡ 4 → whole 1 ws ≡ callSize ws
-  unfolding callSize operation
+  unfolding callSize
   size-take m n h = rw (← e, ne-eqb op 2 m, ne-eqb op 3 n, eq-eqb op 4 h)
 
   pub size-none : (op ≡ 2 → ⊥) → (op ≡ 3 → ⊥) → (op ≡ 4 → ⊥) → 0 ≡ callSize ws
-  unfolding callSize operation
+  unfolding callSize
   size-none m n o = rw (← e, ne-eqb op 2 m, ne-eqb op 3 n, ne-eqb op 4 o)
 
   pub call-push : op ≡ 2 → callOf ws ≡ push (listIn ws) (getD ws 1 0)
-  unfolding callOf operation
+  unfolding callOf
   call-push h = rw (← e, eq-eqb op 2 h)
 
   pub call-start : (op ≡ 2 → ⊥) → op ≡ 3 → callOf ws ≡ startRunAt (getD ws 1 0)
-  unfolding callOf operation
+  unfolding callOf
   call-start m h = rw (← e, ne-eqb op 2 m, eq-eqb op 3 h)
 
   pub call-take : (op ≡ 2 → ⊥) → (op ≡ 3 → ⊥) → callOf ws ≡ takeChangedFrom
-  unfolding callOf operation
+  unfolding callOf
   call-take m n = rw (← e, ne-eqb op 2 m, ne-eqb op 3 n)
 
   -- a push that is there has its whole list
@@ -120,7 +132,7 @@ start-in ws = go (eqb (operation ws) 0) (eqb (operation ws) 1)
 
 pub call-in : (ws : List ℕ) → callSize ws ≤ length ws
 unfolding callSize listed
-call-in ws = go (eqb (operation ws) 2) (eqb (operation ws) 3) (eqb (operation ws) 4)
+call-in ws = go (eqb (callOperation ws) 2) (eqb (callOperation ws) 3) (eqb (callOperation ws) 4)
   where
     go : (a b c : Bool) → cond a (whole (3 + getD ws 2 0) ws) (cond b (whole 2 ws) (cond c (whole 1 ws) 0)) ≤ length ws
     go true b c = whole-in (3 + getD ws 2 0) ws

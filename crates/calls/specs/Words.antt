@@ -1,8 +1,8 @@
 -- Calls given as words, as in the trace program's scripts: which start and which calls a list of words is. Every list of words is read,
 -- up to its end, to an operation that is none of these, or to a call that is cut off. Assumes nothing.
-use mathlib.Core.Bool.{cond}
-use mathlib.Core.List.{List, [], _∷_, _++_}
-use Prim.Native.Nat.{ℕ, zero, suc, _+_}
+use mathlib.Core.Bool.{Bool, false, cond}
+use mathlib.Core.List.{List, [], _∷_, _++_, map}
+use Prim.Native.Nat.{ℕ, zero, suc, _+_, _-_}
 use lib.ListN.{length, getD, take, drop}
 use lib.Dec.{leb, eqb}
 use Rattle.model.specs.declared.record.CausalGraph.{CausalGraph}
@@ -32,15 +32,22 @@ startSize ws = cond (eqb (operation ws) 0) (whole 1 ws) (cond (eqb (operation ws
 unfoldable pub startOf : List ℕ → Fresh
 startOf ws = cond (eqb (operation ws) 0) new (after (getD ws 1 0) (listIn ws))
 
--- the size of a call, `2 length K parents..`, `3 event` or `4`; 0 where it is missing, unknown or cut off
+-- the operation of a call: 16, 17 and 18 say the calls that 2, 3 and 4 say, lent
+unfoldable pub callOperation : List ℕ → ℕ
+callOperation ws = cond (leb 16 (operation ws)) (operation ws - 14) (operation ws)
+
+-- the size of a call, `2 length K parents..`, `3 event` or `4`, or of the same lent, `16 length K parents..`, `17 event` or `18`; 0 where
+-- it is missing, unknown or cut off
 unfoldable pub callSize : List ℕ → ℕ
 callSize ws =
-    cond (eqb (operation ws) 2) (listed ws) (cond (eqb (operation ws) 3) (whole 2 ws) (cond (eqb (operation ws) 4) (whole 1 ws) 0))
+    let op = callOperation ws in
+    cond (eqb op 2) (listed ws) (cond (eqb op 3) (whole 2 ws) (cond (eqb op 4) (whole 1 ws) 0))
 
--- the call whose words these are
+-- the call whose words these are, by value or lent
 unfoldable pub callOf : List ℕ → Call
 callOf ws =
-    cond (eqb (operation ws) 2) (push (listIn ws) (getD ws 1 0)) (cond (eqb (operation ws) 3) (startRunAt (getD ws 1 0)) takeChangedFrom)
+    let op = callOperation ws in
+    cond (eqb op 2) (push (listIn ws) (getD ws 1 0)) (cond (eqb op 3) (startRunAt (getD ws 1 0)) takeChangedFrom)
 
 -- the calls that stand after the first n words; a call of n + 1 words is w and n more
 unfoldable pub callsAfter : ℕ → List ℕ → List Call
@@ -61,16 +68,20 @@ unfoldable pub graphAfter : CausalGraph → List Call → CausalGraph
 graphAfter g [] = g
 graphAfter g (c ∷ cs) = graphAfter (answer g c .1) cs
 
--- the words of a start and of calls
+-- the words of a start, and of a call by value or lent
 unfoldable pub startWords : Fresh → List ℕ
 startWords new = 0 ∷ []
 startWords (after events frontier) = 1 ∷ events ∷ length frontier ∷ frontier
 
-unfoldable pub callWords : Call → List ℕ
-callWords (push ps n) = 2 ∷ n ∷ length ps ∷ ps
-callWords (startRunAt at) = 3 ∷ at ∷ []
-callWords takeChangedFrom = 4 ∷ []
+unfoldable pub callWords : Bool → Call → List ℕ
+callWords lent (push ps n) = cond lent 16 2 ∷ n ∷ length ps ∷ ps
+callWords lent (startRunAt at) = cond lent 17 3 ∷ at ∷ []
+callWords lent takeChangedFrom = cond lent 18 4 ∷ []
+
+-- the words of calls, of which each is lent or not; and of calls that are all by value
+unfoldable pub mixedWords : List (Bool × Call) → List ℕ
+mixedWords [] = []
+mixedWords (c ∷ cs) = callWords (c .0) (c .1) ++ mixedWords cs
 
 unfoldable pub allWords : List Call → List ℕ
-allWords [] = []
-allWords (c ∷ cs) = callWords c ++ allWords cs
+allWords cs = mixedWords (map (λ c. (false, c)) cs)

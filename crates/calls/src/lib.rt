@@ -1,5 +1,8 @@
-// A list of calls given as words, made by the graph's public calls: a fresh start, then pushes, run starts and takes. specs/ says which
-// calls the words are.
+// A list of calls given as words, made by the public calls: a fresh start, then pushes, run starts and takes, each by value or lent.
+// specs/ says which calls the words are.
+mod either;
+pub mod lending;
+
 ghost use mathlib.Core.Path.{_≡_};
 ghost use Prim.Native.Nat.{_+_, _<_, _≤_};
 ghost use lib.ListN.{length, getD};
@@ -7,7 +10,7 @@ ghost use Rattle.model.specs.Log.{begin as Log·begin, answer, madeBy};
 ghost use Rattle.model.specs.Push.{pushOf};
 ghost use Rattle.model.specs.Start.{startRunAtOf, takeChangedFromOf};
 ghost use Rattle.calls.specs.Words.{listIn, whole as Words·whole, listed as Words·listed, startSize, startOf};
-ghost use Rattle.calls.specs.Words.{callSize, callOf, callsAfter, freshIn, callsIn, graphAfter};
+ghost use Rattle.calls.specs.Words.{callOperation, callSize, callOf, callsAfter, freshIn, callsIn, graphAfter};
 use model::CausalGraph;
 use model::EventIndex;
 
@@ -52,10 +55,21 @@ fn start_size(words: &[u32]) -> usize
     0
 }
 
+// The operation of the call at the front, by value or lent.
+fn operation(words: &[u32]) -> u32
+    ensures { λ r. ⌜ r ≡ callOperation (now (words .entry)) ⌝ }
+{
+    let op = get(words, 0);
+    if 16 <= op {
+        return op - 14;
+    }
+    op
+}
+
 fn call_size(words: &[u32]) -> usize
     ensures { λ r. ⌜ r ≡ callSize (now (words .entry)) ⌝ }
 {
-    let op = get(words, 0);
+    let op = operation(words);
     if op == 2 {
         return listed(words);
     }
@@ -85,47 +99,48 @@ fn begin(words: &[u32]) -> CausalGraph
     g
 }
 
-fn push(g: CausalGraph, words: &[u32]) -> CausalGraph
+fn push(g: CausalGraph, words: &[u32], lent: bool) -> CausalGraph
     requires { ⌜ 3 + getD (now words) 2 0 ≤ length (now words) ⌝ }
     ensures { λ r. ⌜ r ≡ pushOf g (listIn (now (words .entry))) (getD (now (words .entry)) 1 0) .graph ⌝ }
 {
     let length = get(words, 1);
     let count = get(words, 2) as usize;
     let end = 3 + count;
-    let pushed = graph::pushing::push(g, &words[3..end], length);
-    let h = pushed.graph;
-    h
+    let pushed = either::push(lent, g, &words[3..end], length);
+    let after_push = pushed.graph;
+    after_push
 }
 
-fn start_run_at(g: CausalGraph, at: u32) -> CausalGraph
+fn start_run_at(g: CausalGraph, at: u32, lent: bool) -> CausalGraph
     ensures { λ r. ⌜ r ≡ startRunAtOf g at .graph ⌝ }
 {
-    let started = graph::starting::start_run_at(g, EventIndex(at));
-    let h = started.graph;
-    h
+    let started = either::start_run_at(lent, g, EventIndex(at));
+    let after_start = started.graph;
+    after_start
 }
 
-fn take_changed_from(g: CausalGraph) -> CausalGraph
+fn take_changed_from(g: CausalGraph, lent: bool) -> CausalGraph
     ensures { λ r. ⌜ r ≡ takeChangedFromOf g .graph ⌝ }
 {
-    let taken = graph::starting::take_changed_from(g);
-    let h = taken.graph;
-    h
+    let taken = either::take_changed_from(lent, g);
+    let after_take = taken.graph;
+    after_take
 }
 
-// Makes the call at the front.
+// Makes the call at the front, by value or lent.
 fn call(g: CausalGraph, words: &[u32]) -> CausalGraph
     requires { ⌜ 0 < callSize (now words) ⌝ }
     ensures { λ r. ⌜ r ≡ answer g (callOf (now (words .entry))) .1 ⌝ }
 {
-    let op = get(words, 0);
+    let op = operation(words);
+    let lent = 16 <= get(words, 0);
     if op == 2 {
-        return push(g, words);
+        return push(g, words, lent);
     }
     if op == 3 {
-        return start_run_at(g, get(words, 1));
+        return start_run_at(g, get(words, 1), lent);
     }
-    take_changed_from(g)
+    take_changed_from(g, lent)
 }
 
 // Makes the calls from place `from` on.

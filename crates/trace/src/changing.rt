@@ -5,6 +5,8 @@ use crate::words;
 use model::CausalGraph;
 use model::EventIndex;
 use model::EventRunIndex;
+use model::Pushed;
+use model::Started;
 
 // The current graph after a call, and how many bytes of the output buffer are used.
 pub struct Changed {
@@ -33,8 +35,24 @@ pub fn after(events: u32, frontier: &[u32], out: &mut [u8], used: usize) -> Chan
     }
 }
 
+// By value, or lent where the length is odd: so both forms are run.
+fn either_push(g: CausalGraph, parents: &[u32], len: u32) -> Pushed {
+    if len % 2 == 1 {
+        return calls::lending::push(g, parents, len);
+    }
+    graph::pushing::push(g, parents, len)
+}
+
+// The same where the event is odd.
+fn either_start(g: CausalGraph, at: EventIndex) -> Started {
+    if at.0 % 2 == 1 {
+        return calls::lending::start_run_at(g, at);
+    }
+    graph::starting::start_run_at(g, at)
+}
+
 pub fn push(g: CausalGraph, parents: &[u32], len: u32, out: &mut [u8], used: usize) -> Changed {
-    let pushed = graph::pushing::push(g, parents, len);
+    let pushed = either_push(g, parents, len);
     let graph = pushed.graph;
     let answer = pushed.answer;
     let named = output::text(out, used, b"push");
@@ -46,7 +64,7 @@ pub fn push(g: CausalGraph, parents: &[u32], len: u32, out: &mut [u8], used: usi
 }
 
 pub fn start(g: CausalGraph, at: u32, out: &mut [u8], used: usize) -> Changed {
-    let started = graph::starting::start_run_at(g, EventIndex(at));
+    let started = either_start(g, EventIndex(at));
     let graph = started.graph;
     let answer = started.answer;
     let named = output::text(out, used, b"start");
@@ -57,8 +75,9 @@ pub fn start(g: CausalGraph, at: u32, out: &mut [u8], used: usize) -> Changed {
     }
 }
 
+// Lent.
 pub fn take(g: CausalGraph, out: &mut [u8], used: usize) -> Changed {
-    let taken = graph::starting::take_changed_from(g);
+    let taken = calls::lending::take_changed_from(g);
     let graph = taken.graph;
     let answer = taken.answer;
     let named = output::text(out, used, b"take");

@@ -2,8 +2,10 @@
 // up to its last word that is no longer BLANK.
 use crate::answers;
 use crate::output;
+use crate::words;
 use model::CausalGraph;
 use model::EventRunIndex;
+use model::Walked;
 use model::Written;
 
 const BLANK: u32 = 4294967295;
@@ -61,4 +63,50 @@ pub fn concurrent(
     let w = graph::beside::concurrent_runs(g, EventRunIndex(run), list);
     let named = output::text(out, used, b"concurrent");
     written(list, w, out, named)
+}
+
+fn walked(rows: &[u32], steps: &[u32], w: Walked, out: &mut [u8], used: usize) -> usize {
+    let outcome = w.outcome;
+    let told = answers::outcome(out, used, outcome);
+    let counted = output::long(out, told, w.count);
+    let moved = output::long(out, counted, w.moved);
+    let listed = output::list(out, moved, rows, filled(rows));
+    let stepped = output::list(out, listed, steps, filled(steps));
+    output::end(out, stepped)
+}
+
+fn walk_of(g: CausalGraph, call: &[u32], rows: &mut [u32], steps: &mut [u32]) -> Walked {
+    let first = EventRunIndex(words::get(call, 1));
+    let end = EventRunIndex(words::get(call, 2));
+    let known = words::get(call, 3);
+    walk::walking::walk(g, first, end, known, words::get(call, 4), rows, steps)
+}
+
+pub fn walk(
+    g: CausalGraph,
+    call: &[u32],
+    rows: &mut [u32],
+    steps: &mut [u32],
+    out: &mut [u8],
+    used: usize,
+) -> usize {
+    fill(rows);
+    fill(steps);
+    let w = walk_of(g, call, rows, steps);
+    let named = output::text(out, used, b"walk");
+    walked(rows, steps, w, out, named)
+}
+
+pub fn replay(
+    g: CausalGraph,
+    rows: &mut [u32],
+    steps: &mut [u32],
+    out: &mut [u8],
+    used: usize,
+) -> usize {
+    fill(rows);
+    fill(steps);
+    let w = walk::replaying::replay(g, rows, steps);
+    let named = output::text(out, used, b"replay");
+    walked(rows, steps, w, out, named)
 }

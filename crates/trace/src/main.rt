@@ -1,11 +1,12 @@
 // Reads a script of calls from standard input, makes each on one current graph, and writes a line for each.
 mod answers;
-mod calls;
 mod changing;
 mod input;
 mod lent;
 mod lookups;
+mod making;
 mod output;
+mod reading;
 mod script;
 mod whole;
 mod words;
@@ -44,7 +45,7 @@ fn answered(
         return stopped(s, input::BAD);
     }
     let g = s.graph;
-    let c = calls::make(g, call, &list[0..count], rows, steps, out, s.used);
+    let c = making::make(g, call, &list[0..count], rows, steps, out, s.used);
     let h = c.graph;
     State {
         graph: h,
@@ -117,7 +118,7 @@ fn main() {
     let mut call = [0u32; 4616];
     let mut list = [0u32; 65536];
     let mut rows = [0u32; 131328];
-    let mut steps = [0u32; 65536];
+    let mut steps = [0u32; 524288];
     let mut out = io::large_buffer();
     run(
         &mut bytes,

@@ -51,6 +51,12 @@ pub fn count(out: &mut [u8], used: usize, n: usize) -> usize {
     number(out, now, words::wide_count(n))
 }
 
+// A space and a number.
+pub fn long(out: &mut [u8], used: usize, n: u64) -> usize {
+    let now = byte(out, used, b' ');
+    number(out, now, n)
+}
+
 // The words of a list from place `from` up to, not including, `to`, a space before each.
 pub fn part(out: &mut [u8], used: usize, list: &[u32], from: usize, to: usize) -> usize {
     let mut now = used;

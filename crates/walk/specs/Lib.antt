@@ -1,4 +1,8 @@
--- What the walk's code computes: chains and rows of a range.
-pub mod Lay
-pub mod Laid
-pub mod Gather
+-- What the walk's code computes.
+pub mod Ranges
+pub mod Choose
+pub mod Readiness
+pub mod Turns
+pub mod Prepare
+pub mod Walked
+pub mod CutRecords

@@ -1,4 +1,6 @@
-// The walk over a range of runs: the range's parents, and its chains and rows, written into the lent row area.
-pub mod parents;
-pub mod ranges;
-pub mod rows;
+// The walk over a range of runs, and full replay. `walking::walk` and `replaying::replay` are the calls of 01.
+mod choice;
+mod ready;
+pub mod replaying;
+mod visiting;
+pub mod walking;

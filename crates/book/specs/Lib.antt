@@ -1,0 +1,3 @@
+-- The book's reader and printer.
+pub mod Turns
+pub mod Output

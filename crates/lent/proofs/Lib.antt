@@ -1,0 +1,2 @@
+-- The laws of the lent forms.
+pub mod Refusing

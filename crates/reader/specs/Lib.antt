@@ -1,0 +1,3 @@
+-- The step reader, and what it hands out till it stops.
+pub mod Reading
+pub mod RoundTrip

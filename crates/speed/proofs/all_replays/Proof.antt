@@ -1,0 +1,55 @@
+-- `speed::all_replays` is safe and ends: the lent lists keep their lengths. The measure is the number of turns that are left. Assumes nothing.
+use borrow.Author.Needs.{needs}
+use lib.ListN.{length}
+use mathlib.Core.Path.{_≡_}
+use Rattle.speed.proofs.all_replays.Statement.{statement}
+use Rattle.speed.proofs.all_replays.Tie as tie
+
+abbrev Inv-loop : tie.InvT-loop
+Inv-loop g times rows₀ steps₀ told₀ left₀ rows steps told left = (length rows ≡ length rows₀) × (length steps ≡ length steps₀)
+
+abbrev μ-loop : tie.MeasureT-loop
+μ-loop g times rows₀ steps₀ told₀ left₀ rows steps told left = left
+
+nothing-requires : tie.Need-nothing-requires Inv-loop μ-loop
+nothing-requires c κs = search needs
+
+loop-holds : tie.Need-loop-holds Inv-loop μ-loop
+loop-holds c = search needs
+
+replay-requires : tie.Need-replay-requires Inv-loop μ-loop
+replay-requires c κs = search needs
+
+sub-left : tie.Need-sub-left Inv-loop μ-loop
+sub-left c = search needs
+
+loop-less : tie.Need-loop-less Inv-loop μ-loop
+loop-less c = search needs
+
+loop-again : tie.Need-loop-again Inv-loop μ-loop
+loop-again c = search needs
+
+same-length : tie.Need-same-length Inv-loop μ-loop
+same-length c = search needs
+
+same-length-2 : tie.Need-same-length-2 Inv-loop μ-loop
+same-length-2 c = search needs
+
+returns : tie.Need-returns Inv-loop μ-loop
+returns c = search needs
+
+pub all-replays-spec : {M : Type 1} → statement M
+all-replays-spec =
+    tie.close
+    (tie.spec
+    Inv-loop
+    μ-loop
+    nothing-requires
+    loop-holds
+    replay-requires
+    sub-left
+    loop-less
+    loop-again
+    same-length
+    same-length-2
+    returns)

@@ -1,0 +1,234 @@
+// Full replay: the ranges of the cut, one after another.
+ghost use mathlib.Core.Path.{_≡_};
+ghost use Prim.Native.Nat.{ℕ, _+_, _-_, _*_, _<_, _≤_, _^_};
+ghost use lib.ListN.{length, getD};
+ghost use Rattle.model.specs.Broken.{Held};
+ghost use Rattle.model.specs.Replay.{replayOf};
+ghost use Rattle.walk.specs.Ranges.{Arrays, Room};
+ghost use Rattle.walk.specs.Walked.{outOf, ranged as Walked·ranged, unwritten, replayOn, replayAll};
+ghost use Rattle.walk.specs.CutRecords.{rangeBy, rangesIn, runsOf, Tiled};
+use crate::walking;
+use crate::walking::Ranged;
+use model::CausalGraph;
+use model::Outcome;
+use model::Refusal;
+use model::Walked;
+use moves::writing;
+use moves::writing::Out;
+use tables::words::get;
+
+fn out_of(r: Ranged) -> Out
+    ensures { λ o. ⌜ o ≡ outOf r ⌝ }
+{
+    Out {
+        count: r.count,
+        moved: r.moved,
+        short: r.short,
+    }
+}
+
+fn ranged(o: Out) -> Ranged
+    ensures { λ r. ⌜ r ≡ Walked·ranged o 0 ⌝ }
+{
+    Ranged {
+        count: o.count,
+        moved: o.moved,
+        short: o.short,
+        rows: 0,
+    }
+}
+
+// One range of the cut: Open, then its runs in order (kind 0) or its walk. Nothing where something was refused before.
+fn replay_next<'a>(
+    r: Ranged,
+    kind: u32,
+    a: u32,
+    b: u32,
+    starts: &'a [u32],
+    heads: &'a [u32],
+    parents: &'a [u32],
+    rows: &mut [u32],
+    steps: &mut [u32],
+    groups: &mut [u32],
+    tables: &mut [u32],
+    before: &mut [u64],
+    sizes: &mut [u64],
+    children: &mut [u32],
+    covers: &mut [u8],
+    scratch: &mut [u32],
+) -> Ranged
+    requires { ⌜ Arrays (now starts) (now heads) (now parents) b ⌝ }
+    requires { ⌜ (a ≤ b) × (r .moved ≤ a * 2 ^ 52) ⌝ }
+    requires { ⌜ Room (now groups) (now tables) (now before) (now sizes) (now children) (now covers) (now scratch) ⌝ }
+    ensures { λ s. ⌜ (s, now (rows .exit), now (steps .exit)) ≡ replayOn (now (starts .entry)) (runsOf (now (starts .entry)) (now (heads .entry)) (now (parents .entry))) (r, now (rows .entry), now (steps .entry)) (rangeBy kind a b) ⌝ }
+    ensures { λ s. ⌜ s .moved ≤ b * 2 ^ 52 ⌝ }
+    ensures { λ _. ⌜ Room (now (groups .exit)) (now (tables .exit)) (now (before .exit)) (now (sizes .exit)) (now (children .exit)) (now (covers .exit)) (now (scratch .exit)) ⌝ }
+{
+    if r.rows != 0 {
+        return r;
+    }
+    if r.short != 0 {
+        return r;
+    }
+    let o = writing::put_step(steps, out_of(r), 3, a, b, 0);
+    if o.short != 0 {
+        return ranged(o);
+    }
+    if kind == 0 {
+        return ranged(writing::put_applies(steps, o, a, b));
+    }
+    walking::walk_range(
+        o,
+        a,
+        b,
+        0,
+        0,
+        starts,
+        heads,
+        parents,
+        rows,
+        steps,
+        groups,
+        tables,
+        before,
+        sizes,
+        children,
+        covers,
+        scratch,
+    )
+}
+
+// The first n ranges of a cut.
+fn replay_all<'a>(
+    n: usize,
+    cut: &[u32],
+    starts: &'a [u32],
+    heads: &'a [u32],
+    parents: &'a [u32],
+    rows: &mut [u32],
+    steps: &mut [u32],
+    groups: &mut [u32],
+    tables: &mut [u32],
+    before: &mut [u64],
+    sizes: &mut [u64],
+    children: &mut [u32],
+    covers: &mut [u8],
+    scratch: &mut [u32],
+) -> Ranged
+    requires { ⌜ Tiled (now starts) (now heads) (now parents) (now cut) n ⌝ }
+    requires { ⌜ 3 * n ≤ length (now cut) ⌝ }
+    requires { ⌜ Room (now groups) (now tables) (now before) (now sizes) (now children) (now covers) (now scratch) ⌝ }
+    ensures { λ r. ⌜ (r, now (rows .exit), now (steps .exit)) ≡ replayAll (now (starts .entry)) (runsOf (now (starts .entry)) (now (heads .entry)) (now (parents .entry))) (Walked·ranged unwritten 0, now (rows .entry), now (steps .entry)) (rangesIn (now (cut .entry)) 0 n) ⌝ }
+{
+    let mut r = Ranged {
+        count: 0,
+        moved: 0,
+        short: 0,
+        rows: 0,
+    };
+    let mut i = 0;
+    while i < n {
+        let at = 3 * i;
+        let kind = get(cut, at);
+        let a = get(cut, at + 1);
+        let b = get(cut, at + 2);
+        r = replay_next(
+            r,
+            kind,
+            a,
+            b,
+            starts,
+            heads,
+            parents,
+            rows,
+            steps,
+            groups,
+            tables,
+            before,
+            sizes,
+            children,
+            covers,
+            scratch,
+        );
+        i += 1;
+    }
+    r
+}
+
+// The same, with work areas.
+fn replay_fresh<'a>(
+    n: usize,
+    cut: &[u32],
+    starts: &'a [u32],
+    heads: &'a [u32],
+    parents: &'a [u32],
+    rows: &mut [u32],
+    steps: &mut [u32],
+) -> Ranged
+    requires { ⌜ Tiled (now starts) (now heads) (now parents) (now cut) n ⌝ }
+    requires { ⌜ 3 * n ≤ length (now cut) ⌝ }
+    ensures { λ r. ⌜ (r, now (rows .exit), now (steps .exit)) ≡ replayAll (now (starts .entry)) (runsOf (now (starts .entry)) (now (heads .entry)) (now (parents .entry))) (Walked·ranged unwritten 0, now (rows .entry), now (steps .entry)) (rangesIn (now (cut .entry)) 0 n) ⌝ }
+{
+    let mut groups = walking::zeros_2561();
+    let mut tables = walking::zeros_4104();
+    let mut before = walking::sums_513();
+    let mut sizes = walking::sums_512();
+    let mut children = walking::children_2561();
+    let mut covers = walking::bytes_8192();
+    let mut scratch = walking::zeros_513();
+    replay_all(
+        n,
+        cut,
+        starts,
+        heads,
+        parents,
+        rows,
+        steps,
+        &mut groups,
+        &mut tables,
+        &mut before,
+        &mut sizes,
+        &mut children,
+        &mut covers,
+        &mut scratch,
+    )
+}
+
+fn zeros_1536() -> [u32; 1536]
+    ensures { λ r. ⌜ length r ≡ 1536 ⌝ }
+{
+    [0; 1536]
+}
+
+// Full replay of a graph that is known not to be broken.
+pub fn replay_held(g: CausalGraph, rows: &mut [u32], steps: &mut [u32]) -> Walked
+    requires { ⌜ Held g ⌝ }
+    ensures { λ r. ⌜ (r, now (rows .exit), now (steps .exit)) ≡ replayOf g (now (rows .entry)) (now (steps .entry)) ⌝ }
+{
+    let mut cut = zeros_1536();
+    let w = graph::cut::cut_held(g, 0, &mut cut);
+    let r = replay_fresh(
+        w.count,
+        &cut,
+        &g.starts,
+        &g.parent_starts,
+        &g.parents,
+        rows,
+        steps,
+    );
+    walking::walked(r)
+}
+
+// Full replay: rows of each range into `rows`, all steps into `steps`.
+pub fn replay(g: CausalGraph, rows: &mut [u32], steps: &mut [u32]) -> Walked
+    ensures { λ r. ⌜ (r, now (rows .exit), now (steps .exit)) ≡ replayOf g (now (rows .entry)) (now (steps .entry)) ⌝ }
+{
+    if graph::broken::is_broken(g) {
+        return Walked {
+            count: 0,
+            moved: 0,
+            outcome: Outcome::Refused(Refusal::Broken),
+        };
+    }
+    replay_held(g, rows, steps)
+}
