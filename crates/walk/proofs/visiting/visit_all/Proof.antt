@@ -1,4 +1,4 @@
--- TODO visiting/visit_all
+-- `walk::visiting::visit_all` meets its contract: the loop's invariant is `Looped`, and it counts the visits down. Assumes nothing.
 use borrow.Author.Needs.{needs}
 use Rattle.walk.proofs.Looped.{Looped, looped-start, looped-fit, looped-some, looped-next, looped-end, looped-moved}
 use Rattle.walk.specs.Turns.{Given, Turn}
@@ -19,7 +19,6 @@ Inv-loop base n chains known first starts rows groups tables before sizes childr
 abbrev μ-loop : tie.MeasureT-loop
 μ-loop base n chains known first starts rows groups tables before sizes children steps₀ current₀ waiting₀ ready₀ s₀ most₀ steps current waiting ready s most = most
 
--- src/visiting.rt:240:5
 loop-holds : tie.Need-loop-holds Inv-loop μ-loop
 loop-holds c =
     let a = c .before .before .before .before .before .before .before .before .before .before .before .args in
@@ -27,7 +26,6 @@ loop-holds c =
     let t₀ : Turn = (a .begun, a .steps .now, a .current .now, a .waiting .now, a .ready .now) in
     (looped-start g t₀ (c .before .before .before .before .before .before .before .before .before .before .before .pre .0) (c .before .before .before .before .before .before .before .before .before .before .before .pre .1 .0) (c .before .before .before .before .before .before .before .before .before .before .before .pre .1 .1), (refl, (refl, (refl, refl))))
 
--- src/visiting.rt:241:9
 visit-next-requires : tie.Need-visit-next-requires Inv-loop μ-loop
 visit-next-requires c κs =
     let a = c .before .before .before .before .before .before .before .before .before .before .before .before .before .before .before .before .before .before .args in
@@ -37,7 +35,6 @@ visit-next-requires c κs =
     let t : Turn = (l .s, l .steps, l .current, l .waiting, l .ready) in
     looped-fit g t₀ (l .most) t (l .inv .0) (c .before .before .before .before .if1 .taken)
 
--- src/visiting.rt:245:9
 sub-most : tie.Need-sub-most Inv-loop μ-loop
 sub-most c =
     let a = c .before .before .before .before .before .before .before .before .before .before .before .before .before .before .before .before .before .before .before .before .before .before .before .before .before .before .before .args in
@@ -47,7 +44,6 @@ sub-most c =
     let t : Turn = (l .s, l .steps, l .current, l .waiting, l .ready) in
     looped-some g t₀ (l .most) t (l .inv .0) (c .before .before .before .before .before .before .before .before .before .before .before .before .before .if1 .taken)
 
--- src/visiting.rt:240:5
 loop-less : tie.Need-loop-less Inv-loop μ-loop
 loop-less c =
     let a = c .before .before .before .before .before .before .before .before .before .before .before .before .before .before .before .before .before .before .before .before .before .before .before .before .before .before .before .args in
@@ -57,7 +53,6 @@ loop-less c =
     let t : Turn = (l .s, l .steps, l .current, l .waiting, l .ready) in
     omega (arith, looped-some g t₀ (l .most) t (l .inv .0) (c .before .before .before .before .before .before .before .before .before .before .before .before .before .if1 .taken))
 
--- src/visiting.rt:240:5
 loop-again : tie.Need-loop-again Inv-loop μ-loop
 loop-again c =
     let a = c .before .before .before .before .before .before .before .before .before .before .before .before .before .before .before .before .before .before .before .before .before .before .before .before .before .before .before .args in
@@ -68,23 +63,18 @@ loop-again c =
     let k = c .before .before .before .before .before .before .before .before .visit-next .kept in
     (looped-next g t₀ (l .most) t (l .inv .0) (c .before .before .before .before .before .before .before .before .before .before .before .before .before .if1 .taken) _ (c .before .before .before .before .before .before .before .before .visit-next .ensures), (k .1 .1 .1 .1 .1 .1 .1 .1 .1 .1 .1 .1 .1 .0 ∙ l .inv .1 .0, (k .1 .1 .1 .1 .1 .1 .1 .1 .1 .1 .1 .1 .1 .1 .0 ∙ l .inv .1 .1 .0, (k .1 .1 .1 .1 .1 .1 .1 .1 .1 .1 .1 .1 .1 .1 .1 .0 ∙ l .inv .1 .1 .1 .0, k .1 .1 .1 .1 .1 .1 .1 .1 .1 .1 .1 .1 .1 .1 .1 .1 .0 ∙ l .inv .1 .1 .1 .1))))
 
--- src/visiting.rt:213:1
 same-length : tie.Need-same-length Inv-loop μ-loop
 same-length c = c .before .before .loop .inv .1 .0
 
--- src/visiting.rt:213:1
 same-length-2 : tie.Need-same-length-2 Inv-loop μ-loop
 same-length-2 c = c .before .before .loop .inv .1 .1 .0
 
--- src/visiting.rt:213:1
 same-length-3 : tie.Need-same-length-3 Inv-loop μ-loop
 same-length-3 c = c .before .before .loop .inv .1 .1 .1 .0
 
--- src/visiting.rt:213:1
 same-length-4 : tie.Need-same-length-4 Inv-loop μ-loop
 same-length-4 c = c .before .before .loop .inv .1 .1 .1 .1
 
--- src/visiting.rt:213:1
 returns : tie.Need-returns Inv-loop μ-loop
 returns c =
     let a = c .before .before .before .before .before .before .before .before .before .before .before .before .before .before .args in

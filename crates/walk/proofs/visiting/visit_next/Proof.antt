@@ -1,4 +1,4 @@
--- TODO visiting/visit_next
+-- `walk::visiting::visit_next` meets its contract: the choice, the visit and what it wakes are one turn. Assumes nothing.
 use borrow.Author.Needs.{needs}
 use Rattle.walk.proofs.Stepping.{choose-asks, remove-asks, visit-asks, wake-asks, turned}
 use Rattle.walk.specs.Turns.{Given, Turn, outIn}
@@ -21,7 +21,6 @@ use Rattle.walk.proofs.visiting.choose.Reads as choose-reads
 use Rattle.walk.proofs.visiting.visit.Reads as visit-reads
 use Rattle.walk.proofs.visiting.wake.Reads as wake-reads
 
--- src/visiting.rt:192:9
 choose-requires : tie.Need-choose-requires
 choose-requires c κs =
     let a = c .before .before .before .before .before .before .before .before .before .before .before .before .before .args in
@@ -29,11 +28,9 @@ choose-requires c κs =
     let t : Turn = (a .s, a .steps .now, a .current .now, a .waiting .now, a .ready .now) in
     choose-asks g t (c .before .before .before .before .before .before .before .before .before .before .before .before .before .pre)
 
--- src/visiting.rt:193:9
 get-requires : tie.Need-get-requires
 get-requires c κs = search needs
 
--- src/visiting.rt:194:5
 remove-requires : tie.Need-remove-requires
 remove-requires c κs =
     let a = c .before .before .before .before .before .before .before .before .before .before .before .before .before .before .before .before .before .args in
@@ -41,7 +38,6 @@ remove-requires c κs =
     let t : Turn = (a .s, a .steps .now, a .current .now, a .waiting .now, a .ready .now) in
     remove-asks g t (c .before .before .before .before .before .before .before .before .before .before .before .before .before .before .before .before .before .pre) (c .before .before .before .choose .result) (c .before .get .result) (c .before .before .before .choose .ensures) (c .before .get .ensures)
 
--- src/visiting.rt:200:9
 visit-requires : tie.Need-visit-requires
 visit-requires c κs =
     let a = c .before .before .before .before .before .before .before .before .before .before .before .before .before .before .before .before .before .before .before .before .before .before .args in
@@ -49,11 +45,9 @@ visit-requires c κs =
     let t : Turn = (a .s, a .steps .now, a .current .now, a .waiting .now, a .ready .now) in
     visit-asks g t (c .before .before .before .before .before .before .before .before .before .before .before .before .before .before .before .before .before .before .before .before .before .before .pre) (c .before .before .before .before .before .before .before .before .choose .result) (c .before .before .before .before .before .before .get .result) (c .before .before .before .before .before .before .before .before .choose .ensures) (c .before .before .before .before .before .before .get .ensures) (outIn (a .s)) refl
 
--- src/visiting.rt:201:22
 sub-wake : tie.Need-sub-wake
 sub-wake c = omega (arith, c .before .before .before .before .before .before .before .before .before .before .before .before .before .before .before .before .before .before .before .before .before .before .before .before .before .before .before .pre .some)
 
--- src/visiting.rt:201:9
 wake-requires : tie.Need-wake-requires
 wake-requires c κs =
     let a = c .before .before .before .before .before .before .before .before .before .before .before .before .before .before .before .before .before .before .before .before .before .before .before .before .before .before .before .before .before .args in
@@ -61,31 +55,24 @@ wake-requires c κs =
     let t : Turn = (a .s, a .steps .now, a .current .now, a .waiting .now, a .ready .now) in
     wake-asks g t (c .before .before .before .before .before .before .before .before .before .before .before .before .before .before .before .before .before .before .before .before .before .before .before .before .before .before .before .before .before .pre) (c .before .before .before .before .before .before .before .before .before .before .before .before .before .before .before .choose .result) (c .before .before .before .before .before .before .before .before .before .before .before .before .before .get .result) (c .before .before .before .before .before .before .before .before .before .before .before .before .before .before .before .choose .ensures) (c .before .before .before .before .before .before .before .before .before .before .before .before .before .get .ensures)
 
--- src/visiting.rt:208:15
 cast-t42 : tie.Need-cast-t42
 cast-t42 c = search needs
 
--- src/visiting.rt:208:15
 add-t43 : tie.Need-add-t43
 add-t43 c = search needs
 
--- src/visiting.rt:169:1
 same-length : tie.Need-same-length
 same-length c = search needs
 
--- src/visiting.rt:169:1
 same-length-2 : tie.Need-same-length-2
 same-length-2 c = search needs
 
--- src/visiting.rt:169:1
 same-length-3 : tie.Need-same-length-3
 same-length-3 c = search needs
 
--- src/visiting.rt:169:1
 same-length-4 : tie.Need-same-length-4
 same-length-4 c = search needs
 
--- src/visiting.rt:169:1
 returns : tie.Need-returns
 returns c =
     let a = c .before .before .before .before .before .before .before .before .before .before .before .before .before .before .before .before .before .before .before .before .before .before .before .before .before .before .before .before .before .before .before .before .before .before .args in

@@ -1,4 +1,4 @@
--- TODO visiting/visits_in
+-- `walk::visiting::visits_in` meets its contract: the walk begins, and is made to its end. Assumes nothing.
 use borrow.Author.Needs.{needs}
 use Rattle.walk.proofs.Beginning.{version-asks, ready-asks, begins}
 use Rattle.walk.specs.Turns.{Given}
@@ -13,55 +13,42 @@ use Rattle.tables.proofs.words.wide.Reads as wide-reads
 use Rattle.walk.proofs.ready.start_all.Reads as start-all-reads
 use Rattle.walk.proofs.visiting.visit_all.Reads as visit-all-reads
 
--- src/visiting.rt:276:13
 add-w : tie.Need-add-w
 add-w c = search needs
 
--- src/visiting.rt:277:13
 mul-b : tie.Need-mul-b
 mul-b c = search needs
 
--- src/visiting.rt:278:13
 mul-c : tie.Need-mul-c
 mul-c c = search needs
 
--- src/visiting.rt:281:9
 mul-start-version : tie.Need-mul-start-version
 mul-start-version c = search needs
 
--- src/visiting.rt:281:9
 sub-start-version : tie.Need-sub-start-version
 sub-start-version c = search needs
 
--- src/visiting.rt:281:9
 part-start-version-start : tie.Need-part-start-version-start
 part-start-version-start c = search needs
 
--- src/visiting.rt:281:9
 part-start-version-end : tie.Need-part-start-version-end
 part-start-version-end c = search needs
 
--- src/visiting.rt:282:9
 mul-start-version-2 : tie.Need-mul-start-version-2
 mul-start-version-2 c = search needs
 
--- src/visiting.rt:282:9
 sub-start-version-2 : tie.Need-sub-start-version-2
 sub-start-version-2 c = search needs
 
--- src/visiting.rt:282:9
 part-start-version-start-2 : tie.Need-part-start-version-start-2
 part-start-version-start-2 c = search needs
 
--- src/visiting.rt:282:9
 part-start-version-end-2 : tie.Need-part-start-version-end-2
 part-start-version-end-2 c = search needs
 
--- src/visiting.rt:284:9
 wide-requires : tie.Need-wide-requires
 wide-requires c κs = search needs
 
--- src/visiting.rt:279:5
 start-version-requires : tie.Need-start-version-requires
 start-version-requires c κs =
     let a = c .before .before .before .before .before .before .before .before .before .before .before .before .before .before .before .args in
@@ -69,35 +56,27 @@ start-version-requires c κs =
     let g : Given = record { starts = a .starts .now; rows = a .rows .now; groups = a .groups .now; tables = a .tables .now; before = a .before .now; sizes = a .sizes .now; children = a .children .now; base = a .base; runs = a .n; chains = a .chains; known = a .known; first = a .first } in
     version-asks g (p .0) (a .current .now) (c .wide .result) (p .1 .1 .0) (c .wide .ensures)
 
--- src/visiting.rt:289:9
 sub-start-all : tie.Need-sub-start-all
 sub-start-all c = search needs
 
--- src/visiting.rt:289:9
 part-start-all-start : tie.Need-part-start-all-start
 part-start-all-start c = search needs
 
--- src/visiting.rt:289:9
 part-start-all-end : tie.Need-part-start-all-end
 part-start-all-end c = search needs
 
--- src/visiting.rt:290:9
 mul-start-all : tie.Need-mul-start-all
 mul-start-all c = search needs
 
--- src/visiting.rt:290:9
 sub-start-all-2 : tie.Need-sub-start-all-2
 sub-start-all-2 c = search needs
 
--- src/visiting.rt:290:9
 part-start-all-start-2 : tie.Need-part-start-all-start-2
 part-start-all-start-2 c = search needs
 
--- src/visiting.rt:290:9
 part-start-all-end-2 : tie.Need-part-start-all-end-2
 part-start-all-end-2 c = search needs
 
--- src/visiting.rt:286:9
 start-all-requires : tie.Need-start-all-requires
 start-all-requires c κs =
     let a = c .before .before .before .before .before .before .before .before .before .before .before .before .before .before .before .before .before .before .before .before .before .before .args in
@@ -105,15 +84,12 @@ start-all-requires c κs =
     let g : Given = record { starts = a .starts .now; rows = a .rows .now; groups = a .groups .now; tables = a .tables .now; before = a .before .now; sizes = a .sizes .now; children = a .children .now; base = a .base; runs = a .n; chains = a .chains; known = a .known; first = a .first } in
     ready-asks g (p .0) (a .waiting .now) (a .ready .now) (p .1 .1 .1) (p .1 .1 .2)
 
--- src/visiting.rt:300:20
 sub-wide : tie.Need-sub-wide
 sub-wide c = search needs
 
--- src/visiting.rt:300:15
 wide-requires-2 : tie.Need-wide-requires-2
 wide-requires-2 c κs = search needs
 
--- src/visiting.rt:303:9
 visit-all-requires : tie.Need-visit-all-requires
 visit-all-requires c κs =
     let a = c .before .before .before .before .before .before .before .before .before .before .before .before .before .before .before .before .before .before .before .before .before .before .before .before .before .before .before .before .before .before .before .before .args in
@@ -126,23 +102,18 @@ visit-all-requires c κs =
       ),
     )
 
--- src/visiting.rt:251:1
 same-length : tie.Need-same-length
 same-length c = search needs
 
--- src/visiting.rt:251:1
 same-length-2 : tie.Need-same-length-2
 same-length-2 c = c .before .before .before .before .before .before .before .before .visit-all .kept .1 .1 .1 .1 .1 .1 .1 .1 .1 .1 .1 .1 .1 .1 .0 ∙ c .before .before .before .before .before .before .before .before .before .before .before .before .before .before .before .before .before .before .before .before .before .before .before .before .before .start-version .ensures .1
 
--- src/visiting.rt:251:1
 same-length-3 : tie.Need-same-length-3
 same-length-3 c = search needs
 
--- src/visiting.rt:251:1
 same-length-4 : tie.Need-same-length-4
 same-length-4 c = search needs
 
--- src/visiting.rt:251:1
 returns : tie.Need-returns
 returns c = search needs
 
