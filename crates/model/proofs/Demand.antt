@@ -17,7 +17,10 @@ use Rattle.model.specs.Replay.{replayOf}
 use Rattle.model.specs.Log.{Log, runCount, madeBy}
 use Rattle.model.specs.Claim.{RowRoom, StepRoom, Claimed, Claim, Beside}
 use Rattle.model.proofs.Stored.{not-broken}
+use Rattle.model.proofs.Agreeing.{ancestors-of}
 use Rattle.model.proofs.Keeping.{lower-of}
+use Rattle.model.proofs.Seen.{len-tied}
+use Rattle.model.proofs.Telling.{events-are, push-told}
 use Rattle.model.proofs.Critical.{marks-critical}
 use Rattle.model.proofs.Rooms.{walk-done}
 use Rattle.model.proofs.RoomsReplay.{replay-done}
@@ -59,6 +62,10 @@ module _ (g : CausalGraph) (l : Log) (G : Kept Good g l) where
   claimed : Claimed g l
   claimed = record {
     unbroken = unbroken;
+    starts = G .fact .inv .tied .starts;
+    events = events-are (view g) l (G .fact .inv .tied) (G .fact .inv .lower);
+    pushes = push-told g l (len-tied (view g) l (G .fact .inv .tied));
+    ancestors = ancestors-of l (lower-of (view g) l (G .fact .inv));
     replays = replays-follow g l (G .fact .inv .tied) (lower-of (view g) l (G .fact .inv)) (G .fact .inv .seen) unbroken;
     walks = walks-follow g l (G .fact .inv .tied) (lower-of (view g) l (G .fact .inv));
     replay-done = replay-has-room;

@@ -5,18 +5,22 @@ use mathlib.Core.List.{List, [], _∷_, _++_}
 use mathlib.Core.Option.{Option, none, some}
 use Prim.Native.Nat.{ℕ, suc, _+_, _≤_, _<_}
 use lib.ListN.{length, getD}
-use lib.Dec.{leb, ltb}
+use lib.Dec.{ltb}
 use Rattle.lists.specs.Lists.{filter}
 use Rattle.model.specs.declared.record.CausalGraph.{CausalGraph}
+use Rattle.model.specs.declared.record.EventIndex.{EventIndex}
 use Rattle.model.specs.declared.answers.Outcome.the-variants.{Done}
+use Rattle.model.specs.declared.answers.EventsAnswer.the-variants.{Events}
 use Rattle.model.specs.EventGraph.{VersionOf, CriticalAt}
 use Rattle.model.specs.Graph.{Graph, runs, start, marked, held}
 use Rattle.model.specs.Record.{view}
 use Rattle.model.specs.Broken.{broken}
+use Rattle.model.specs.HeldEvents.{heldEvents}
+use Rattle.model.specs.Push.{pushOf}
 use Rattle.model.specs.Walk.{walkOf}
 use Rattle.model.specs.Replay.{replayOf}
-use Rattle.model.specs.Log.{Fresh, Call, push, startRunAt, takeChangedFrom, Log, madeBy, runCount, runStart, inRuns, heldBefore, eventGraph}
-use Rattle.model.specs.PlainSet.{Follows, noEvents}
+use Rattle.model.specs.Log.{Fresh, Call, push, startRunAt, takeChangedFrom, Log, madeBy, runCount, runStart, eventGraph}
+use Rattle.model.specs.PlainSet.{Events as EventSet, IsAncestors, ancestorsOf, ReplayFollows, WalkFollows}
 
 -- The room with which nothing is refused: 512 rows of at most 1 to 512 words; at most 1,026 steps of three words for each of 512 runs
 abbrev pub RowRoom : ℕ
@@ -29,13 +33,19 @@ StepRoom = 1575936
 pub record Claimed (g : CausalGraph) (l : Log) : Type 0 where
   -- no later call meets refusal 1
   pub unbroken : broken g ≡ false
+  -- the numbers of runs and events that the graph tells are the log's: its runs start at the edges and the last one ends at `next`, and
+  -- its events and their held parents are the log's
+  pub starts : view g .starts ≡ l .edges ++ l .next ∷ []
+  pub events : heldEvents (view g) ≡ eventGraph l
+  -- and so are those that an accepted push would tell
+  pub pushes : (ps : List ℕ) (n : ℕ) (a b : EventIndex) → pushOf g ps n .answer ≡ Events a b → (a .0 ≡ l .next) × (b .0 ≡ l .next + n)
+  -- the sets that `moved` is summed over are the runs' ancestors
+  pub ancestors : (counted : EventSet) (r : ℕ) → IsAncestors l counted r (ancestorsOf l counted r)
   -- "every full replay that is not refused, whatever room it is lent", and whatever that held
-  pub replays : (rows steps : List ℕ) → (replayOf g rows steps) .0 .outcome ≡ Done →
-      Follows l (heldBefore l (l .next)) (λ r. ltb r (runCount l)) noEvents (replayOf g rows steps)
-  -- "every walk over any range with any known prefix and any `first`": "the set starts with the events of the range's first `known` runs,
-  -- and ancestors outside the range do not count"
+  pub replays : (rows steps : List ℕ) → (replayOf g rows steps) .0 .outcome ≡ Done → ReplayFollows l (replayOf g rows steps)
+  -- "every walk over any range with any known prefix and any `first`"
   pub walks : (a b known first : ℕ) (rows steps : List ℕ) → (walkOf g a b known first rows steps) .0 .outcome ≡ Done →
-      Follows l (inRuns l a b) (λ r. leb (a + known) r && ltb r b) (inRuns l a (a + known)) (walkOf g a b known first rows steps)
+      WalkFollows l a b known (walkOf g a b known first rows steps)
   -- it is not empty: with this much room no full replay is refused, and no walk of a known prefix of a range inside the graph
   pub replay-done : (rows steps : List ℕ) → RowRoom ≤ length rows → StepRoom ≤ length steps → (replayOf g rows steps) .0 .outcome ≡ Done
   pub walk-done : (a b known first : ℕ) (rows steps : List ℕ) → a + known ≤ b → b ≤ runCount l → RowRoom ≤ length rows → StepRoom ≤ length steps →

@@ -11,6 +11,7 @@ pub mod Start
 pub mod Lookups
 pub mod Cut
 pub mod History
+pub mod HeldEvents
 pub mod Beside
 pub mod Range
 pub mod Cover
@@ -25,4 +26,5 @@ pub mod Answers
 pub mod Log
 pub mod PlainSet
 pub mod Claim
+pub mod TooWeak
 pub mod Cases
