@@ -3,7 +3,7 @@ use mathlib.Core.Path.{_≡_, refl}
 use mathlib.Core.Logic.{_⊎_, inl, inr}
 use mathlib.Core.Bool.{true, _||_}
 use mathlib.Core.List.{List, [], _∷_, _++_}
-use Prim.Native.Nat.{ℕ, _≤_, _<_, min}
+use Prim.Native.Nat.{ℕ, zero, suc, _≤_, _<_, min}
 use native.Mathlib.Omega.{arith}
 use lib.ListN.{length, getD}
 use lib.Dec.{ltb, eqb}
@@ -44,6 +44,15 @@ largest-most hi d [] k h = k
 largest-most hi d (x ∷ []) k h = h x (rw (eq-eqb x x refl))
 largest-most hi d (x ∷ y ∷ ys) k h =
     omega (arith, h x (rw (eq-eqb x x refl)), largest-most hi d (y ∷ ys) k (λ z m. h z (or-right (eqb z x) m)))
+
+-- No number of it is larger
+pub largest-get : (xs : List ℕ) (i : ℕ) → getD xs i 0 ≤ largest 0 xs
+unfolding largest
+largest-get [] i = omega arith
+largest-get (x ∷ []) zero = omega arith
+largest-get (x ∷ []) (suc i) = omega arith
+largest-get (x ∷ y ∷ ys) zero = omega arith
+largest-get (x ∷ y ∷ ys) (suc i) = omega (arith, largest-get (y ∷ ys) i)
 
 -- What lies below the largest lies below one of the numbers, or below what stands in where there are none
 pub largest-from : (d e : ℕ) (xs : List ℕ) → e < largest d xs → (e < d) ⊎ ((x : ℕ) × (mem x xs ≡ true) × (e < x))

@@ -190,3 +190,10 @@ rising-take (suc (suc n)) (x ∷ []) e = refl
 rising-take (suc (suc n)) (x ∷ y ∷ l) e =
     and-both (ltb x y) (rising (take (suc n) (y ∷ l))) (and-left (ltb x y) (rising (y ∷ l)) e)
     (rising-take (suc n) (y ∷ l) (and-right (ltb x y) (rising (y ∷ l)) e))
+
+-- Consecutive numbers rise
+pub rising-from : (a n : ℕ) → rising (from a n) ≡ true
+unfolding rising from
+rising-from a zero = refl
+rising-from a (suc zero) = refl
+rising-from a (suc (suc n)) = and-both (ltb a (suc a)) (rising (from (suc a) (suc n))) (lt-ltb a (suc a) (omega arith)) (rising-from (suc a) (suc n))

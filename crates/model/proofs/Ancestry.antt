@@ -9,11 +9,7 @@ use borrow.Author.Tests.{eqb-true, eq-eqb}
 use Rattle.lists.specs.Lists.{mem}
 use Rattle.lists.proofs.Truth.{false-true, or-cases, or-left, or-right}
 use Rattle.lists.proofs.Members.{any-intro, any-elim}
-use Rattle.model.specs.EventGraph.{EventGraph, HappenedBefore, parent, further, reaches, ancestor}
-
--- Parents are lower numbers
-abbrev pub Lower : EventGraph → Type 0
-Lower G = (e p : ℕ) → mem p (G .parents e) ≡ true → p < e
+use Rattle.model.specs.EventGraph.{EventGraph, HappenedBefore, parent, further, Lower, reaches, ancestor}
 
 -- What happened before an event is a lower number
 pub before-lower : (G : EventGraph) → Lower G → {p e : ℕ} → HappenedBefore G p e → p < e

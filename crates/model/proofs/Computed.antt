@@ -1,7 +1,18 @@
--- C1 to C11, by computing. Assumes nothing.
+-- C1 to C11 and the facts beyond them, by computing. Assumes nothing.
 use mathlib.Core.Path.{refl}
-use Rattle.model.specs.Cases.{Cases}
+use Rattle.model.specs.Cases.{Beyond, Cases}
 use Rattle.model.proofs.Everything.{everything}
+
+-- The facts beyond them
+pub beyond : Beyond
+unfolding everything
+beyond = record {
+  first-0 = refl;
+  first-2 = refl;
+  ready-65 = refl;
+  per-bit-2 = refl;
+  per-bit-1 = refl;
+}
 
 -- All the cases
 pub cases : Cases
@@ -10,6 +21,7 @@ cases = record {
   C1 = refl;
   C2 = refl;
   C2-short = refl;
+  C2-list = refl;
   C3 = refl;
   C4 = refl;
   C4-known = refl;
@@ -21,4 +33,5 @@ cases = record {
   C9 = refl;
   C10 = refl;
   C11 = refl;
+  beyond = beyond;
 }

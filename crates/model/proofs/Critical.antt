@@ -13,10 +13,10 @@ use Rattle.lists.proofs.Truth.{lt-or-le, false-true}
 use Rattle.lists.proofs.Members.{mem-filter, filter-mem, all-at, all-fails}
 use Rattle.lists.proofs.Counts.{mem-from, from-mem, count-le}
 use Rattle.lists.proofs.Each.{members}
-use Rattle.model.specs.EventGraph.{EventGraph, HappenedBefore, parent, further, ancestor, InEvents, CriticalAt}
+use Rattle.model.specs.EventGraph.{EventGraph, HappenedBefore, parent, further, ancestor, InEvents, CriticalAt, Lower}
 use Rattle.model.specs.Graph.{Graph, marked}
 use Rattle.model.specs.Log.{Log, runStart, heldOf, heldBefore, eventGraph}
-use Rattle.model.proofs.Ancestry.{Lower, before-lower, before-trans, ancestor-iff}
+use Rattle.model.proofs.Ancestry.{before-lower, before-trans, ancestor-iff}
 use Rattle.model.proofs.Exact.{ancestors}
 use Rattle.model.proofs.Runs.{held-is, held-bounds, runOf}
 use Rattle.model.proofs.Tied.{Tied, high, mono, down, in-run}

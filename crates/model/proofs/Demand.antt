@@ -26,7 +26,7 @@ use Rattle.model.proofs.Rooms.{walk-done}
 use Rattle.model.proofs.RoomsReplay.{replay-done}
 use Rattle.model.proofs.Results.{walk-done-is, replay-is, walks-follow, replays-follow}
 use Rattle.model.proofs.Calls.{Kept}
-use Rattle.model.proofs.Good.{Good, made-good, since-fresh, since-take}
+use Rattle.model.proofs.Good.{Good, made-good, before-take, since-take}
 
 module _ (g : CausalGraph) (l : Log) (G : Kept Good g l) where
   unbroken : broken g ≡ false
@@ -84,6 +84,6 @@ beside = record {
       let G = made-good f cs in
       marks-critical (view ((madeBy f cs) .0)) ((madeBy f cs) .1) (G .fact .inv .tied) (G .fact .inv .seen) (lower-of (view ((madeBy f cs) .0)) ((madeBy f cs) .1) (G .fact .inv)) r lt m;
   frontier-version = λ f cs. (made-good f cs) .fact .front;
-  since-fresh = since-fresh;
+  before-take = before-take;
   since-take = since-take;
 }

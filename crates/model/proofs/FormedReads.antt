@@ -44,10 +44,11 @@ parents-first k ps pss e =
     (and-left (rising ps) (below k ps) q, and-right (rising ps) (below k ps) q, and-right (rising ps && below k ps) (groupsFit (suc k) pss) e)
 
 -- Parents that fit are below their run
-pub groupsFit-at : (k : ℕ) (pss : List (List ℕ)) → groupsFit k pss ≡ true → (i : ℕ) → i < length pss → (p : ℕ) → mem p (getD pss i []) ≡ true → p < k + i
-groupsFit-at k [] e i h p m = absurd (omega arith)
-groupsFit-at k (ps ∷ pss) e zero h p m = omega (arith, below-at k ps (parents-first k ps pss e .1) p m)
-groupsFit-at k (ps ∷ pss) e (suc i) h p m = omega (arith, groupsFit-at (suc k) pss (parents-first k ps pss e .2) i (omega arith) p m)
+pub groupsFit-at : (k : ℕ) (pss : List (List ℕ)) → groupsFit k pss ≡ true → (i p : ℕ) → mem p (getD pss i []) ≡ true → p < k + i
+unfolding mem
+groupsFit-at k [] e i p m = false-true m
+groupsFit-at k (ps ∷ pss) e zero p m = omega (arith, below-at k ps (parents-first k ps pss e .1) p m)
+groupsFit-at k (ps ∷ pss) e (suc i) p m = omega (arith, groupsFit-at (suc k) pss (parents-first k ps pss e .2) i p m)
 
 module _ (g : Graph) (formed : WellFormed g) where
   -- Starts never fall, from the first held event to `len`

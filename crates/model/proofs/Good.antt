@@ -4,7 +4,6 @@ use mathlib.Core.Path.{_≡_, refl, sym, ap, _∙_, subst}
 use mathlib.Core.Bool.{true}
 use mathlib.Core.List.{List, [], _∷_, _++_, append-assoc}
 use Prim.Native.Nat.{ℕ}
-use native.Mathlib.Omega.{arith}
 use Rattle.lists.proofs.Bounds.{below-at}
 use Rattle.model.specs.declared.record.CausalGraph.{CausalGraph}
 use Rattle.model.specs.declared.answers.Outcome.the-variants.{Done}
@@ -112,15 +111,14 @@ made-append : (f : Fresh) (cs ds : List Call) → madeBy f (cs ++ ds) ≡ afterC
 unfolding madeBy
 made-append f cs ds = calls-append cs ds ((begin f) .1) (beginLog f ((begin f) .0))
 
--- Until the first take no run below `changed_from` differs from the fresh graph
-pub since-fresh : (f : Fresh) (ds : List Call) → takeless ds → Unchanged ((madeBy f []) .0) ((madeBy f ds) .0)
-unfolding madeBy Unchanged view
-since-fresh f ds h r lt =
-    let z = takeless-keep (λ g l. Good g l × (g .changed ≡ 0)) zero-keeps ds h ((begin f) .1) (beginLog f ((begin f) .0))
-    (begin-keeps (λ g l. Good g l × (g .changed ≡ 0)) zero-keeps (λ events frontier e. (good-fresh events frontier e, zero-fresh events frontier)) f) in
-    absurd (omega (arith, z .fact .1))
+-- `changed_from` is 0 until the first take
+pub before-take : (f : Fresh) (ds : List Call) → takeless ds → (madeBy f ds) .0 .«changed_from» .0 ≡ 0
+unfolding madeBy view
+before-take f ds h =
+    (takeless-keep (λ g l. Good g l × (g .changed ≡ 0)) zero-keeps ds h ((begin f) .1) (beginLog f ((begin f) .0))
+    (begin-keeps (λ g l. Good g l × (g .changed ≡ 0)) zero-keeps (λ events frontier e. (good-fresh events frontier e, zero-fresh events frontier)) f)) .fact .1
 
--- and after a take none from what it left
+-- After a take no run below `changed_from` differs from what it left
 pub since-take : (f : Fresh) (cs ds : List Call) → takeless ds →
     Unchanged ((madeBy f (cs ++ takeChangedFrom ∷ [])) .0) ((madeBy f (cs ++ takeChangedFrom ∷ ds)) .0)
 unfolding Unchanged view

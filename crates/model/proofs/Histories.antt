@@ -9,19 +9,27 @@ use lib.ListN.{length, getD, take, drop, length-append, List·getD-append, List�
 use lib.Seq.{getD-append-seam, getD-take, getD-drop}
 use lib.Dec.{leb, eqb}
 use borrow.Author.Tests.{leb-true, eqb-true, le-leb, eq-eqb}
-use Rattle.lists.specs.Lists.{any, filter, from, upto, mem}
+use Rattle.lists.specs.Lists.{any, filter, from, upto, mem, rising}
+use Rattle.lists.specs.Scans.{groupsFit}
 use Rattle.lists.proofs.Truth.{lt-or-le, false-true, or-cases, or-left, or-right}
 use Rattle.lists.proofs.Members.{mem-filter, filter-mem, mem-map, map-mem, any-intro, any-elim, any-same}
 use Rattle.lists.proofs.Counts.{mem-from, upto-mem}
-use Rattle.model.specs.EventGraph.{HappenedBefore, parent, further}
+use Rattle.lists.proofs.Rising.{rising-filter, rising-from}
+use Rattle.model.specs.EventGraph.{HappenedBefore, parent, further, Lower}
 use Rattle.model.specs.Graph.{Graph}
 use Rattle.model.specs.History.{at, runGraph, reached, historiesFrom, histories}
 use Rattle.model.specs.Range.{parentsIn}
+use Rattle.model.proofs.FormedReads.{groupsFit-at}
 use Rattle.model.proofs.Ancestry.{before-lower}
 
 -- Every parent is below its run
 abbrev pub Below : List (List ℕ) → Type 0
-Below pss = (r p : ℕ) → mem p (at pss r) ≡ true → p < r
+Below pss = Lower (runGraph pss)
+
+-- So it is where the parents fit
+pub fit-below : (pss : List (List ℕ)) → groupsFit 0 pss ≡ true → Below pss
+unfolding at
+fit-below pss e r p m = omega (arith, groupsFit-at 0 pss e r p m)
 
 -- Run m is an ancestor of run r
 abbrev pub Reach : List (List ℕ) → ℕ → ℕ → Type 0
@@ -107,6 +115,15 @@ module _ (pss : List (List ℕ)) (b : Below pss) where
           cases : (eqb m (r .0) ≡ true) ⊎ (mem m (at H (r .0)) ≡ true) → Reach pss m i
           cases (inl e) = rw (eqb-true m (r .0) e) (parent (r .1))
           cases (inr e) = further (r .1) (ih (r .0) (omega (arith, b i (r .0) (r .1))) (omega (arith, b i (r .0) (r .1))) e)
+
+  -- A run's history rises
+  pub history-rises : (i : ℕ) → rising (at H i) ≡ true
+  unfolding upto at
+  history-rises i = go (lt-or-le i (length pss))
+    where
+      go : (i < length pss) ⊎ (length pss ≤ i) → rising (at H i) ≡ true
+      go (inl lt) = rw (here i lt) (rising-filter (reached H (at pss i)) (from 0 i) (rising-from 0 i))
+      go (inr le) = let out : length H ≤ i = omega (arith, history-length pss) in rw (List·getD-eq-default H [] out) (unfold rising in refl)
 
   -- A run's history, by computing, is the runs that happened before it
   pub history-iff : (m r : ℕ) → r < length pss → (mem m (at (histories pss) r) ≡ true) ↔ HappenedBefore (runGraph pss) m r

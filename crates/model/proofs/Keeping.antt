@@ -15,6 +15,7 @@ use Rattle.lists.proofs.Members.{mem-index, getD-mem, mem-filter}
 use Rattle.lists.proofs.Counts.{count-le}
 use Rattle.lists.proofs.Rising.{up-count}
 use Rattle.lists.proofs.Bounds.{below-at}
+use Rattle.model.specs.EventGraph.{Lower}
 use Rattle.model.specs.declared.answers.Outcome.the-variants.{Done}
 use Rattle.model.specs.Graph.{Graph, start, runs, len, firstHeld, containing, held, extends}
 use Rattle.model.specs.History.{at}
@@ -25,7 +26,6 @@ use Rattle.model.specs.Start.{answers, splitting, starting, taken}
 use Rattle.model.specs.Log.{Log, emptyLog, runStart, heldOf, eventGraph, edge, edgesAt, goesOn, logPush, logStart}
 use Rattle.model.proofs.FormedPush.{accepted, extends-runs, extends-parents}
 use Rattle.model.proofs.FormedCalls.{starting-inside, starting-told}
-use Rattle.model.proofs.Ancestry.{Lower}
 use Rattle.model.proofs.Tied.{Tied, high, step, mono}
 use Rattle.model.proofs.Seen.{Inv, start-is, len-tied, first-tied, held-tied, containing-is, lower-tied}
 use Rattle.model.proofs.Edges.{edge-member, edge-last, edges-in}

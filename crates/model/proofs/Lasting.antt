@@ -51,7 +51,7 @@ module _ (g : Graph) (w : WellFormed g) (r at : ℕ) (b : r < runs g) where
       insert-before (suc r) q (r ∷ []) [] (map (map (renumber r)) (g .parents)) (omega arith) (omega (arith, length-map (g .parents) (map (renumber r)))) ∙
       List·getD-map (map (renumber r)) (g .parents) q [] ∙
       map-leaves (renumber r) (getD (g .parents) q [])
-      (λ p m. renumber-below r p (omega (arith, groupsFit-at 0 (g .parents) (w .parents) q (omega arith) p m)))
+      (λ p m. renumber-below r p (omega (arith, groupsFit-at 0 (g .parents) (w .parents) q p m)))
 
   pub split-marked : start g r < at → (q : ℕ) → q < r → marked (split g r at) q ≡ marked g q
   unfolding marked split

@@ -14,10 +14,9 @@ use Rattle.lists.proofs.Truth.{false-true, or-right}
 use Rattle.lists.proofs.Members.{getD-snoc, mem-filter, any-intro, any-elim}
 use Rattle.lists.proofs.Counts.{count-append}
 use Rattle.lists.proofs.Rising.{up-count}
-use Rattle.model.specs.EventGraph.{EventGraph, reaches}
+use Rattle.model.specs.EventGraph.{EventGraph, reaches, Lower}
 use Rattle.model.specs.Graph.{Graph, start, runs, len, firstHeld, containing, held}
 use Rattle.model.specs.Log.{Log, runStart, heldOf, eventGraph}
-use Rattle.model.proofs.Ancestry.{Lower}
 use Rattle.model.proofs.Exact.{ancestors}
 use Rattle.model.proofs.Runs.{Edged}
 use Rattle.model.proofs.Tied.{Tied}

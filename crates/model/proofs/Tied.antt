@@ -116,10 +116,11 @@ module _ (g : Graph) (l : Log) (t : Tied g l) where
       (inl (up-reach e c (omega arith) p q))))
 
   -- Where parents lead from an event of run r
-  abbrev Led : ℕ → ℕ → ℕ → Type 0
+  abbrev pub Led : ℕ → ℕ → ℕ → Type 0
   Led r x e = ((runStart l r ≤ e) × (e < x)) ⊎ ((s : ℕ) × Reach (g .parents) s r × (runStart l s ≤ e) × (e < runStart l (suc s)))
 
-  led : (k r x e : ℕ) → r < length (l .edges) → runStart l r ≤ x → x < runStart l (suc r) → reaches k (eventGraph l) x e ≡ true → Led r x e
+  -- An event that parents lead to lies before x in its run, or in a run that happened before that
+  pub led : (k r x e : ℕ) → r < length (l .edges) → runStart l r ≤ x → x < runStart l (suc r) → reaches k (eventGraph l) x e ≡ true → Led r x e
   unfolding reaches
   led zero r x e lt p q h = false-true h
   led (suc k) r x e lt p q h =

@@ -1,8 +1,13 @@
--- 01, "Our forms for each place": "Where an answer is an enum, a definition gives this paper's number and values for each of its cases".
--- The first of each is 0, or the refusal's number; values that a refusal does not give are 0. Assumes nothing.
+-- 01, "Our forms for each place": "Where an answer is an enum, a definition gives this paper's number and values for each of its cases,
+-- and the promises use that definition". What a call answers where nothing is refused, and where something is (`..Or`, of an outcome and
+-- the values); and each answer as numbers (`..Numbers`): 0 or the refusal's number, then the values, 0 where a refusal gives none. That
+-- nothing is lost so is `Numbered` of specs/Numbered.antt. Assumes nothing.
+use mathlib.Core.Bool.{Bool}
 use mathlib.Core.List.{List, [], _∷_}
 use Prim.Native.Nat.{ℕ, suc}
+use lib.ListN.{length}
 use Rattle.lists.specs.Lists.{bit}
+use Rattle.lists.specs.Areas.{pad}
 use Rattle.model.specs.declared.answers.Outcome.{Outcome}
 use Rattle.model.specs.declared.answers.Outcome.the-variants.{Done, Refused}
 use Rattle.model.specs.declared.answers.EventAnswer.{EventAnswer}
@@ -13,13 +18,48 @@ use Rattle.model.specs.declared.answers.RunAnswer.{RunAnswer}
 use Rattle.model.specs.declared.answers.RunAnswer.the-variants.{Run, Refused as RefusedRun}
 use Rattle.model.specs.declared.answers.BoolAnswer.{BoolAnswer}
 use Rattle.model.specs.declared.answers.BoolAnswer.the-variants.{Told, Refused as RefusedBool}
+use Rattle.model.specs.declared.answers.ParentRuns.{ParentRuns}
+use Rattle.model.specs.declared.answers.FrontierEvents.{FrontierEvents}
 use Rattle.model.specs.declared.answers.BookAnswer.{BookAnswer}
 use Rattle.model.specs.declared.answers.BookAnswer.the-variants.{Whole, Refused as RefusedBook, PushRefused}
 use Rattle.model.specs.declared.steps.WalkStep.{WalkStep}
 use Rattle.model.specs.declared.steps.WalkStep.the-variants.{Retreat, Advance, Apply, Open}
 use Rattle.model.specs.declared.steps.NextStep.{NextStep}
-use Rattle.model.specs.declared.steps.NextStep.the-variants.{Step, End, Refused as RefusedStep}
+use Rattle.model.specs.declared.steps.NextStep.the-variants.{Step as Given, End, Refused as RefusedStep}
 use Rattle.model.specs.Refusals.{number}
+
+-- an event
+abbrev pub eventOr : Outcome → ℕ → EventAnswer
+eventOr Done e = Event (record { 0 = e })
+eventOr (Refused r) e = RefusedEvent r
+
+-- first event and end
+abbrev pub eventsOr : Outcome → ℕ → ℕ → EventsAnswer
+eventsOr Done a b = Events (record { 0 = a }) (record { 0 = b })
+eventsOr (Refused r) a b = RefusedEvents r
+
+-- a run
+abbrev pub runOr : Outcome → ℕ → RunAnswer
+runOr Done n = Run (record { 0 = n })
+runOr (Refused r) n = RefusedRun r
+
+-- a truth
+abbrev pub boolOr : Outcome → Bool → BoolAnswer
+boolOr Done b = Told b
+boolOr (Refused r) b = RefusedBool r
+
+-- the numbers that are listed: none where refused
+unfoldable pub listed : Outcome → List ℕ → List ℕ
+listed Done l = l
+listed (Refused r) l = []
+
+-- a run's parents, which are runs
+unfoldable pub parentRunsOr : Outcome → List ℕ → ParentRuns
+parentRunsOr o l = record { runs = pad 512 (listed o l); count = length (listed o l); outcome = o }
+
+-- the frontier, which is events
+unfoldable pub frontierOr : Outcome → List ℕ → FrontierEvents
+frontierOr o l = record { events = pad 512 (listed o l); count = length (listed o l); outcome = o }
 
 -- done, or refused
 unfoldable pub outcomeNumber : Outcome → ℕ
@@ -61,6 +101,6 @@ stepNumbers (Open a b) = 3 ∷ a .0 ∷ b .0 ∷ []
 
 -- the step's words, or none at the end
 unfoldable pub nextNumbers : NextStep → List ℕ
-nextNumbers (Step s) = 0 ∷ stepNumbers s
+nextNumbers (Given s) = 0 ∷ stepNumbers s
 nextNumbers End = 0 ∷ []
 nextNumbers (RefusedStep r) = number r ∷ []

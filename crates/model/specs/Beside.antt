@@ -8,10 +8,9 @@ use lib.Dec.{leb, ltb, eqb}
 use Rattle.lists.specs.Lists.{bit, count, mem, occurs, upto}
 use Rattle.model.specs.declared.record.CausalGraph.{CausalGraph}
 use Rattle.model.specs.declared.answers.Written.{Written}
-use Rattle.model.specs.declared.answers.Refusal.the-variants.{Broken, Outside, ListTooShort}
 use Rattle.model.specs.declared.answers.Outcome.{Outcome}
 use Rattle.model.specs.declared.answers.Outcome.the-variants.{Done, Refused}
-use Rattle.model.specs.Refusals.{firstOf}
+use Rattle.model.specs.Refusals.{refusal, firstOf}
 use Rattle.model.specs.Graph.{Graph, runs, start, marks}
 use Rattle.model.specs.Record.{view}
 use Rattle.model.specs.Broken.{broken}
@@ -25,7 +24,7 @@ archivePoints g = map (start g) (marks g)
 -- The archive points into a lent list, a word each, and the list afterwards
 unfoldable pub archivePointsOf : CausalGraph → List ℕ → Written × List ℕ
 archivePointsOf g lent = elim (broken g) [
-  | true ↦ unwritten Broken lent
+  | true ↦ unwritten (refusal 1) lent
   | false ↦ writing 1 (map (λ e. e ∷ []) (archivePoints (view g))) lent
 ]
 
@@ -43,9 +42,9 @@ concurrentCount g r = count (concurrentRun g r) (upto (runs g))
 unfoldable pub concurrencyOutcome : CausalGraph → ℕ → List ℕ → Outcome
 concurrencyOutcome g r lent =
     firstOf (
-    (broken g, Broken) ∷
-    (leb (runs (view g)) r, Outside) ∷
-    (ltb (length lent) (concurrentCount (view g) r), ListTooShort) ∷ [])
+    (broken g, 1) ∷
+    (leb (runs (view g)) r, 9) ∷
+    (ltb (length lent) (concurrentCount (view g) r), 11) ∷ [])
 
 -- The list holds "each once", from its start, and the rest keeps its value. "Order left free": the sole freedom
 pub record ConcurrentIn (g : Graph) (r : ℕ) (lent : List ℕ) (answer : Written) (after : List ℕ) : Type 0 where

@@ -9,7 +9,7 @@ use Rattle.model.specs.declared.record.CausalGraph.{CausalGraph}
 use Rattle.model.specs.declared.answers.BookRead.{BookRead}
 use Rattle.model.specs.declared.answers.BookAnswer.{BookAnswer}
 use Rattle.model.specs.declared.answers.BookAnswer.the-variants.{Whole, Refused as RefusedBook, PushRefused}
-use Rattle.model.specs.declared.answers.Refusal.the-variants.{BookTooShort, BookTooLong}
+use Rattle.model.specs.Refusals.{refusal}
 use Rattle.model.specs.declared.answers.Outcome.the-variants.{Done, Refused}
 use Rattle.model.specs.declared.answers.EventsAnswer.the-variants.{Events, Refused as RefusedEvents}
 use Rattle.model.specs.Fresh.{newOf, afterOf}
@@ -37,12 +37,12 @@ bookRead g a = record { graph = g; answer = a }
 
 -- 14: "book ends early"
 unfoldable pub endsEarly : CausalGraph → BookRead
-endsEarly g = bookRead g (RefusedBook BookTooShort)
+endsEarly g = bookRead g (RefusedBook (refusal 14))
 
 -- "push count; each push: length, parent count, parents", "each push read whole and then tried": n pushes, the first of them push k.
 -- 15 where bytes are left over
 unfoldable pub readPushes : ℕ → ℕ → CausalGraph → List ℕ → BookRead
-readPushes zero k g bs = elim (eqb (length bs) 0) [ true ↦ bookRead g Whole | false ↦ bookRead g (RefusedBook BookTooLong) ]
+readPushes zero k g bs = elim (eqb (length bs) 0) [ true ↦ bookRead g Whole | false ↦ bookRead g (RefusedBook (refusal 15)) ]
 readPushes (suc n) k g bs = elim (takeWords 1 bs) [
   | none ↦ endsEarly g
   | some l ↦ elim (takeCounted (l .1)) [
@@ -51,7 +51,7 @@ readPushes (suc n) k g bs = elim (takeWords 1 bs) [
         let r = pushOf g (ps .0) (getD (l .0) 0 0) in
         elim (r .answer) [
           | Events first end ↦ readPushes n (suc k) (r .graph) (ps .1)
-          | RefusedEvents refusal ↦ bookRead (r .graph) (PushRefused refusal k)
+          | RefusedEvents x ↦ bookRead (r .graph) (PushRefused x k)
         ]
   ]
 ]
@@ -69,7 +69,7 @@ readHeader bs = elim (takeWords 1 bs) [
           let r = afterOf (getD (f .0) 0 0) (es .0) in
           elim (r .outcome) [
             | Done ↦ readPushes (getD (n .0) 0 0) 0 (r .graph) (n .1)
-            | Refused refusal ↦ bookRead (r .graph) (RefusedBook refusal)
+            | Refused x ↦ bookRead (r .graph) (RefusedBook x)
           ]
     ]
   ]
@@ -77,4 +77,4 @@ readHeader bs = elim (takeWords 1 bs) [
 
 -- A book. 15: "book over 65,536 bytes (tested first)"
 unfoldable pub bookOf : List ℕ → BookRead
-bookOf bs = elim (ltb 65536 (length bs)) [ true ↦ bookRead newOf (RefusedBook BookTooLong) | false ↦ readHeader bs ]
+bookOf bs = elim (ltb 65536 (length bs)) [ true ↦ bookRead newOf (RefusedBook (refusal 15)) | false ↦ readHeader bs ]

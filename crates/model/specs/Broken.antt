@@ -91,7 +91,7 @@ pub record Limits (g : Graph) : Type 0 where
   pub entries : entries g ≤ 2048
   pub frontier : length (g .frontier) ≤ 512
 
--- A record that holds a well-formed graph within the limits. `unbroken-iff` of proofs/: just those are not broken
+-- A record that holds a well-formed graph within the limits. Just those are not broken: `unbroken` of `Meaning`
 pub record Held (g : CausalGraph) : Type 0 where
   pub stored : g ≡ store (view g)
   pub formed : WellFormed (view g)

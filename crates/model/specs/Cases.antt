@@ -1,16 +1,17 @@
--- 01, "Contracts and cases": C1 to C11 in a single statement. Assumes nothing.
+-- 01, "Contracts and cases": C1 to C11 in a single statement, with facts from the Rust that they leave open. Assumes nothing.
 use mathlib.Core.Path.{_≡_}
 use mathlib.Core.List.{List, [], _∷_, map}
-use Prim.Native.Nat.{ℕ, _*_, _/_, _%_}
+use Prim.Native.Nat.{ℕ, suc, _*_, _/_, _%_}
 use lib.ListN.{take, replicate}
-use Rattle.lists.specs.Lists.{concat}
+use Rattle.lists.specs.Lists.{concat, from, upto}
 use Rattle.model.specs.declared.record.CausalGraph.{CausalGraph}
 use Rattle.model.specs.Answers.{outcomeNumber, eventsNumbers, boolNumbers, runNumbers}
+use Rattle.model.specs.Record.{store}
 use Rattle.model.specs.Fresh.{newOf}
-use Rattle.model.specs.Walk.{walkOf}
+use Rattle.model.specs.Walk.{WalkResult, walkOf}
 use Rattle.model.specs.Book.{bookOf}
 use Rattle.model.specs.Print.{ascii, replayText}
-use Rattle.model.specs.Log.{Call, push, startRunAt, takeChangedFrom, Answer, answer}
+use Rattle.model.specs.Log.{new, Call, push, startRunAt, takeChangedFrom, Answer, answer, madeBy}
 
 -- A word as four bytes, the lowest first
 unfoldable pub wordBytes : ℕ → List ℕ
@@ -33,25 +34,68 @@ unfoldable pub answers : CausalGraph → List Call → List (List ℕ)
 answers g [] = []
 answers g (c ∷ cs) = let r = answer g c in answerNumbers c (r .0) ∷ answers (r .1) cs
 
--- What a walk of C1's graph gives: the refusal's number, the count, `moved`, the row area and the step words counted
-unfoldable pub walked : ℕ → ℕ → ℕ → ℕ → ℕ × ℕ × ℕ × List ℕ
-walked a b known first =
-    let r = walkOf (bookOf book .graph) a b known first (replicate 7 9) (replicate 60 9) in
-    (outcomeNumber (r .0 .outcome), r .0 .count, r .0 .moved, take (3 * r .0 .count) (r .2))
+-- A walk's whole result: the refusal's number, the count, `moved`, the row area, the step list
+unfoldable pub result : WalkResult → ℕ × ℕ × ℕ × List ℕ × List ℕ
+result r = (outcomeNumber (r .0 .outcome), r .0 .count, r .0 .moved, r .1, r .2)
 
--- The same with `room` row words: the refusal's number, the row area and the step list
-unfoldable pub roomed : ℕ → ℕ × List ℕ × List ℕ
-roomed room =
-    let r = walkOf (bookOf book .graph) 1 5 0 0 (replicate room 9) (8 ∷ 8 ∷ 8 ∷ []) in
-    (outcomeNumber (r .0 .outcome), r .1, r .2)
+-- The same without the row area, and of the step list the words counted
+unfoldable pub steps : WalkResult → ℕ × ℕ × ℕ × List ℕ
+steps r = (outcomeNumber (r .0 .outcome), r .0 .count, r .0 .moved, take (3 * r .0 .count) (r .2))
+
+-- A walk of C1's graph
+unfoldable pub walked : ℕ → ℕ → ℕ → ℕ → ℕ × ℕ × ℕ × List ℕ
+walked a b known first = steps (walkOf (bookOf book .graph) a b known first (replicate 7 9) (replicate 60 9))
+
+-- The walk of its range 1..5 with so many row words and so many step words
+unfoldable pub roomed : ℕ → ℕ → ℕ × ℕ × ℕ × List ℕ × List ℕ
+roomed rows list = result (walkOf (bookOf book .graph) 1 5 0 0 (replicate rows 9) (replicate list 8))
+
+-- A walk of another graph, with room enough
+unfoldable pub walkedIn : CausalGraph → ℕ → ℕ → ℕ → ℕ → ℕ × ℕ × ℕ × List ℕ
+walkedIn g a b known first = steps (walkOf g a b known first (replicate 2400 9) (replicate 600 9))
+
+-- Five runs of one event: 0, then 1 and 2 after it, then 3 after 1 and 4 after 2
+unfoldable pub branches : CausalGraph
+branches = madeBy new (push [] 1 ∷ push (0 ∷ []) 1 ∷ push (0 ∷ []) 1 ∷ push (1 ∷ []) 1 ∷ push (2 ∷ []) 1 ∷ []) .0
+
+-- 67 runs of one event: 0, 1, then 2 after both and 3 after 0, then 63 with no parents, as pushes in this order make it
+unfoldable pub crowd : CausalGraph
+crowd = store (record {
+  starts = upto 68;
+  parents = [] ∷ [] ∷ (0 ∷ 1 ∷ []) ∷ (0 ∷ []) ∷ replicate 63 [];
+  frontier = from 2 65;
+  seen = 0 ∷ 0 ∷ 2 ∷ 1 ∷ replicate 63 0;
+  changed = 0;
+})
+
+-- Six runs with no parents but the last, which comes after run 2. Range 1..6 starts at event 1 and has `n` + 9 events
+unfoldable pub lengths : ℕ → CausalGraph
+lengths n = madeBy new (push [] 1 ∷ push [] n ∷ push [] 1 ∷ push [] 3 ∷ push [] 4 ∷ push (suc n ∷ []) 1 ∷ []) .0
+
+-- Facts from the Rust beyond 01's cases
+pub record Beyond : Type 0 where
+  -- `known` 1, range 1..5: with `first` 0 the walk goes on to run 3; with `first` 2 it visits run 2 before 3 and 4
+  pub first-0 : walkedIn branches 1 5 1 0 ≡ (0, 5, 2, 2 ∷ 3 ∷ 4 ∷ 0 ∷ 1 ∷ 2 ∷ 0 ∷ 3 ∷ 4 ∷ 2 ∷ 2 ∷ 3 ∷ 2 ∷ 4 ∷ 5 ∷ [])
+  pub first-2 : walkedIn branches 1 5 1 2 ≡
+      (0, 7, 4, 0 ∷ 1 ∷ 2 ∷ 2 ∷ 2 ∷ 3 ∷ 2 ∷ 4 ∷ 5 ∷ 0 ∷ 2 ∷ 3 ∷ 0 ∷ 4 ∷ 5 ∷ 1 ∷ 1 ∷ 2 ∷ 2 ∷ 3 ∷ 4 ∷ [])
+  -- 65 runs ready: the oldest, run 2 at cost 0, is not weighed; of the 64 that are, the oldest, run 3 at cost 1, comes first
+  pub ready-65 : take 6 (walkedIn crowd 0 67 2 0 .3) ≡ 0 ∷ 1 ∷ 2 ∷ 2 ∷ 3 ∷ 4 ∷ []
+  -- runs 2, 3 and 4 tie in cost. 128 events, per_bit 2: weights 2, 2 and 3, run 3 comes first; 127, per_bit 1: 2, 3 and 4, run 2 does
+  pub per-bit-2 : walkedIn (lengths 119) 1 6 1 0 ≡
+      (0, 8, 124, 0 ∷ 1 ∷ 2 ∷ 2 ∷ 3 ∷ 4 ∷ 0 ∷ 3 ∷ 4 ∷ 2 ∷ 2 ∷ 3 ∷ 2 ∷ 5 ∷ 6 ∷ 0 ∷ 2 ∷ 3 ∷ 0 ∷ 5 ∷ 6 ∷ 2 ∷ 4 ∷ 5 ∷ [])
+  pub per-bit-1 : walkedIn (lengths 118) 1 6 1 0 ≡
+      (0, 8, 123, 0 ∷ 1 ∷ 2 ∷ 2 ∷ 2 ∷ 3 ∷ 2 ∷ 5 ∷ 6 ∷ 0 ∷ 2 ∷ 3 ∷ 0 ∷ 5 ∷ 6 ∷ 2 ∷ 3 ∷ 4 ∷ 0 ∷ 3 ∷ 4 ∷ 2 ∷ 4 ∷ 5 ∷ [])
 
 pub record Cases : Type 0 where
   -- the book prints eleven lines
   pub C1 : replayText book ≡
       ascii "open 0 1\napply 0\nopen 1 5\napply 2\nretreat 2 3\napply 1\nadvance 2 3\napply 4\nretreat 4 5\napply 3\nmoved 3\n"
-  -- range 1..5 fits into 7 row words (and its first step into the list); given 6: 13, five words written, the rest and the steps untouched
-  pub C2 : roomed 7 ≡ (11, 0 ∷ 0 ∷ 0 ∷ 1 ∷ 1 ∷ 1 ∷ 1 ∷ [], 2 ∷ 2 ∷ 3 ∷ [])
-  pub C2-short : roomed 6 ≡ (13, 0 ∷ 0 ∷ 0 ∷ 1 ∷ 1 ∷ 9 ∷ [], 8 ∷ 8 ∷ 8 ∷ [])
+  -- range 1..5 fits into 7 row words; given 6: 13, five words written, the rest and the steps untouched
+  pub C2 : roomed 7 22 ≡
+      (0, 7, 3, 0 ∷ 0 ∷ 0 ∷ 1 ∷ 1 ∷ 1 ∷ 1 ∷ [], 2 ∷ 2 ∷ 3 ∷ 0 ∷ 2 ∷ 3 ∷ 2 ∷ 1 ∷ 2 ∷ 1 ∷ 2 ∷ 3 ∷ 2 ∷ 4 ∷ 5 ∷ 0 ∷ 4 ∷ 5 ∷ 2 ∷ 3 ∷ 4 ∷ 8 ∷ [])
+  pub C2-short : roomed 6 22 ≡ (13, 0, 0, 0 ∷ 0 ∷ 0 ∷ 1 ∷ 1 ∷ 9 ∷ [], replicate 22 8)
+  -- with 7 and a list of one step: 11, the rows and that step written
+  pub C2-list : roomed 7 3 ≡ (11, 1, 0, 0 ∷ 0 ∷ 0 ∷ 1 ∷ 1 ∷ 1 ∷ 1 ∷ [], 2 ∷ 2 ∷ 3 ∷ [])
   -- `known` 1, `first` 0: retreat 1 2, apply 2, advance 1 2, apply 4, retreat 4 5, apply 3
   pub C3 : walked 1 5 1 0 ≡ (0, 6, 3, 0 ∷ 1 ∷ 2 ∷ 2 ∷ 2 ∷ 3 ∷ 1 ∷ 1 ∷ 2 ∷ 2 ∷ 4 ∷ 5 ∷ 0 ∷ 4 ∷ 5 ∷ 2 ∷ 3 ∷ 4 ∷ [])
   -- `known` 4: no steps; 5: 12
@@ -74,5 +118,7 @@ pub record Cases : Type 0 where
   -- [] 5, take 0, [4] 2, [4] 1: take 0
   pub C10 : answers newOf (push [] 5 ∷ takeChangedFrom ∷ push (4 ∷ []) 2 ∷ push (4 ∷ []) 1 ∷ takeChangedFrom ∷ []) ≡
       (0 ∷ 0 ∷ 5 ∷ []) ∷ (0 ∷ 0 ∷ []) ∷ (0 ∷ 5 ∷ 7 ∷ []) ∷ (0 ∷ 7 ∷ 8 ∷ []) ∷ (0 ∷ 0 ∷ []) ∷ []
-  -- fresh, range 0..0: no steps
-  pub C11 : walkOf newOf 0 0 0 0 (9 ∷ []) (9 ∷ 9 ∷ 9 ∷ []) .0 .count ≡ 0
+  -- fresh, range 0..0: no steps, both lists as they were
+  pub C11 : result (walkOf newOf 0 0 0 0 (9 ∷ []) (9 ∷ 9 ∷ 9 ∷ [])) ≡ (0, 0, 0, 9 ∷ [], 9 ∷ 9 ∷ 9 ∷ [])
+  -- what the Rust gives beyond them
+  pub beyond : Beyond

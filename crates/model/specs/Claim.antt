@@ -1,6 +1,6 @@
 -- Demand 3: one claim over every list of pushes, run starts and change takes from a fresh graph, refused ones included. Assumes nothing.
 use mathlib.Core.Path.{_≡_}
-use mathlib.Core.Bool.{Bool, true, false, _&&_}
+use mathlib.Core.Bool.{Bool, true, false}
 use mathlib.Core.List.{List, [], _∷_, _++_}
 use mathlib.Core.Option.{Option, none, some}
 use Prim.Native.Nat.{ℕ, suc, _+_, _≤_, _<_}
@@ -83,7 +83,8 @@ pub record Beside : Type 0 where
   -- the frontier's held events are the paper's version of the log
   pub frontier-version : (f : Fresh) (cs : List Call) →
       VersionOf (eventGraph ((madeBy f cs) .1)) (held (view ((madeBy f cs) .0)) (view ((madeBy f cs) .0) .frontier))
-  -- "The value is at most the lowest run whose events, parents or mark differ since the last take", or since the fresh graph
-  pub since-fresh : (f : Fresh) (ds : List Call) → takeless ds → Unchanged ((madeBy f []) .0) ((madeBy f ds) .0)
+  -- "It is 0 in a fresh graph, and is lowered to ..": so it is 0 until the first take
+  pub before-take : (f : Fresh) (ds : List Call) → takeless ds → (madeBy f ds) .0 .«changed_from» .0 ≡ 0
+  -- "The value is at most the lowest run whose events, parents or mark differ since the last take"
   pub since-take : (f : Fresh) (cs ds : List Call) → takeless ds →
       Unchanged ((madeBy f (cs ++ takeChangedFrom ∷ [])) .0) ((madeBy f (cs ++ takeChangedFrom ∷ ds)) .0)

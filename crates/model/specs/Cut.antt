@@ -9,10 +9,9 @@ use Rattle.lists.specs.Areas.{over}
 use Rattle.model.specs.declared.record.CausalGraph.{CausalGraph}
 use Rattle.model.specs.declared.answers.Written.{Written}
 use Rattle.model.specs.declared.answers.Refusal.{Refusal}
-use Rattle.model.specs.declared.answers.Refusal.the-variants.{Broken, Outside, Unmarked, ListTooShort}
 use Rattle.model.specs.declared.answers.Outcome.{Outcome}
 use Rattle.model.specs.declared.answers.Outcome.the-variants.{Done, Refused}
-use Rattle.model.specs.Refusals.{firstOf}
+use Rattle.model.specs.Refusals.{refusal, firstOf}
 use Rattle.model.specs.Graph.{Graph, runs, marks}
 use Rattle.model.specs.Record.{view}
 use Rattle.model.specs.Broken.{broken}
@@ -53,7 +52,7 @@ writing size records lent =
     let room = length lent / size in (
       record {
         count = length (take room records);
-        outcome = cond (ltb room (length records)) (Refused ListTooShort) Done;
+        outcome = cond (ltb room (length records)) (Refused (refusal 11)) Done;
       },
       over (concat (take room records)) lent,
     )
@@ -66,7 +65,7 @@ unwritten r lent = (record { count = 0; outcome = Refused r }, lent)
 unfoldable pub cutOutcome : CausalGraph → ℕ → Outcome
 cutOutcome g f =
     let held = ltb 0 (runs (view g)) in
-    firstOf ((broken g, Broken) ∷ (held && leb (runs (view g)) f, Outside) ∷ (held && not (mem f (marks (view g))), Unmarked) ∷ [])
+    firstOf ((broken g, 1) ∷ (held && leb (runs (view g)) f, 9) ∷ (held && not (mem f (marks (view g))), 10) ∷ [])
 
 -- `split_at_critical_versions_from(from)` into a lent list, and the list afterwards
 unfoldable pub cutOf : CausalGraph → ℕ → List ℕ → Written × List ℕ

@@ -49,12 +49,16 @@ pub record CriticalAt (G : EventGraph) (s : ℕ) : Type 0 where
   pub critical : Critical G members
   pub before : (e : ℕ) → InEvents G members e ↔ ((G .isEvent e ≡ true) × (e < s))
 
+-- Parents are lower numbers than their children, as in every graph and log here
+abbrev pub Lower : EventGraph → Type 0
+Lower G = (e p : ℕ) → mem p (G .parents e) ≡ true → p < e
+
 -- p is reached from e along parents, in at most k steps
 unfoldable pub reaches : ℕ → EventGraph → ℕ → ℕ → Bool
 reaches zero G e p = false
 reaches (suc k) G e p = any (λ q. eqb p q || reaches k G q p) (G .parents e)
 
--- Ancestors by computing. Where parents are lower numbers no path from e is longer than e: `ancestor-iff` of proofs/ has the law
+-- Ancestors by computing. Where parents are lower numbers no path from e is longer than e: `ancestors` of `Meaning` (specs/Meaning.antt)
 unfoldable pub ancestor : EventGraph → ℕ → ℕ → Bool
 ancestor G e p = reaches e G e p
 

@@ -19,7 +19,7 @@ runGraph parents = record { isEvent = λ r. ltb r (length parents); parents = at
 unfoldable pub reached : List (List ℕ) → List ℕ → ℕ → Bool
 reached hs ps m = any (λ p. eqb m p || mem m (at hs p)) ps
 
--- The history of each run, rising, given those of the runs before: its ancestors in `runGraph`, as `history-iff` of proofs/ has it
+-- The history of each run, rising, given those of the runs before: its ancestors in `runGraph`, as `history` of `Meaning` says
 unfoldable pub historiesFrom : List (List ℕ) → List (List ℕ) → List (List ℕ)
 historiesFrom hs [] = hs
 historiesFrom hs (ps ∷ pss) = historiesFrom (hs ++ filter (reached hs ps) (upto (length hs)) ∷ []) pss

@@ -1,6 +1,7 @@
 -- Document 01's definitions. Each says what is right, by the section of 01 or of a paper that its comment names.
 pub mod EventGraph
 pub mod Refusals
+pub mod Answers
 pub mod Graph
 pub mod Record
 pub mod Broken
@@ -20,11 +21,13 @@ pub mod Steps
 pub mod Walk
 pub mod Replay
 pub mod Reader
+pub mod Numbered
 pub mod Book
 pub mod Print
-pub mod Answers
 pub mod Log
 pub mod PlainSet
 pub mod Claim
+pub mod BookCalls
+pub mod Meaning
 pub mod TooWeak
 pub mod Cases

@@ -2,50 +2,25 @@
 use mathlib.Core.Bool.{Bool, false, not, _&&_}
 use mathlib.Core.List.{List, [], _∷_}
 use Prim.Native.Nat.{ℕ, suc}
-use lib.ListN.{length, getD}
+use lib.ListN.{getD}
 use lib.Dec.{leb, ltb, eqb}
-use Rattle.lists.specs.Areas.{pad}
 use Rattle.model.specs.declared.record.CausalGraph.{CausalGraph}
 use Rattle.model.specs.declared.answers.EventAnswer.{EventAnswer}
-use Rattle.model.specs.declared.answers.EventAnswer.the-variants.{Event, Refused as RefusedEvent}
 use Rattle.model.specs.declared.answers.EventsAnswer.{EventsAnswer}
-use Rattle.model.specs.declared.answers.EventsAnswer.the-variants.{Events, Refused as RefusedEvents}
 use Rattle.model.specs.declared.answers.RunAnswer.{RunAnswer}
-use Rattle.model.specs.declared.answers.RunAnswer.the-variants.{Run, Refused as RefusedRun}
 use Rattle.model.specs.declared.answers.BoolAnswer.{BoolAnswer}
-use Rattle.model.specs.declared.answers.BoolAnswer.the-variants.{Told, Refused as RefusedBool}
-use Rattle.model.specs.declared.answers.Listed.{Listed}
-use Rattle.model.specs.declared.answers.Refusal.the-variants.{Broken, Outside}
+use Rattle.model.specs.declared.answers.ParentRuns.{ParentRuns}
+use Rattle.model.specs.declared.answers.FrontierEvents.{FrontierEvents}
 use Rattle.model.specs.declared.answers.Outcome.{Outcome}
-use Rattle.model.specs.declared.answers.Outcome.the-variants.{Done, Refused}
 use Rattle.model.specs.Refusals.{firstOf}
+use Rattle.model.specs.Answers.{eventOr, eventsOr, runOr, boolOr, parentRunsOr, frontierOr}
 use Rattle.model.specs.Graph.{runs, start, firstHeld, len, containing, extends}
 use Rattle.model.specs.Record.{view}
 use Rattle.model.specs.Broken.{broken}
 
 -- Refusal 1, and then 9 where what is asked for lies outside the graph
 unfoldable pub lookup : CausalGraph → Bool → Outcome
-lookup g outside = firstOf ((broken g, Broken) ∷ (outside, Outside) ∷ [])
-
-unfoldable pub eventOr : Outcome → ℕ → EventAnswer
-eventOr Done e = Event (record { 0 = e })
-eventOr (Refused r) e = RefusedEvent r
-
-unfoldable pub eventsOr : Outcome → ℕ → ℕ → EventsAnswer
-eventsOr Done a b = Events (record { 0 = a }) (record { 0 = b })
-eventsOr (Refused r) a b = RefusedEvents r
-
-unfoldable pub runOr : Outcome → ℕ → RunAnswer
-runOr Done n = Run (record { 0 = n })
-runOr (Refused r) n = RefusedRun r
-
-unfoldable pub boolOr : Outcome → Bool → BoolAnswer
-boolOr Done b = Told b
-boolOr (Refused r) b = RefusedBool r
-
-unfoldable pub listedOr : Outcome → List ℕ → Listed
-listedOr Done l = record { items = pad 512 l; count = length l; outcome = Done }
-listedOr (Refused r) l = record { items = pad 512 []; count = 0; outcome = Refused r }
+lookup g outside = firstOf ((broken g, 1) ∷ (outside, 9) ∷ [])
 
 -- `start(run)`, "run count allowed"
 unfoldable pub startOf : CausalGraph → ℕ → EventAnswer
@@ -56,8 +31,8 @@ unfoldable pub eventsOf : CausalGraph → ℕ → EventsAnswer
 eventsOf g r = eventsOr (lookup g (leb (runs (view g)) r)) (start (view g) r) (start (view g) (suc r))
 
 -- `parents(run)`
-unfoldable pub parentsOf : CausalGraph → ℕ → Listed
-parentsOf g r = listedOr (lookup g (leb (runs (view g)) r)) (getD (view g .parents) r [])
+unfoldable pub parentsOf : CausalGraph → ℕ → ParentRuns
+parentsOf g r = parentRunsOr (lookup g (leb (runs (view g)) r)) (getD (view g .parents) r [])
 
 -- `containing(event)`: the run of a held event
 unfoldable pub containingOf : CausalGraph → ℕ → RunAnswer
@@ -72,8 +47,8 @@ unfoldable pub isEmptyOf : CausalGraph → BoolAnswer
 isEmptyOf g = boolOr (lookup g false) (eqb (runs (view g)) 0)
 
 -- `frontier()`
-unfoldable pub frontierOf : CausalGraph → Listed
-frontierOf g = listedOr (lookup g false) (view g .frontier)
+unfoldable pub frontierOf : CausalGraph → FrontierEvents
+frontierOf g = frontierOr (lookup g false) (view g .frontier)
 
 -- `extends_last_event(parents)`, "any list"
 unfoldable pub extendsLastEventOf : CausalGraph → List ℕ → BoolAnswer

@@ -7,12 +7,11 @@ use lib.Dec.{ltb, eqb}
 use Rattle.lists.specs.Lists.{filter, mem, same, rising, below, largest, least}
 use Rattle.model.specs.declared.record.CausalGraph.{CausalGraph}
 use Rattle.model.specs.declared.answers.Pushed.{Pushed}
-use Rattle.model.specs.declared.answers.EventsAnswer.the-variants.{Events, Refused as RefusedEvents}
-use Rattle.model.specs.declared.answers.Refusal.the-variants.{Broken, NoEvents, NotRising, UnknownEvent, TooManyEvents, TooManyRuns, TooManyEntries, FrontierTooLong}
 use Rattle.model.specs.declared.answers.Refusal.{Refusal}
 use Rattle.model.specs.declared.answers.Outcome.{Outcome}
 use Rattle.model.specs.declared.answers.Outcome.the-variants.{Done, Refused}
-use Rattle.model.specs.Refusals.{firstOf}
+use Rattle.model.specs.Refusals.{refusal, firstOf}
+use Rattle.model.specs.Answers.{eventsOr}
 use Rattle.model.specs.Graph.{Graph, runs, start, firstHeld, len, entries, containing, marks, held, extends}
 use Rattle.model.specs.Record.{view, store}
 use Rattle.model.specs.Broken.{broken}
@@ -77,21 +76,21 @@ unfoldable pub pushOutcome : Graph → List ℕ → ℕ → Outcome
 pushOutcome g ps n =
     let new = not (extends g ps) in
     firstOf (
-    (eqb n 0, NoEvents) ∷
-    (not (rising ps), NotRising) ∷
-    (not (below (len g) ps), UnknownEvent) ∷
-    (ltb 4294967295 (len g + n), TooManyEvents) ∷
-    (new && ltb 512 (runs g + splits g ps + 1), TooManyRuns) ∷
-    (new && ltb 2048 (entries g + splits g ps + length (held g ps)), TooManyEntries) ∷
-    (new && ltb 512 (length (staying g ps) + 1), FrontierTooLong) ∷ [])
+    (eqb n 0, 2) ∷
+    (not (rising ps), 3) ∷
+    (not (below (len g) ps), 4) ∷
+    (ltb 4294967295 (len g + n), 5) ∷
+    (new && ltb 512 (runs g + splits g ps + 1), 6) ∷
+    (new && ltb 2048 (entries g + splits g ps + length (held g ps)), 7) ∷
+    (new && ltb 512 (length (staying g ps) + 1), 8) ∷ [])
 
 -- "takes events from `len`() on": the first new event and the end
 unfoldable pub pushed : Graph → List ℕ → ℕ → Pushed
-pushed g ps n = record { graph = store (push g ps n); answer = Events (record { 0 = len g }) (record { 0 = len g + n }) }
+pushed g ps n = record { graph = store (push g ps n); answer = eventsOr Done (len g) (len g + n) }
 
 -- "Graph unchanged"
 unfoldable pub pushRefused : CausalGraph → Refusal → Pushed
-pushRefused g r = record { graph = g; answer = RefusedEvents r }
+pushRefused g r = record { graph = g; answer = eventsOr (Refused r) 0 0 }
 
 -- `push(parents, len)` on a graph that is not broken
 unfoldable pub pushHeldOf : CausalGraph → List ℕ → ℕ → Pushed
@@ -99,4 +98,4 @@ pushHeldOf g ps n = elim (pushOutcome (view g) ps n) [ Done ↦ pushed (view g) 
 
 -- `push(parents, len)`
 unfoldable pub pushOf : CausalGraph → List ℕ → ℕ → Pushed
-pushOf g ps n = elim (broken g) [ true ↦ pushRefused g Broken | false ↦ pushHeldOf g ps n ]
+pushOf g ps n = elim (broken g) [ true ↦ pushRefused g (refusal 1) | false ↦ pushHeldOf g ps n ]

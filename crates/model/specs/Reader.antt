@@ -3,7 +3,7 @@ use mathlib.Core.List.{List, [], _∷_}
 use mathlib.Core.Option.{Option, none, some}
 use Prim.Native.Nat.{ℕ, zero, suc, _+_}
 use lib.ListN.{drop}
-use Rattle.model.specs.declared.answers.Refusal.the-variants.{UnknownKind}
+use Rattle.model.specs.Refusals.{refusal}
 use Rattle.model.specs.declared.steps.WalkStep.{WalkStep}
 use Rattle.model.specs.declared.steps.WalkStep.the-variants.{Retreat, Advance, Apply, Open}
 use Rattle.model.specs.declared.steps.NextStep.{NextStep}
@@ -37,7 +37,7 @@ unfoldable pub nextIn : List ℕ → ℕ → NextStep × ℕ
 nextIn [] at = (End, at)
 nextIn (k ∷ []) at = (End, at)
 nextIn (k ∷ a ∷ []) at = (End, at)
-nextIn (k ∷ a ∷ b ∷ ws) at = elim (decoded k a b) [ none ↦ (Refused UnknownKind, at) | some s ↦ (Given (asStep s), at + 3) ]
+nextIn (k ∷ a ∷ b ∷ ws) at = elim (decoded k a b) [ none ↦ (Refused (refusal 16), at) | some s ↦ (Given (asStep s), at + 3) ]
 
 -- `next` of a step reader over `words` that stands at `at`: what it hands out, and where it then stands
 unfoldable pub nextOf : List ℕ → ℕ → NextStep × ℕ

@@ -1,5 +1,5 @@
 -- 01, "What a refused call gives": the numbers of the table. Assumes nothing.
-use Prim.Native.Nat.{ℕ}
+use Prim.Native.Nat.{ℕ, zero, suc, _-_}
 use mathlib.Core.Bool.{Bool, cond}
 use mathlib.Core.List.{List, [], _∷_}
 use Rattle.model.specs.declared.answers.Refusal.{Refusal}
@@ -26,7 +26,37 @@ number BookTooShort = 14
 number BookTooLong = 15
 number UnknownKind = 16
 
--- Checked in the order shown: the first case that applies
-unfoldable pub firstOf : List (Bool × Refusal) → Outcome
+-- the cases in the order of their numbers, 1 first
+abbrev pub table : List Refusal
+table =
+    Broken ∷
+    NoEvents ∷
+    NotRising ∷
+    UnknownEvent ∷
+    TooManyEvents ∷
+    TooManyRuns ∷
+    TooManyEntries ∷
+    FrontierTooLong ∷
+    Outside ∷
+    Unmarked ∷
+    ListTooShort ∷
+    KnownTooLong ∷
+    RowsTooLong ∷
+    BookTooShort ∷
+    BookTooLong ∷
+    UnknownKind ∷ []
+
+-- the k-th of some cases, from 0
+abbrev pub caseAt : List Refusal → ℕ → Refusal
+caseAt [] k = Broken
+caseAt (r ∷ rs) zero = r
+caseAt (r ∷ rs) (suc k) = caseAt rs k
+
+-- the case of a number, the inverse of `number`: `Numbered` of specs/Numbered.antt. No other number is used
+abbrev pub refusal : ℕ → Refusal
+refusal n = caseAt table (n - 1)
+
+-- Checked in the order shown: the first case that applies, by its number
+unfoldable pub firstOf : List (Bool × ℕ) → Outcome
 firstOf [] = Done
-firstOf (t ∷ ts) = cond (t .0) (Refused (t .1)) (firstOf ts)
+firstOf (t ∷ ts) = cond (t .0) (Refused (refusal (t .1))) (firstOf ts)

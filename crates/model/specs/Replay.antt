@@ -6,7 +6,7 @@ use lib.ListN.{length, take}
 use lib.Dec.{ltb, eqb}
 use Rattle.lists.specs.Lists.{from}
 use Rattle.model.specs.declared.record.CausalGraph.{CausalGraph}
-use Rattle.model.specs.declared.answers.Refusal.the-variants.{Broken, RowsTooLong, ListTooShort}
+use Rattle.model.specs.Refusals.{refusal}
 use Rattle.model.specs.declared.answers.Outcome.{Outcome}
 use Rattle.model.specs.declared.answers.Outcome.the-variants.{Done, Refused}
 use Rattle.model.specs.Graph.{Graph}
@@ -28,7 +28,7 @@ replayRange g (linear a b) rows = (Done, opened a b ∷ map apply (from a (b - a
 replayRange g (concurrent a b) rows =
     let w = rangeOf g a b in
     elim (rowsTooLong w rows) [
-      | true ↦ (Refused RowsTooLong, opened a b ∷ [], rowsInto w rows)
+      | true ↦ (Refused (refusal 13), opened a b ∷ [], rowsInto w rows)
       | false ↦ (Done, opened a b ∷ stepsOf w a 0 0, rowsInto w rows)
     ]
 
@@ -36,11 +36,11 @@ replayRange g (concurrent a b) rows =
 unfoldable pub replayRanges : Graph → List HistoryRange → ℕ → List ℕ → Replayed
 replayRanges g [] room rows = (Done, [], rows)
 replayRanges g (c ∷ cs) room rows = elim (eqb room 0) [
-  | true ↦ (Refused ListTooShort, [], rows)
+  | true ↦ (Refused (refusal 11), [], rows)
   | false ↦
       let this = replayRange g c rows in
       elim (ltb room (length (this .1))) [
-        | true ↦ (Refused ListTooShort, take room (this .1), this .2)
+        | true ↦ (Refused (refusal 11), take room (this .1), this .2)
         | false ↦ elim (this .0) [
           | Done ↦
               let later = replayRanges g cs (room - length (this .1)) (this .2) in
@@ -53,7 +53,7 @@ replayRanges g (c ∷ cs) room rows = elim (eqb room 0) [
 -- Full replay with a row area and a step list; count and `moved` "tell what was written"
 unfoldable pub replayOf : CausalGraph → List ℕ → List ℕ → WalkResult
 replayOf g rows steps = elim (broken g) [
-  | true ↦ unwalked Broken rows steps
+  | true ↦ unwalked (refusal 1) rows steps
   | false ↦
       let all = replayRanges (view g) (cutFrom (view g) 0) (length steps / 3) rows in
       wrote (view g) (all .0) (all .1) (all .2) steps

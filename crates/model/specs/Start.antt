@@ -6,13 +6,11 @@ use lib.Dec.{leb, ltb, eqb}
 use Rattle.model.specs.declared.record.CausalGraph.{CausalGraph}
 use Rattle.model.specs.declared.answers.Started.{Started}
 use Rattle.model.specs.declared.answers.Taken.{Taken}
-use Rattle.model.specs.declared.answers.BoolAnswer.the-variants.{Told, Refused as RefusedBool}
-use Rattle.model.specs.declared.answers.RunAnswer.the-variants.{Run, Refused as RefusedRun}
-use Rattle.model.specs.declared.answers.Refusal.the-variants.{Broken, TooManyRuns, TooManyEntries}
 use Rattle.model.specs.declared.answers.Refusal.{Refusal}
 use Rattle.model.specs.declared.answers.Outcome.{Outcome}
 use Rattle.model.specs.declared.answers.Outcome.the-variants.{Done, Refused}
-use Rattle.model.specs.Refusals.{firstOf}
+use Rattle.model.specs.Refusals.{refusal, firstOf}
+use Rattle.model.specs.Answers.{boolOr, runOr}
 use Rattle.model.specs.Graph.{Graph, runs, start, firstHeld, len, entries, containing, marked}
 use Rattle.model.specs.Record.{view, store}
 use Rattle.model.specs.Broken.{broken}
@@ -39,14 +37,14 @@ starting g at =
 
 -- A split takes one run and one entry: refusals 6 and 7
 unfoldable pub splitOutcome : Graph → Outcome
-splitOutcome g = firstOf ((ltb 512 (runs g + 1), TooManyRuns) ∷ (ltb 2048 (entries g + 1), TooManyEntries) ∷ [])
+splitOutcome g = firstOf ((ltb 512 (runs g + 1), 6) ∷ (ltb 2048 (entries g + 1), 7) ∷ [])
 
 unfoldable pub told : CausalGraph → Bool → Started
-told g b = record { graph = g; answer = Told b }
+told g b = record { graph = g; answer = boolOr Done b }
 
 -- "Graph unchanged"
 unfoldable pub startRefused : CausalGraph → Refusal → Started
-startRefused g r = record { graph = g; answer = RefusedBool r }
+startRefused g r = record { graph = g; answer = boolOr (Refused r) false }
 
 -- `start_run_at(at)` on a graph that is not broken
 unfoldable pub startHeldOf : CausalGraph → ℕ → Started
@@ -59,7 +57,7 @@ startHeldOf g at =
 
 -- `start_run_at(at)`
 unfoldable pub startRunAtOf : CausalGraph → ℕ → Started
-startRunAtOf g at = elim (broken g) [ true ↦ startRefused g Broken | false ↦ startHeldOf g at ]
+startRunAtOf g at = elim (broken g) [ true ↦ startRefused g (refusal 1) | false ↦ startHeldOf g at ]
 
 -- "`take_changed_from` gives `changed_from` and sets it to the run count"
 unfoldable pub taken : Graph → Graph
@@ -67,8 +65,8 @@ taken g = record { starts = g .starts; parents = g .parents; frontier = g .front
 
 -- `take_changed_from()` on a graph that is not broken
 unfoldable pub takeHeldOf : CausalGraph → Taken
-takeHeldOf g = record { graph = store (taken (view g)); answer = Run (g .«changed_from») }
+takeHeldOf g = record { graph = store (taken (view g)); answer = runOr Done (g .«changed_from» .0) }
 
 -- `take_changed_from()`
 unfoldable pub takeChangedFromOf : CausalGraph → Taken
-takeChangedFromOf g = elim (broken g) [ true ↦ record { graph = g; answer = RefusedRun Broken } | false ↦ takeHeldOf g ]
+takeChangedFromOf g = elim (broken g) [ true ↦ record { graph = g; answer = runOr (Refused (refusal 1)) 0 } | false ↦ takeHeldOf g ]

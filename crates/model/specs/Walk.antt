@@ -10,10 +10,9 @@ use Rattle.lists.specs.Areas.{over, fitting}
 use Rattle.model.specs.declared.record.CausalGraph.{CausalGraph}
 use Rattle.model.specs.declared.answers.Walked.{Walked}
 use Rattle.model.specs.declared.answers.Refusal.{Refusal}
-use Rattle.model.specs.declared.answers.Refusal.the-variants.{Broken, Outside, KnownTooLong, RowsTooLong, ListTooShort}
 use Rattle.model.specs.declared.answers.Outcome.{Outcome}
 use Rattle.model.specs.declared.answers.Outcome.the-variants.{Done, Refused}
-use Rattle.model.specs.Refusals.{firstOf}
+use Rattle.model.specs.Refusals.{refusal, firstOf}
 use Rattle.model.specs.Graph.{Graph, runs}
 use Rattle.model.specs.Record.{view}
 use Rattle.model.specs.Broken.{broken}
@@ -42,19 +41,19 @@ rowsTooLong w rows = ltb (length rows) (length (concat (w .rows)))
 
 -- 11: a list of `room` steps holds fewer than there are
 unfoldable pub listOutcome : ℕ → List Step → Outcome
-listOutcome room ss = cond (ltb room (length ss)) (Refused ListTooShort) Done
+listOutcome room ss = cond (ltb room (length ss)) (Refused (refusal 11)) Done
 
 -- Refusals 1, 9, 12, before anything is written
 unfoldable pub rangeOutcome : CausalGraph → ℕ → ℕ → ℕ → Outcome
 rangeOutcome g a b known =
-    firstOf ((broken g, Broken) ∷ (ltb b a || ltb (runs (view g)) b, Outside) ∷ (ltb (b - a) known, KnownTooLong) ∷ [])
+    firstOf ((broken g, 1) ∷ (ltb b a || ltb (runs (view g)) b, 9) ∷ (ltb (b - a) known, 12) ∷ [])
 
 -- The range a..b, refused under 13 and 11 alone: rows first, "all are written before the first step"
 unfoldable pub walkRange : Graph → ℕ → ℕ → ℕ → ℕ → List ℕ → List ℕ → WalkResult
 walkRange g a b known first rows steps =
     let w = rangeOf g a b in
     elim (rowsTooLong w rows) [
-      | true ↦ unwalked RowsTooLong (rowsInto w rows) steps
+      | true ↦ unwalked (refusal 13) (rowsInto w rows) steps
       | false ↦
           let ss : List Step = stepsOf w a known first in
           let room = length steps / 3 in

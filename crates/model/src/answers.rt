@@ -74,9 +74,16 @@ pub struct Taken {
     pub answer: RunAnswer,
 }
 
-// A run's parents (runs) or the frontier (events): `count` of them, then zeros.
-pub struct Listed {
-    pub items: [u32; 512],
+// A run's parents, which are runs: `count` of them, then zeros.
+pub struct ParentRuns {
+    pub runs: [u32; 512],
+    pub count: usize,
+    pub outcome: Outcome,
+}
+
+// The frontier, which is events: `count` of them, then zeros.
+pub struct FrontierEvents {
+    pub events: [u32; 512],
     pub count: usize,
     pub outcome: Outcome,
 }
