@@ -8,19 +8,20 @@ ghost use Rattle.model.specs.Refusals.{number as Refusals·number};
 ghost use Rattle.model.specs.Print.{ascii, decimal as Print·decimal, lineText, lastLine, refusedLine, pushRefusedLine};
 ghost use Rattle.model.specs.Reader.{decoded};
 ghost use Rattle.book.specs.Output.{shown, Shows, Adds, ended as Output·ended, stepBytes, wordLines, putLine, putLines};
+use model::EventRunIndex;
 use model::Outcome;
 use model::Refusal;
 
 // A line: `count` of its bytes are used. No line of 01's is longer.
-pub struct Line {
-    pub bytes: [u8; 64],
-    pub count: usize,
+pub(crate) struct Line {
+    pub(crate) bytes: [u8; 64],
+    pub(crate) count: usize,
 }
 
 // A number's digits, from place `at` on.
-pub struct Digits {
-    pub bytes: [u8; 20],
-    pub at: usize,
+pub(crate) struct Digits {
+    pub(crate) bytes: [u8; 20],
+    pub(crate) at: usize,
 }
 
 // How many bytes of a lent buffer are used, and whether a line did not fit.
@@ -141,14 +142,14 @@ fn two(name: &[u8], a: u32, b: u32) -> Line
 }
 
 // A step's line, by its three words; nothing where there is no such step.
-fn step_line(kind: u32, a: u32, b: u32) -> Line
-    ensures { λ r. ⌜ Shows r (stepBytes (decoded kind a b)) ⌝ }
+fn step_line(kind: u32, a: EventRunIndex, b: EventRunIndex) -> Line
+    ensures { λ r. ⌜ Shows r (stepBytes (decoded kind (a .0) (b .0))) ⌝ }
 {
     match kind {
-        0 => two(b"retreat ", a, b),
-        1 => two(b"advance ", a, b),
-        2 => one(b"apply ", wide(a)),
-        3 => two(b"open ", a, b),
+        0 => two(b"retreat ", a.0, b.0),
+        1 => two(b"advance ", a.0, b.0),
+        2 => one(b"apply ", wide(a.0)),
+        3 => two(b"open ", a.0, b.0),
         _ => empty(),
     }
 }
@@ -177,13 +178,13 @@ fn number_of(r: Refusal) -> u64
     }
 }
 
-pub fn refused_line(r: Refusal) -> Line
+pub(crate) fn refused_line(r: Refusal) -> Line
     ensures { λ l. ⌜ Shows l (Output·ended (refusedLine (Refusals·number r))) ⌝ }
 {
     one(b"refused ", number_of(r))
 }
 
-pub fn push_refused_line(r: Refusal, k: u32) -> Line
+pub(crate) fn push_refused_line(r: Refusal, k: u32) -> Line
     ensures { λ l. ⌜ Shows l (Output·ended (pushRefusedLine (Refusals·number r) k)) ⌝ }
 {
     let named = text(empty(), b"refused ");
@@ -192,7 +193,7 @@ pub fn push_refused_line(r: Refusal, k: u32) -> Line
 }
 
 // The line after a replay's steps.
-pub fn last_line(outcome: Outcome, moved: u64) -> Line
+pub(crate) fn last_line(outcome: Outcome, moved: u64) -> Line
     ensures { λ l. ⌜ Shows l (Output·ended (lastLine outcome moved)) ⌝ }
 {
     match outcome {
@@ -202,7 +203,7 @@ pub fn last_line(outcome: Outcome, moved: u64) -> Line
 }
 
 // Nothing printed yet.
-pub fn blank() -> Printed
+pub(crate) fn blank() -> Printed
     ensures { λ r. ⌜ r ≡ record { used = 0; short = false } ⌝ }
 {
     Printed {
@@ -212,7 +213,7 @@ pub fn blank() -> Printed
 }
 
 // Puts a line after the used bytes, if it fits and all before it did.
-pub fn put_line(out: &mut [u8], p: Printed, l: Line) -> Printed
+pub(crate) fn put_line(out: &mut [u8], p: Printed, l: Line) -> Printed
     requires { ⌜ l .count ≤ 64 ⌝ }
     ensures { λ r. ⌜ (r, now (out .exit)) ≡ putLine (p, now (out .entry)) (shown l) ⌝ }
 {
@@ -245,13 +246,15 @@ pub fn put_line(out: &mut [u8], p: Printed, l: Line) -> Printed
 }
 
 // Puts a line for each step of a list of words.
-pub fn put_steps(out: &mut [u8], p: Printed, steps: &[u32]) -> Printed
+pub(crate) fn put_steps(out: &mut [u8], p: Printed, steps: &[u32]) -> Printed
     ensures { λ r. ⌜ (r, now (out .exit)) ≡ putLines (p, now (out .entry)) (wordLines (now (steps .entry))) ⌝ }
 {
     let mut now = p;
     let mut i = 0;
     while 3 <= steps.len() - i {
-        let line = step_line(steps[i], steps[i + 1], steps[i + 2]);
+        let a = EventRunIndex(steps[i + 1]);
+        let b = EventRunIndex(steps[i + 2]);
+        let line = step_line(steps[i], a, b);
         now = put_line(out, now, line);
         i += 3;
     }

@@ -18,11 +18,11 @@ use model::Pushed;
 use model::Refusal;
 
 // How far the pushes were taken: the graph made so far, and the place of the next push, in words. Once one is refused, `answer` says why.
-pub struct Turn {
-    pub graph: CausalGraph,
-    pub at: usize,
-    pub is_refused: bool,
-    pub answer: BookAnswer,
+pub(crate) struct Turn {
+    pub(crate) graph: CausalGraph,
+    pub(crate) at: usize,
+    pub(crate) is_refused: bool,
+    pub(crate) answer: BookAnswer,
 }
 
 fn wide(b: u8) -> u32

@@ -111,10 +111,10 @@ fn push(g: CausalGraph, words: &[u32], lent: bool) -> CausalGraph
     after_push
 }
 
-fn start_run_at(g: CausalGraph, at: u32, lent: bool) -> CausalGraph
-    ensures { λ r. ⌜ r ≡ startRunAtOf g at .graph ⌝ }
+fn start_run_at(g: CausalGraph, at: EventIndex, lent: bool) -> CausalGraph
+    ensures { λ r. ⌜ r ≡ startRunAtOf g (at .0) .graph ⌝ }
 {
-    let started = either::start_run_at(lent, g, EventIndex(at));
+    let started = either::start_run_at(lent, g, at);
     let after_start = started.graph;
     after_start
 }
@@ -138,7 +138,7 @@ fn call(g: CausalGraph, words: &[u32]) -> CausalGraph
         return push(g, words, lent);
     }
     if op == 3 {
-        return start_run_at(g, get(words, 1), lent);
+        return start_run_at(g, EventIndex(get(words, 1)), lent);
     }
     take_changed_from(g, lent)
 }

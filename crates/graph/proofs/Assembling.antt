@@ -141,7 +141,7 @@ module _
   own-fits =
       omega (arith, simp (length-append, length-map) at own-count, entries-flat (view g), j .for-entries)
 
-  seen-is : {s : ℕ} → s ≡ cond (same ps (view g .frontier)) start (t .seen) → s ≡ newSeen (view g) ps
+  seen-is : {s : ℕ} → s ≡ cond (same ps (view g .frontier)) start (t .seen .0) → s ≡ newSeen (view g) ps
   unfolding newSeen
   seen-is e = e ∙ rw (at-end, own-all, own-seen (view g) (holds .formed) ps (j .known))
 
@@ -162,7 +162,7 @@ module _
 
     -- The record with the new run
     pub joined-stored : {tips : Kept} {s from changed : ℕ} {h : CausalGraph} → tips ≡ addIn left (start + n - 1) →
-        s ≡ cond (same ps (view g .frontier)) start (t .seen) →
+        s ≡ cond (same ps (view g .frontier)) start (t .seen .0) →
         from ≡ min (g .«run_count») (g .«changed_from» .0) →
         changed ≡ lowerAll (view g .starts) s from (marks (view g)) →
         h ≡ assembled g (start + n) t tips s changed →

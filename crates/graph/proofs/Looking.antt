@@ -16,14 +16,13 @@ use Rattle.lists.proofs.Truth.{and-left, and-right, or-left}
 use Rattle.lists.proofs.Groups.{climbs-at, length-part, part-take, group-at}
 use Rattle.lists.proofs.Rising.{rising-tail, rising-above}
 use Rattle.model.specs.declared.record.CausalGraph.{CausalGraph}
-use Rattle.model.specs.declared.answers.Listed.{Listed}
 use Rattle.model.specs.declared.answers.Refusal.the-variants.{Broken, Outside}
 use Rattle.model.specs.declared.answers.Outcome.the-variants.{Done, Refused}
 use Rattle.model.specs.Refusals.{firstOf}
 use Rattle.model.specs.Graph.{runs, firstHeld, len, containing}
 use Rattle.model.specs.Record.{view}
 use Rattle.model.specs.Broken.{broken, Held}
-use Rattle.model.specs.Lookups.{lookup, listedOr}
+use Rattle.model.specs.Lookups.{lookup}
 use Rattle.model.proofs.Stored.{not-broken, clauses-of}
 use Rattle.model.proofs.FormedReads.{containing-in}
 use Rattle.graph.proofs.Views.{containing-view, facts, runs-view, first-view, len-view}
@@ -135,8 +134,7 @@ module _ (g : CausalGraph) (held : Held g) (e : ℕ) (lo : getD (g .starts) 0 0 
         facts g held .runs,
       )
 
--- A list as it is answered
-pub listed-done : (items : List ℕ) (n : ℕ) (l : List ℕ) → items ≡ pad 512 l → n ≡ length l →
-    _≡_ {A = Listed} (record { items = items; count = n; outcome = Done }) (listedOr Done l)
-unfolding listedOr
-listed-done items n l p q = λ i. record { items = p i; count = q i; outcome = Done }
+-- A list as it is answered, runs or events
+pub listed-done : {A : Type 0} (answer : List ℕ → ℕ → A) (items : List ℕ) (n : ℕ) (l : List ℕ) → items ≡ pad 512 l → n ≡ length l →
+    answer items n ≡ answer (pad 512 l) (length l)
+listed-done answer items n l p q = λ i. answer (p i) (q i)

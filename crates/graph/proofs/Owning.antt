@@ -40,7 +40,7 @@ own-add : (a : Graph) (l : List ℕ) (s p : ℕ) → leb (firstHeld a) p ≡ tru
 unfolding addOwn
 own-add a l s p e h =
     let q : length l + 1 ≡ length (l ++ containing a p ∷ []) = simp length-append (omega arith) in
-    rw e (λ i. record { items = add-pad 2048 l (containing a p) h i; count = q i; seen = max s (seenAfter a (containing a p)) })
+    rw e (λ i. record { items = add-pad 2048 l (containing a p) h i; count = q i; seen = record { 0 = max s (seenAfter a (containing a p)) } })
 
 -- the count grows by one for a held parent
 pub own-count : (a : Graph) (t : Own) (p : ℕ) → addOwn a t p .count ≡ t .count + cond (leb (firstHeld a) p) 1 0
@@ -48,7 +48,7 @@ unfolding addOwn
 own-count a t p = go (leb (firstHeld a) p)
   where
     go : (b : Bool) →
-        cond b (record { items = set (t .items) (t .count) (containing a p); count = t .count + 1; seen = max (t .seen) (seenAfter a (containing a p)) }) t .count
+        cond b (record { items = set (t .items) (t .count) (containing a p); count = t .count + 1; seen = record { 0 = max (t .seen .0) (seenAfter a (containing a p)) } }) t .count
         ≡ t .count + cond b 1 0
     go true = refl
     go false = omega arith
@@ -101,8 +101,8 @@ module _ (g : CausalGraph) (good : Held g) where
       getD (g .starts) 0 0 ≤ p →
       r ≡ containing (view g) p →
       after ≡ seenAfter (view g) r →
-      s ≡ max (t .seen) after →
-      _≡_ {A = Own} (record { items = set (t .items) (t .count) r; count = t .count + 1; seen = s }) (addOwn (view g) t p)
+      s ≡ max (t .seen .0) after →
+      _≡_ {A = Own} (record { items = set (t .items) (t .count) r; count = t .count + 1; seen = record { 0 = s } }) (addOwn (view g) t p)
   unfolding addOwn
   own-yes t p r after s h e f q = rw (first-view g good, le-leb (getD (g .starts) 0 0) p h, ← e, q, f)
 
@@ -155,7 +155,7 @@ unfolding largest
 largest-more s x [] = omega arith
 largest-more s x (y ∷ ys) = rw (largest-any (max s x) s y ys) (omega arith)
 
-own-most : (a : Graph) (t : Own) (ps : List ℕ) → ownAll a t ps .seen ≡ max (t .seen) (largest (t .seen) (map (seenAfter a) (parentRuns a ps)))
+own-most : (a : Graph) (t : Own) (ps : List ℕ) → ownAll a t ps .seen .0 ≡ max (t .seen .0) (largest (t .seen .0) (map (seenAfter a) (parentRuns a ps)))
 unfolding ownAll parentRuns held filter
 own-most a t [] = unfold largest in omega arith
 own-most a t (p ∷ ps) = go (leb (firstHeld a) p) refl (own-most a t ps) (own-most a (addOwn a t p) ps)
@@ -166,14 +166,14 @@ own-most a t (p ∷ ps) = go (leb (firstHeld a) p) refl (own-most a t ps) (own-m
     go :
         (b : Bool) →
         leb (firstHeld a) p ≡ b →
-        ownAll a t ps .seen ≡ max (t .seen) (largest (t .seen) (map (seenAfter a) (map (containing a) rest))) →
-        ownAll a (addOwn a t p) ps .seen ≡ max (addOwn a t p .seen) (largest (addOwn a t p .seen) (map (seenAfter a) (map (containing a) rest))) →
-        ownAll a (addOwn a t p) ps .seen ≡ max (t .seen) (largest (t .seen) (map (seenAfter a) (map (containing a) (cond b (p ∷ rest) rest))))
+        ownAll a t ps .seen .0 ≡ max (t .seen .0) (largest (t .seen .0) (map (seenAfter a) (map (containing a) rest))) →
+        ownAll a (addOwn a t p) ps .seen .0 ≡ max (addOwn a t p .seen .0) (largest (addOwn a t p .seen .0) (map (seenAfter a) (map (containing a) rest))) →
+        ownAll a (addOwn a t p) ps .seen .0 ≡ max (t .seen .0) (largest (t .seen .0) (map (seenAfter a) (map (containing a) (cond b (p ∷ rest) rest))))
     go true e f k =
-        let q : addOwn a t p .seen ≡ max (t .seen) (seenAfter a (containing a p)) = unfold addOwn in rw e in
+        let q : addOwn a t p .seen .0 ≡ max (t .seen .0) (seenAfter a (containing a p)) = unfold addOwn in rw e in
         k ∙ ap (λ (s : ℕ). max s (largest s (map (seenAfter a) (map (containing a) rest)))) q
-        ∙ largest-more (t .seen) (seenAfter a (containing a p)) (map (seenAfter a) (map (containing a) rest))
-    go false e f k = ap (λ (u : Own). ownAll a u ps .seen) (own-skip a t p e) ∙ f
+        ∙ largest-more (t .seen .0) (seenAfter a (containing a p)) (map (seenAfter a) (map (containing a) rest))
+    go false e f k = ap (λ (u : Own). ownAll a u ps .seen .0) (own-skip a t p e) ∙ f
 
 -- The runs of known parents
 pub parent-run-in : (a : Graph) → WellFormed a → (ps : List ℕ) → below (len a) ps ≡ true →
@@ -186,7 +186,7 @@ parent-run-in a formed ps known r m =
 
 -- and for a well-formed graph and known parents it is the most that those have seen, or the first held event
 pub own-seen : (a : Graph) → WellFormed a → (ps : List ℕ) → below (len a) ps ≡ true →
-    ownAll a (ownIn (concat (a .parents)) (firstHeld a)) ps .seen ≡ largest (firstHeld a) (map (seenAfter a) (parentRuns a ps))
+    ownAll a (ownIn (concat (a .parents)) (firstHeld a)) ps .seen .0 ≡ largest (firstHeld a) (map (seenAfter a) (parentRuns a ps))
 own-seen a formed ps known =
     let most = largest-least (firstHeld a) (firstHeld a) (map (seenAfter a) (parentRuns a ps)) (omega arith) one in
     own-most a (ownIn (concat (a .parents)) (firstHeld a)) ps ∙ omega (arith, most)
@@ -203,4 +203,4 @@ pub own-whole : (a : Graph) → WellFormed a → (ps : List ℕ) → below (len 
     ownIn (concat (a .parents) ++ parentRuns a ps) (largest (firstHeld a) (map (seenAfter a) (parentRuns a ps)))
 own-whole a formed ps known h =
     let w = own-items a ps h in
-    λ i. record { items = w .0 i; count = w .1 i; seen = own-seen a formed ps known i }
+    λ i. record { items = w .0 i; count = w .1 i; seen = record { 0 = own-seen a formed ps known i } }

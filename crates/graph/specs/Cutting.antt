@@ -51,8 +51,8 @@ putRanges w rs = putAll 3 w (map rangeWords rs)
 
 -- The Linear that is pending, and a Concurrent after it
 unfoldable pub closed : Cutting × List ℕ → ℕ → ℕ → Put × List ℕ
-closed w a b = putRanges (w .0 .put, w .1) (pending (w .0 .first) a ++ (concurrent a b ∷ []))
+closed w a b = putRanges (w .0 .put, w .1) (pending (w .0 .first .0) a ++ (concurrent a b ∷ []))
 
 -- One range more
 unfoldable pub cutOn : Cutting × List ℕ → ℕ → ℕ → Cutting × List ℕ
-cutOn w a b = cond (eqb b (a + 1)) w (record { put = closed w a b .0; first = b }, closed w a b .1)
+cutOn w a b = cond (eqb b (a + 1)) w (record { put = closed w a b .0; first = record { 0 = b } }, closed w a b .1)

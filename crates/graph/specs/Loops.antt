@@ -44,13 +44,13 @@ pub record Joins (g : Graph) (ps : List ℕ) (n : ℕ) : Type 0 where
 
 -- entries in their array, and what has been seen so far
 abbrev pub ownIn : List ℕ → ℕ → Own
-ownIn l s = record { items = pad 2048 l; count = length l; seen = s }
+ownIn l s = record { items = pad 2048 l; count = length l; seen = record { 0 = s } }
 
 -- a parent: its run joins the entries if it is held
 unfoldable pub addOwn : Graph → Own → ℕ → Own
 addOwn g t p =
     cond (leb (firstHeld g) p)
-    (record { items = set (t .items) (t .count) (containing g p); count = t .count + 1; seen = max (t .seen) (seenAfter g (containing g p)) }) t
+    (record { items = set (t .items) (t .count) (containing g p); count = t .count + 1; seen = record { 0 = max (t .seen .0) (seenAfter g (containing g p)) } }) t
 
 unfoldable pub ownAll : Graph → Own → List ℕ → Own
 ownAll g t [] = t

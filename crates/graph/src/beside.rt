@@ -20,7 +20,7 @@ use model::Refusal;
 use model::Written;
 
 // Writes one word after the others, if it fits and all before it did.
-pub fn put_one(list: &mut [u32], p: Put, a: u32) -> Put
+fn put_one(list: &mut [u32], p: Put, a: u32) -> Put
     ensures { λ r. ⌜ (r, now (list .exit)) ≡ put 1 (p, now (list .entry)) (a ∷ []) ⌝ }
 {
     let n = p.count;
@@ -54,7 +54,7 @@ fn put_points<'a>(starts: &'a [u32], marks: &'a [u32], n: usize, list: &mut [u32
 }
 
 // `archive_points` on a graph that is known not to be broken.
-pub fn archive_held(g: CausalGraph, list: &mut [u32]) -> Written
+fn archive_held(g: CausalGraph, list: &mut [u32]) -> Written
     requires { ⌜ Held g ⌝ }
     ensures { λ r. ⌜ (r, now (list .exit)) ≡ archivePointsOf g (now (list .entry)) ⌝ }
 {
@@ -89,40 +89,53 @@ fn flag_part(flags: &mut [u32], items: &[u32], from: usize, to: usize)
 }
 
 // The parents of a run are flagged if it is.
-fn flag_parents<'a>(flags: &mut [u32], starts: &'a [u32], items: &'a [u32], n: usize, run: usize)
+fn flag_parents<'a>(
+    flags: &mut [u32],
+    starts: &'a [u32],
+    items: &'a [u32],
+    n: usize,
+    run: EventRunIndex,
+)
     requires { ⌜ Rows (now starts) (now items) n ⌝ }
     requires { ⌜ n ≤ length (now flags) ⌝ }
-    requires { ⌜ run < n ⌝ }
-    ensures { λ _. ⌜ now (flags .exit) ≡ flagParents (row (now (starts .entry)) (now (items .entry))) (now (flags .entry)) run ⌝ }
+    requires { ⌜ run .0 < n ⌝ }
+    ensures { λ _. ⌜ now (flags .exit) ≡ flagParents (row (now (starts .entry)) (now (items .entry))) (now (flags .entry)) (run .0) ⌝ }
 {
-    if flags[run] == 0 {
+    let at = run.0 as usize;
+    if flags[at] == 0 {
         return;
     }
-    flag_part(flags, items, starts[run] as usize, starts[run + 1] as usize)
+    flag_part(flags, items, starts[at] as usize, starts[at + 1] as usize)
 }
 
 // The same of the runs before `end`, from the last down.
-fn flag_down<'a>(flags: &mut [u32], starts: &'a [u32], items: &'a [u32], n: usize, end: usize)
+fn flag_down<'a>(
+    flags: &mut [u32],
+    starts: &'a [u32],
+    items: &'a [u32],
+    n: usize,
+    end: EventRunIndex,
+)
     requires { ⌜ Rows (now starts) (now items) n ⌝ }
     requires { ⌜ n ≤ length (now flags) ⌝ }
-    requires { ⌜ end ≤ n ⌝ }
-    ensures { λ _. ⌜ now (flags .exit) ≡ flagDown (row (now (starts .entry)) (now (items .entry))) (now (flags .entry)) end ⌝ }
+    requires { ⌜ end .0 ≤ n ⌝ }
+    ensures { λ _. ⌜ now (flags .exit) ≡ flagDown (row (now (starts .entry)) (now (items .entry))) (now (flags .entry)) (end .0) ⌝ }
 {
-    let mut c = end;
+    let mut c = end.0;
     while 0 < c {
         c -= 1;
-        flag_parents(flags, starts, items, n, c);
+        flag_parents(flags, starts, items, n, EventRunIndex(c));
     }
 }
 
 // Whether a number is at least `run` and flagged.
-fn is_flagged(flags: &[u32], run: u32, p: u32) -> bool
-    ensures { λ r. ⌜ r ≡ flagged (now (flags .entry)) run p ⌝ }
+fn is_flagged(flags: &[u32], run: EventRunIndex, p: EventRunIndex) -> bool
+    ensures { λ r. ⌜ r ≡ flagged (now (flags .entry)) (run .0) (p .0) ⌝ }
 {
-    if p < run {
+    if p.0 < run.0 {
         return false;
     }
-    let at = p as usize;
+    let at = p.0 as usize;
     if flags.len() <= at {
         return false;
     }
@@ -130,13 +143,13 @@ fn is_flagged(flags: &[u32], run: u32, p: u32) -> bool
 }
 
 // 1 if such a number stands in a part of a list, 0 if none does.
-fn flag_of(flags: &[u32], run: u32, items: &[u32], from: usize, to: usize) -> u32
+fn flag_of(flags: &[u32], run: EventRunIndex, items: &[u32], from: usize, to: usize) -> u32
     requires { ⌜ to ≤ length (now items) ⌝ }
-    ensures { λ r. ⌜ r ≡ bit (any (flagged (now (flags .entry)) run) (part from to (now (items .entry)))) ⌝ }
+    ensures { λ r. ⌜ r ≡ bit (any (flagged (now (flags .entry)) (run .0)) (part from to (now (items .entry)))) ⌝ }
 {
     let mut i = from;
     while i < to {
-        if is_flagged(flags, run, items[i]) {
+        if is_flagged(flags, run, EventRunIndex(items[i])) {
             return 1;
         }
         i += 1;
@@ -147,66 +160,61 @@ fn flag_of(flags: &[u32], run: u32, items: &[u32], from: usize, to: usize) -> u3
 // A run is flagged if it has such a parent.
 fn flag_child<'a>(
     flags: &mut [u32],
-    run: u32,
+    run: EventRunIndex,
     starts: &'a [u32],
     items: &'a [u32],
     n: usize,
-    q: usize,
+    q: EventRunIndex,
 )
     requires { ⌜ Rows (now starts) (now items) n ⌝ }
     requires { ⌜ n ≤ length (now flags) ⌝ }
-    requires { ⌜ q < n ⌝ }
-    ensures { λ _. ⌜ now (flags .exit) ≡ flagChild (row (now (starts .entry)) (now (items .entry))) run (now (flags .entry)) q ⌝ }
+    requires { ⌜ q .0 < n ⌝ }
+    ensures { λ _. ⌜ now (flags .exit) ≡ flagChild (row (now (starts .entry)) (now (items .entry))) (run .0) (now (flags .entry)) (q .0) ⌝ }
 {
+    let at = q.0 as usize;
     let v = flag_of(
         flags,
         run,
         items,
-        starts[q] as usize,
-        starts[q + 1] as usize,
+        starts[at] as usize,
+        starts[at + 1] as usize,
     );
-    flags[q] = v;
+    flags[at] = v;
 }
 
 // The same of the runs from `from` on.
 fn flag_up<'a>(
     flags: &mut [u32],
-    run: u32,
+    run: EventRunIndex,
     starts: &'a [u32],
     items: &'a [u32],
     n: usize,
-    from: usize,
+    from: EventRunIndex,
 )
     requires { ⌜ Rows (now starts) (now items) n ⌝ }
     requires { ⌜ n ≤ length (now flags) ⌝ }
-    ensures { λ _. ⌜ now (flags .exit) ≡ flagUp (row (now (starts .entry)) (now (items .entry))) run (now (flags .entry)) from (n - from) ⌝ }
+    ensures { λ _. ⌜ now (flags .exit) ≡ flagUp (row (now (starts .entry)) (now (items .entry))) (run .0) (now (flags .entry)) (from .0) (n - from .0) ⌝ }
 {
-    let mut q = from;
+    let mut q = from.0 as usize;
     while q < n {
-        flag_child(flags, run, starts, items, n, q);
+        flag_child(flags, run, starts, items, n, EventRunIndex(q as u32));
         q += 1;
     }
 }
 
 // A flag for each run that is an ancestor of `run`, `run` itself, or a descendant.
-fn flags_of(g: CausalGraph, run: u32) -> [u32; 512]
+fn flags_of(g: CausalGraph, run: EventRunIndex) -> [u32; 512]
     requires { ⌜ Held g ⌝ }
-    requires { ⌜ run < g .«run_count» ⌝ }
-    ensures { λ r. ⌜ Flags (view g) run r ⌝ }
+    requires { ⌜ run .0 < g .«run_count» ⌝ }
+    ensures { λ r. ⌜ Flags (view g) (run .0) r ⌝ }
 {
-    let at = run as usize;
+    let at = run.0 as usize;
+    let next = EventRunIndex(run.0 + 1);
     let none = lists::nothing();
     let mut f = none.items;
     f[at] = 1;
-    flag_down(&mut f, &g.parent_starts, &g.parents, g.run_count, at + 1);
-    flag_up(
-        &mut f,
-        run,
-        &g.parent_starts,
-        &g.parents,
-        g.run_count,
-        at + 1,
-    );
+    flag_down(&mut f, &g.parent_starts, &g.parents, g.run_count, next);
+    flag_up(&mut f, run, &g.parent_starts, &g.parents, g.run_count, next);
     f
 }
 
@@ -231,11 +239,11 @@ fn count_free(flags: &[u32], n: usize) -> usize
 }
 
 // Writes a run if it has no flag.
-fn put_free(list: &mut [u32], p: Put, run: u32, flag: u32) -> Put
-    ensures { λ r. ⌜ (r, now (list .exit)) ≡ cond (eqb flag 0) (put 1 (p, now (list .entry)) (run ∷ [])) (p, now (list .entry)) ⌝ }
+fn put_free(list: &mut [u32], p: Put, run: EventRunIndex, flag: u32) -> Put
+    ensures { λ r. ⌜ (r, now (list .exit)) ≡ cond (eqb flag 0) (put 1 (p, now (list .entry)) (run .0 ∷ [])) (p, now (list .entry)) ⌝ }
 {
     if flag == 0 {
-        return put_one(list, p, run);
+        return put_one(list, p, run.0);
     }
     p
 }
@@ -250,19 +258,19 @@ fn put_all_free(flags: &[u32], n: usize, list: &mut [u32]) -> Put
     let mut p = Put { count: 0, short: 0 };
     let mut q = 0;
     while q < n {
-        p = put_free(list, p, q as u32, flags[q]);
+        p = put_free(list, p, EventRunIndex(q as u32), flags[q]);
         q += 1;
     }
     p
 }
 
 // `concurrent_runs` on a graph that is known not to be broken.
-pub fn concurrent_held(g: CausalGraph, run: u32, list: &mut [u32]) -> Written
+fn concurrent_held(g: CausalGraph, run: EventRunIndex, list: &mut [u32]) -> Written
     requires { ⌜ Held g ⌝ }
-    ensures { λ r. ⌜ ConcurrencyList g run (now (list .entry)) r (now (list .exit)) ⌝ }
+    ensures { λ r. ⌜ ConcurrencyList g (run .0) (now (list .entry)) r (now (list .exit)) ⌝ }
 {
     let n = g.run_count;
-    if n <= run as usize {
+    if n <= run.0 as usize {
         return Written {
             count: 0,
             outcome: Outcome::Refused(Refusal::Outside),
@@ -290,5 +298,5 @@ pub fn concurrent_runs(g: CausalGraph, run: EventRunIndex, list: &mut [u32]) -> 
             outcome: Outcome::Refused(Refusal::Broken),
         };
     }
-    concurrent_held(g, run.0, list)
+    concurrent_held(g, run, list)
 }

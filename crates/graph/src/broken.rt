@@ -15,6 +15,7 @@ ghost use Rattle.model.specs.Broken.{
 };
 ghost use Rattle.model.specs.Broken.{broken as Broken·broken};
 use model::CausalGraph;
+use model::EventIndex;
 
 fn over_limit(g: CausalGraph) -> bool
     ensures { λ r. ⌜ r ≡ overLimit g ⌝ }
@@ -57,13 +58,13 @@ fn bad_parents(g: CausalGraph) -> bool
     !lists::groups_fit(&g.parent_starts, g.run_count, &g.parents, g.entry_count)
 }
 
-fn is_next(a: u32, b: u32) -> bool
-    ensures { λ r. ⌜ r ≡ eqb (a + 1) b ⌝ }
+fn is_next(a: EventIndex, b: EventIndex) -> bool
+    ensures { λ r. ⌜ r ≡ eqb (a .0 + 1) (b .0) ⌝ }
 {
-    if b <= a {
+    if b.0 <= a.0 {
         return false;
     }
-    b - a == 1
+    b.0 - a.0 == 1
 }
 
 fn bad_frontier(g: CausalGraph) -> bool
@@ -86,7 +87,7 @@ fn bad_frontier(g: CausalGraph) -> bool
     if tips == 0 {
         return true;
     }
-    !is_next(g.frontier[tips - 1], len)
+    !is_next(EventIndex(g.frontier[tips - 1]), EventIndex(len))
 }
 
 fn bad_seen(g: CausalGraph) -> bool

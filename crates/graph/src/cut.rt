@@ -14,13 +14,13 @@ use model::Refusal;
 use model::Written;
 
 // How many records were written, and 1 once one did not fit.
-pub struct Put {
-    pub count: usize,
-    pub short: usize,
+pub(crate) struct Put {
+    pub(crate) count: usize,
+    pub(crate) short: usize,
 }
 
 // Writes one record of three words after the others, if it fits and all before it did.
-pub fn put_three(list: &mut [u32], p: Put, a: u32, b: u32, c: u32) -> Put
+fn put_three(list: &mut [u32], p: Put, a: u32, b: u32, c: u32) -> Put
     ensures { λ r. ⌜ (r, now (list .exit)) ≡ Cutting·put 3 (p, now (list .entry)) (a ∷ b ∷ c ∷ []) ⌝ }
 {
     let n = p.count;
@@ -41,7 +41,7 @@ pub fn put_three(list: &mut [u32], p: Put, a: u32, b: u32, c: u32) -> Put
 }
 
 // Done, or refused if a record did not fit.
-pub fn written(p: Put) -> Written
+pub(crate) fn written(p: Put) -> Written
     ensures { λ r. ⌜ r ≡ writtenOf p ⌝ }
 {
     if p.short == 0 {
@@ -57,34 +57,34 @@ pub fn written(p: Put) -> Written
 }
 
 // Whether the range from a to b has just one run.
-fn is_single(a: u32, b: u32) -> bool
-    ensures { λ r. ⌜ r ≡ eqb b (a + 1) ⌝ }
+fn is_single(a: EventRunIndex, b: EventRunIndex) -> bool
+    ensures { λ r. ⌜ r ≡ eqb (b .0) (a .0 + 1) ⌝ }
 {
-    if b <= a {
+    if b.0 <= a.0 {
         return false;
     }
-    b - a == 1
+    b.0 - a.0 == 1
 }
 
 // Writes the Linear from `first` to `end`, if it has a run.
-fn put_linear(list: &mut [u32], p: Put, first: u32, end: u32) -> Put
-    ensures { λ r. ⌜ (r, now (list .exit)) ≡ putRanges (p, now (list .entry)) (pending first end) ⌝ }
+fn put_linear(list: &mut [u32], p: Put, first: EventRunIndex, end: EventRunIndex) -> Put
+    ensures { λ r. ⌜ (r, now (list .exit)) ≡ putRanges (p, now (list .entry)) (pending (first .0) (end .0)) ⌝ }
 {
-    if first < end {
-        return put_three(list, p, 0, first, end);
+    if first.0 < end.0 {
+        return put_three(list, p, 0, first.0, end.0);
     }
     p
 }
 
 // What was written, and where the Linear begins that is not written yet.
-pub struct Cutting {
-    pub put: Put,
-    pub first: u32,
+pub(crate) struct Cutting {
+    pub(crate) put: Put,
+    pub(crate) first: EventRunIndex,
 }
 
 // One range more: it goes on with the Linear, or it is a Concurrent and the Linear ends before it.
-fn cut_on(list: &mut [u32], s: Cutting, a: u32, b: u32) -> Cutting
-    ensures { λ r. ⌜ (r, now (list .exit)) ≡ cutOn (s, now (list .entry)) a b ⌝ }
+fn cut_on(list: &mut [u32], s: Cutting, a: EventRunIndex, b: EventRunIndex) -> Cutting
+    ensures { λ r. ⌜ (r, now (list .exit)) ≡ cutOn (s, now (list .entry)) (a .0) (b .0) ⌝ }
 {
     if is_single(a, b) {
         return s;
@@ -92,26 +92,26 @@ fn cut_on(list: &mut [u32], s: Cutting, a: u32, b: u32) -> Cutting
     let before = s.put;
     let first = s.first;
     let p = put_linear(list, before, first, a);
-    let q = put_three(list, p, 1, a, b);
+    let q = put_three(list, p, 1, a.0, b.0);
     Cutting { put: q, first: b }
 }
 
 // The mark at i among the first n, or `end` past them.
-fn mark_at(marks: &[u32], n: usize, i: usize, end: u32) -> u32
+fn mark_at(marks: &[u32], n: usize, i: usize, end: EventRunIndex) -> EventRunIndex
     requires { ⌜ n ≤ length (now marks) ⌝ }
-    ensures { λ r. ⌜ r ≡ getD (take n (now (marks .entry))) i end ⌝ }
+    ensures { λ r. ⌜ r .0 ≡ getD (take n (now (marks .entry))) i (end .0) ⌝ }
 {
     if i < n {
-        return marks[i];
+        return EventRunIndex(marks[i]);
     }
     end
 }
 
 // The ranges from the mark at `from` on, joined and written.
-fn cut_from(marks: &[u32], n: usize, from: usize, end: u32, list: &mut [u32]) -> Put
+fn cut_from(marks: &[u32], n: usize, from: usize, end: EventRunIndex, list: &mut [u32]) -> Put
     requires { ⌜ n ≤ length (now marks) ⌝ }
     ensures { λ r. ⌜ (r, now (list .exit)) ≡ putRanges (blank, now (list .entry))
-        (joinOn (getD (take n (now (marks .entry))) from end) (rangesFrom (drop from (take n (now (marks .entry)))) end) end) ⌝ }
+        (joinOn (getD (take n (now (marks .entry))) from (end .0)) (rangesFrom (drop from (take n (now (marks .entry)))) (end .0)) (end .0)) ⌝ }
 {
     let none = Put { count: 0, short: 0 };
     let head = mark_at(marks, n, from, end);
@@ -121,7 +121,8 @@ fn cut_from(marks: &[u32], n: usize, from: usize, end: u32, list: &mut [u32]) ->
     };
     let mut i = from;
     while i < n {
-        s = cut_on(list, s, marks[i], mark_at(marks, n, i + 1, end));
+        let a = EventRunIndex(marks[i]);
+        s = cut_on(list, s, a, mark_at(marks, n, i + 1, end));
         i += 1;
     }
     let p = s.put;
@@ -130,9 +131,9 @@ fn cut_from(marks: &[u32], n: usize, from: usize, end: u32, list: &mut [u32]) ->
 }
 
 // `split_at_critical_versions_from` on a graph that is known not to be broken.
-pub fn cut_held(g: CausalGraph, from: u32, list: &mut [u32]) -> Written
+pub fn cut_held(g: CausalGraph, from: EventRunIndex, list: &mut [u32]) -> Written
     requires { ⌜ Held g ⌝ }
-    ensures { λ r. ⌜ (r, now (list .exit)) ≡ cutOf g from (now (list .entry)) ⌝ }
+    ensures { λ r. ⌜ (r, now (list .exit)) ≡ cutOf g (from .0) (now (list .entry)) ⌝ }
 {
     let runs = g.run_count;
     if runs == 0 {
@@ -141,21 +142,27 @@ pub fn cut_held(g: CausalGraph, from: u32, list: &mut [u32]) -> Written
             outcome: Outcome::Done,
         };
     }
-    if runs <= from as usize {
+    if runs <= from.0 as usize {
         return Written {
             count: 0,
             outcome: Outcome::Refused(Refusal::Outside),
         };
     }
     let n = g.mark_count;
-    if !lists::is_among(&g.critical_versions, n, from) {
+    if !lists::is_among(&g.critical_versions, n, from.0) {
         return Written {
             count: 0,
             outcome: Outcome::Refused(Refusal::Unmarked),
         };
     }
-    let at = lists::last_at_most(&g.critical_versions, n, from);
-    let p = cut_from(&g.critical_versions, n, at, runs as u32, list);
+    let at = lists::last_at_most(&g.critical_versions, n, from.0);
+    let p = cut_from(
+        &g.critical_versions,
+        n,
+        at,
+        EventRunIndex(runs as u32),
+        list,
+    );
     written(p)
 }
 
@@ -173,7 +180,7 @@ pub fn split_at_critical_versions_from(
             outcome: Outcome::Refused(Refusal::Broken),
         };
     }
-    cut_held(g, from.0, list)
+    cut_held(g, from, list)
 }
 
 // The ranges of the whole history.
@@ -186,5 +193,5 @@ pub fn split_at_critical_versions(g: CausalGraph, list: &mut [u32]) -> Written
             outcome: Outcome::Refused(Refusal::Broken),
         };
     }
-    cut_held(g, 0, list)
+    cut_held(g, EventRunIndex(0), list)
 }

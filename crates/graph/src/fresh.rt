@@ -13,13 +13,13 @@ use model::Made;
 use model::Outcome;
 use model::Refusal;
 
-pub fn zeros_513() -> [u32; 513]
+fn zeros_513() -> [u32; 513]
     ensures { λ r. ⌜ r ≡ pad 513 [] ⌝ }
 {
     [0; 513]
 }
 
-pub fn zeros_2048() -> [u32; 2048]
+fn zeros_2048() -> [u32; 2048]
     ensures { λ r. ⌜ r ≡ pad 2048 [] ⌝ }
 {
     [0; 2048]
@@ -32,7 +32,7 @@ fn zeros_512() -> [u32; 512]
 }
 
 // The list, and zeros after it.
-pub fn padded_512(s: &[u32]) -> [u32; 512]
+pub(crate) fn padded_512(s: &[u32]) -> [u32; 512]
     requires { ⌜ length (now s) ≤ 512 ⌝ }
     ensures { λ r. ⌜ r ≡ pad 512 (now (s .entry)) ⌝ }
 {
@@ -46,12 +46,12 @@ pub fn padded_512(s: &[u32]) -> [u32; 512]
 }
 
 // A graph with no runs after the first `events` events.
-fn fresh_held(events: u32, frontier: &[u32]) -> CausalGraph
+fn fresh_held(events: EventIndex, frontier: &[u32]) -> CausalGraph
     requires { ⌜ length (now frontier) ≤ 512 ⌝ }
-    ensures { λ r. ⌜ r ≡ store (Fresh·fresh events (now (frontier .entry))) ⌝ }
+    ensures { λ r. ⌜ r ≡ store (Fresh·fresh (events .0) (now (frontier .entry))) ⌝ }
 {
     let mut starts = zeros_513();
-    starts[0] = events;
+    starts[0] = events.0;
     let from = EventRunIndex(0);
     CausalGraph {
         starts: starts,
@@ -72,7 +72,7 @@ pub fn new() -> CausalGraph
     ensures { λ r. ⌜ r ≡ newOf ⌝ }
 {
     let nothing = [0u32; 1];
-    fresh_held(0, &nothing[0..0])
+    fresh_held(EventIndex(0), &nothing[0..0])
 }
 
 // A graph of the events after the first `events`, which every later event has seen and whose frontier is `frontier`.
@@ -98,7 +98,7 @@ pub fn after(events: EventIndex, frontier: &[u32]) -> Made
         };
     }
     Made {
-        graph: fresh_held(events.0, frontier),
+        graph: fresh_held(events, frontier),
         outcome: Outcome::Done,
     }
 }

@@ -2,8 +2,8 @@
 ghost use mathlib.Core.Path.{_≡_};
 ghost use mathlib.Core.List.{[]};
 ghost use Rattle.model.specs.declared.answers.Outcome.the-variants.{Refused as Outcome·Refused};
+ghost use Rattle.model.specs.Answers.{parentRunsOr, frontierOr};
 ghost use Rattle.model.specs.Lookups.{
-  listedOr,
   startOf,
   eventsOf,
   parentsOf,
@@ -20,8 +20,9 @@ use model::EventAnswer;
 use model::EventIndex;
 use model::EventRunIndex;
 use model::EventsAnswer;
-use model::Listed;
+use model::FrontierEvents;
 use model::Outcome;
+use model::ParentRuns;
 use model::Refusal;
 use model::RunAnswer;
 
@@ -54,35 +55,35 @@ pub fn events(g: CausalGraph, run: EventRunIndex) -> EventsAnswer
     EventsAnswer::Events(EventIndex(g.starts[n]), EventIndex(g.starts[next]))
 }
 
-// A refusal, with nothing listed.
-fn refused(refusal: Refusal) -> Listed
-    ensures { λ r. ⌜ r ≡ listedOr (Outcome·Refused refusal) [] ⌝ }
+// A refusal, with no parents.
+fn no_parents(refusal: Refusal) -> ParentRuns
+    ensures { λ r. ⌜ r ≡ parentRunsOr (Outcome·Refused refusal) [] ⌝ }
 {
-    Listed {
-        items: [0; 512],
+    ParentRuns {
+        runs: [0; 512],
         count: 0,
         outcome: Outcome::Refused(refusal),
     }
 }
 
 // The runs whose last events are the parents of a run's first event.
-pub fn parents(g: CausalGraph, run: EventRunIndex) -> Listed
+pub fn parents(g: CausalGraph, run: EventRunIndex) -> ParentRuns
     ensures { λ r. ⌜ r ≡ parentsOf g (run .0) ⌝ }
 {
     if crate::broken::is_broken(g) {
-        return refused(Refusal::Broken);
+        return no_parents(Refusal::Broken);
     }
     let n = run.0 as usize;
     if g.run_count <= n {
-        return refused(Refusal::Outside);
+        return no_parents(Refusal::Outside);
     }
     let next = n + 1;
     let from = g.parent_starts[n] as usize;
     let to = g.parent_starts[next] as usize;
     let entries = g.parents;
-    let items = crate::fresh::padded_512(&entries[from..to]);
-    Listed {
-        items: items,
+    let runs = crate::fresh::padded_512(&entries[from..to]);
+    ParentRuns {
+        runs: runs,
         count: to - from,
         outcome: Outcome::Done,
     }
@@ -128,16 +129,27 @@ pub fn is_empty(g: CausalGraph) -> BoolAnswer
     BoolAnswer::Told(g.run_count == 0)
 }
 
+// A refusal, with no frontier.
+fn no_frontier(refusal: Refusal) -> FrontierEvents
+    ensures { λ r. ⌜ r ≡ frontierOr (Outcome·Refused refusal) [] ⌝ }
+{
+    FrontierEvents {
+        events: [0; 512],
+        count: 0,
+        outcome: Outcome::Refused(refusal),
+    }
+}
+
 // The frontier, rising.
-pub fn frontier(g: CausalGraph) -> Listed
+pub fn frontier(g: CausalGraph) -> FrontierEvents
     ensures { λ r. ⌜ r ≡ frontierOf g ⌝ }
 {
     if crate::broken::is_broken(g) {
-        return refused(Refusal::Broken);
+        return no_frontier(Refusal::Broken);
     }
-    let items = g.frontier;
-    Listed {
-        items: items,
+    let events = g.frontier;
+    FrontierEvents {
+        events: events,
         count: g.frontier_count,
         outcome: Outcome::Done,
     }

@@ -21,10 +21,10 @@ use model::Refusal;
 
 // The entries with a new run's parents after them, their count, and the largest of the first held event and what the parents' runs
 // have seen.
-pub struct Own {
-    pub items: [u32; 2048],
-    pub count: usize,
-    pub seen: u32,
+pub(crate) struct Own {
+    pub(crate) items: [u32; 2048],
+    pub(crate) count: usize,
+    pub(crate) seen: EventIndex,
 }
 
 // Whether `used` and `more` together pass `limit`.
@@ -37,17 +37,17 @@ fn over(limit: usize, used: usize, more: usize) -> bool
     limit - used < more
 }
 
-fn is_last(p: u32, len: u32) -> bool
-    ensures { λ r. ⌜ r ≡ eqb p (len - 1) ⌝ }
+fn is_last(p: EventIndex, len: EventIndex) -> bool
+    ensures { λ r. ⌜ r ≡ eqb (p .0) (len .0 - 1) ⌝ }
 {
-    if len == 0 {
-        return p == 0;
+    if len.0 == 0 {
+        return p.0 == 0;
     }
-    p == len - 1
+    p.0 == len.0 - 1
 }
 
 // Whether the parents are just the last event of a graph with runs.
-pub fn does_extend(g: CausalGraph, ps: &[u32]) -> bool
+pub(crate) fn does_extend(g: CausalGraph, ps: &[u32]) -> bool
     requires { ⌜ Held g ⌝ }
     ensures { λ r. ⌜ r ≡ extends (view g) (now (ps .entry)) ⌝ }
 {
@@ -58,7 +58,7 @@ pub fn does_extend(g: CausalGraph, ps: &[u32]) -> bool
     if ps.len() != 1 {
         return false;
     }
-    is_last(ps[0], g.starts[runs])
+    is_last(EventIndex(ps[0]), EventIndex(g.starts[runs]))
 }
 
 fn count_held(g: CausalGraph, ps: &[u32]) -> usize
@@ -76,17 +76,17 @@ fn count_held(g: CausalGraph, ps: &[u32]) -> usize
 }
 
 // The last run grows by n events.
-fn grow_last(g: CausalGraph, n: u32, start: u32) -> CausalGraph
+fn grow_last(g: CausalGraph, n: u32, start: EventIndex) -> CausalGraph
     requires { ⌜ Held g ⌝ }
-    requires { ⌜ start ≡ len (view g) ⌝ }
+    requires { ⌜ start .0 ≡ len (view g) ⌝ }
     requires { ⌜ 0 < g .«run_count» ⌝ }
     requires { ⌜ 0 < n ⌝ }
-    requires { ⌜ start + n < 2 ^ 32 ⌝ }
+    requires { ⌜ start .0 + n < 2 ^ 32 ⌝ }
     ensures { λ r. ⌜ r ≡ store (grown (view g) ((len (view g) - 1) ∷ []) n) ⌝ }
 {
     let runs = g.run_count;
     let tips = g.frontier_count;
-    let end = start + n;
+    let end = start.0 + n;
     let was = g.changed_from;
     let changed = EventRunIndex(lists::smaller(runs as u32 - 1, was.0));
     let mut h = g;
@@ -96,34 +96,37 @@ fn grow_last(g: CausalGraph, n: u32, start: u32) -> CausalGraph
     h
 }
 
-fn seen_after(g: CausalGraph, run: usize) -> u32
+fn seen_after(g: CausalGraph, run: EventRunIndex) -> EventIndex
     requires { ⌜ Held g ⌝ }
-    requires { ⌜ run < g .«run_count» ⌝ }
-    ensures { λ r. ⌜ r ≡ seenAfter (view g) run ⌝ }
+    requires { ⌜ run .0 < g .«run_count» ⌝ }
+    ensures { λ r. ⌜ r .0 ≡ seenAfter (view g) (run .0) ⌝ }
 {
-    let next = run + 1;
-    if g.seen_prefix_len[run] == g.starts[run] {
-        return g.starts[next];
+    let at = run.0 as usize;
+    let next = at + 1;
+    if g.seen_prefix_len[at] == g.starts[at] {
+        return EventIndex(g.starts[next]);
     }
-    g.seen_prefix_len[run]
+    EventIndex(g.seen_prefix_len[at])
 }
 
-fn add_own(g: CausalGraph, t: Own, p: u32) -> Own
+fn add_own(g: CausalGraph, t: Own, p: EventIndex) -> Own
     requires { ⌜ Held g ⌝ }
-    requires { ⌜ p < len (view g) ⌝ }
-    requires { ⌜ (firstHeld (view g) ≤ p → t .count < 2048) ⌝ }
-    ensures { λ r. ⌜ r ≡ addOwn (view g) t p ⌝ }
+    requires { ⌜ p .0 < len (view g) ⌝ }
+    requires { ⌜ (firstHeld (view g) ≤ p .0 → t .count < 2048) ⌝ }
+    ensures { λ r. ⌜ r ≡ addOwn (view g) t (p .0) ⌝ }
 {
-    if p < g.starts[0] {
+    if p.0 < g.starts[0] {
         return t;
     }
-    let run = lists::last_at_most(&g.starts, g.run_count, p);
-    let after = seen_after(g, run);
+    let run = lists::last_at_most(&g.starts, g.run_count, p.0) as u32;
+    let after = seen_after(g, EventRunIndex(run));
     let n = t.count;
+    let was = t.seen;
+    let seen = EventIndex(lists::larger(was.0, after.0));
     let mut h = t;
-    h.items[n] = run as u32;
+    h.items[n] = run;
     h.count = n + 1;
-    h.seen = lists::larger(t.seen, after);
+    h.seen = seen;
     h
 }
 
@@ -132,10 +135,11 @@ fn own_start(g: CausalGraph) -> Own
     ensures { λ r. ⌜ r ≡ ownIn (concat (view g .parents)) (firstHeld (view g)) ⌝ }
 {
     let items = g.parents;
+    let seen = EventIndex(g.starts[0]);
     Own {
         items: items,
         count: g.entry_count,
-        seen: g.starts[0],
+        seen: seen,
     }
 }
 
@@ -148,15 +152,15 @@ fn own_all(g: CausalGraph, t: Own, ps: &[u32]) -> Own
     let mut h = t;
     let mut i = 0;
     while i < ps.len() {
-        h = add_own(g, h, ps[i]);
+        h = add_own(g, h, EventIndex(ps[i]));
         i += 1;
     }
     h
 }
 
-fn pick_seen(g: CausalGraph, ps: &[u32], start: u32, other: u32) -> u32
+fn pick_seen(g: CausalGraph, ps: &[u32], start: EventIndex, other: EventIndex) -> EventIndex
     requires { ⌜ Held g ⌝ }
-    ensures { λ r. ⌜ r ≡ cond (same (now (ps .entry)) (view g .frontier)) start other ⌝ }
+    ensures { λ r. ⌜ r .0 ≡ cond (same (now (ps .entry)) (view g .frontier)) (start .0) (other .0) ⌝ }
 {
     if lists::is_same(ps, ps.len(), &g.frontier, g.frontier_count) {
         return start;
@@ -164,52 +168,58 @@ fn pick_seen(g: CausalGraph, ps: &[u32], start: u32, other: u32) -> u32
     other
 }
 
-fn lower(from: u32, lost: bool, run: u32) -> u32
-    ensures { λ r. ⌜ r ≡ cond lost (min from run) from ⌝ }
+fn lower(from: EventRunIndex, lost: bool, run: EventRunIndex) -> EventRunIndex
+    ensures { λ r. ⌜ r .0 ≡ cond lost (min (from .0) (run .0)) (from .0) ⌝ }
 {
     if lost {
-        return lists::smaller(from, run);
+        return EventRunIndex(lists::smaller(from.0, run.0));
     }
     from
 }
 
 // The lowest of `from` and the marked runs that start past `seen`.
-fn lower_all(g: CausalGraph, seen: u32, from: u32) -> u32
+fn lower_all(g: CausalGraph, seen: EventIndex, from: EventRunIndex) -> EventRunIndex
     requires { ⌜ Held g ⌝ }
-    ensures { λ r. ⌜ r ≡ lowerAll (view g .starts) seen from (Graph·marks (view g)) ⌝ }
+    ensures { λ r. ⌜ r .0 ≡ lowerAll (view g .starts) (seen .0) (from .0) (Graph·marks (view g)) ⌝ }
 {
     let mut c = from;
     let mut i = 0;
     while i < g.mark_count {
         let m = g.critical_versions[i];
         let at = m as usize;
-        c = lower(c, seen < g.starts[at], m);
+        c = lower(c, seen.0 < g.starts[at], EventRunIndex(m));
         i += 1;
     }
     c
 }
 
-fn assemble(g: CausalGraph, end: u32, t: Own, tips: Kept, s: u32, changed: u32) -> CausalGraph
+fn assemble(
+    g: CausalGraph,
+    end: EventIndex,
+    t: Own,
+    tips: Kept,
+    s: EventIndex,
+    changed: EventRunIndex,
+) -> CausalGraph
     requires { ⌜ Held g ⌝ }
     requires { ⌜ g .«run_count» < 512 ⌝ }
     requires { ⌜ t .count ≤ 2048 ⌝ }
-    ensures { λ r. ⌜ r ≡ assembled g end t tips s changed ⌝ }
+    ensures { λ r. ⌜ r ≡ assembled g (end .0) t tips (s .0) (changed .0) ⌝ }
 {
     let runs = g.run_count;
     let next = runs + 1;
     let items = t.items;
     let frontier = tips.items;
-    let from = EventRunIndex(changed);
     let mut h = g;
-    h.starts[next] = end;
+    h.starts[next] = end.0;
     h.parent_starts[next] = t.count as u32;
-    h.seen_prefix_len[runs] = s;
+    h.seen_prefix_len[runs] = s.0;
     h.parents = items;
     h.frontier = frontier;
     h.run_count = next;
     h.entry_count = t.count;
     h.frontier_count = tips.count;
-    h.changed_from = from;
+    h.changed_from = changed;
     let marks = crate::marks::marks_of(&h.starts, &h.seen_prefix_len, next);
     let marked = marks.items;
     h.critical_versions = marked;
@@ -218,39 +228,41 @@ fn assemble(g: CausalGraph, end: u32, t: Own, tips: Kept, s: u32, changed: u32) 
 }
 
 // A new run of n events, once its held parents end runs.
-fn join(g: CausalGraph, ps: &[u32], n: u32, start: u32) -> CausalGraph
+fn join(g: CausalGraph, ps: &[u32], n: u32, start: EventIndex) -> CausalGraph
     requires { ⌜ Held g ⌝ }
-    requires { ⌜ start ≡ len (view g) ⌝ }
+    requires { ⌜ start .0 ≡ len (view g) ⌝ }
     requires { ⌜ Joins (view g) (now ps) n ⌝ }
-    requires { ⌜ start + n < 2 ^ 32 ⌝ }
+    requires { ⌜ start .0 + n < 2 ^ 32 ⌝ }
     ensures { λ r. ⌜ r ≡ store (lowered (view g) (joined (view g) (now (ps .entry)) n)) ⌝ }
 {
-    let end = start + n;
+    let end = start.0 + n;
     let t = own_all(g, own_start(g), ps);
     let left = lists::keep_all(&g.frontier, g.frontier_count, ps);
     let tips = lists::add(left, end - 1);
-    let s = pick_seen(g, ps, start, t.seen);
+    let seen = t.seen;
+    let s = pick_seen(g, ps, start, seen);
     let was = g.changed_from;
-    let changed = lower_all(g, s, lists::smaller(g.run_count as u32, was.0));
-    assemble(g, end, t, tips, s, changed)
+    let low = EventRunIndex(lists::smaller(g.run_count as u32, was.0));
+    let changed = lower_all(g, s, low);
+    assemble(g, EventIndex(end), t, tips, s, changed)
 }
 
 // A push whose parents are known events, rising, and whose events fit: growth, or refusals 6, 7, 8, or a new run.
-fn push_known(g: CausalGraph, ps: &[u32], n: u32, start: u32) -> Pushed
+fn push_known(g: CausalGraph, ps: &[u32], n: u32, start: EventIndex) -> Pushed
     requires { ⌜ Held g ⌝ }
-    requires { ⌜ start ≡ len (view g) ⌝ }
+    requires { ⌜ start .0 ≡ len (view g) ⌝ }
     requires { ⌜ rising (now ps) ≡ true ⌝ }
-    requires { ⌜ below start (now ps) ≡ true ⌝ }
+    requires { ⌜ below (start .0) (now ps) ≡ true ⌝ }
     requires { ⌜ 0 < n ⌝ }
-    requires { ⌜ start + n < 2 ^ 32 ⌝ }
+    requires { ⌜ start .0 + n < 2 ^ 32 ⌝ }
     ensures { λ r. ⌜ r ≡ pushHeldOf g (now (ps .entry)) n ⌝ }
 {
-    let end = start + n;
+    let end = start.0 + n;
     if does_extend(g, ps) {
         let grown = grow_last(g, n, start);
         return Pushed {
             graph: grown,
-            answer: EventsAnswer::Events(EventIndex(start), EventIndex(end)),
+            answer: EventsAnswer::Events(start, EventIndex(end)),
         };
     }
     let splits = crate::splitting::count_splits(g, ps);
@@ -278,15 +290,15 @@ fn push_known(g: CausalGraph, ps: &[u32], n: u32, start: u32) -> Pushed
     let joined = join(parted, ps, n, start);
     Pushed {
         graph: joined,
-        answer: EventsAnswer::Events(EventIndex(start), EventIndex(end)),
+        answer: EventsAnswer::Events(start, EventIndex(end)),
     }
 }
 
 // Whether `len` events from `start` on pass the last event number.
-fn is_too_far(start: u32, len: u32) -> bool
-    ensures { λ r. ⌜ r ≡ ltb 4294967295 (start + len) ⌝ }
+fn is_too_far(start: EventIndex, len: u32) -> bool
+    ensures { λ r. ⌜ r ≡ ltb 4294967295 (start .0 + len) ⌝ }
 {
-    4294967295 - start < len
+    4294967295 - start.0 < len
 }
 
 // `push` on a graph that is known not to be broken, for a caller that made it.
@@ -314,13 +326,13 @@ pub fn push_held(g: CausalGraph, parents: &[u32], len: u32) -> Pushed
             answer: EventsAnswer::Refused(Refusal::UnknownEvent),
         };
     }
-    if is_too_far(start, len) {
+    if is_too_far(EventIndex(start), len) {
         return Pushed {
             graph: g,
             answer: EventsAnswer::Refused(Refusal::TooManyEvents),
         };
     }
-    push_known(g, parents, len, start)
+    push_known(g, parents, len, EventIndex(start))
 }
 
 // Appends a chain of `len` events whose first has `parents`, and answers the first of them and the end.

@@ -11,44 +11,43 @@ ghost use Rattle.model.specs.Broken.{Held};
 ghost use Rattle.model.specs.Split.{split, ends, splitAfter, splits};
 ghost use Rattle.graph.specs.Loops.{Room};
 use model::CausalGraph;
+use model::EventIndex;
 use model::EventRunIndex;
 
-fn seen_from(s: u32, start: u32, at: u32) -> u32
-    ensures { λ r. ⌜ r ≡ cond (eqb s start) at s ⌝ }
+fn seen_from(s: EventIndex, start: EventIndex, at: EventIndex) -> EventIndex
+    ensures { λ r. ⌜ r .0 ≡ cond (eqb (s .0) (start .0)) (at .0) (s .0) ⌝ }
 {
-    if s == start { at } else { s }
+    if s.0 == start.0 { at } else { s }
 }
 
 // Splits a run so that a new one starts at `at`.
-pub fn split_run(g: CausalGraph, run: usize, at: u32) -> CausalGraph
+pub(crate) fn split_run(g: CausalGraph, run: EventRunIndex, at: EventIndex) -> CausalGraph
     requires { ⌜ Held g ⌝ }
-    requires { ⌜ run < g .«run_count» ⌝ }
+    requires { ⌜ run .0 < g .«run_count» ⌝ }
     requires { ⌜ g .«run_count» < 512 ⌝ }
     requires { ⌜ g .«entry_count» < 2048 ⌝ }
-    ensures { λ r. ⌜ r ≡ store (split (view g) run at) ⌝ }
+    ensures { λ r. ⌜ r ≡ store (split (view g) (run .0) (at .0)) ⌝ }
 {
-    let next = run + 1;
+    let place = run.0 as usize;
+    let next = place + 1;
     let later = g.parent_starts[next];
-    let second = seen_from(g.seen_prefix_len[run], g.starts[run], at);
+    let second = seen_from(
+        EventIndex(g.seen_prefix_len[place]),
+        EventIndex(g.starts[place]),
+        at,
+    );
     let starts = g.starts;
     let heads = g.parent_starts;
     let parents = g.parents;
     let seen = g.seen_prefix_len;
-    let new_starts = lists::put_in_513(starts, g.run_count + 1, next, at, 0, 0);
+    let new_starts = lists::put_in_513(starts, g.run_count + 1, next, at.0, 0, 0);
     let new_heads = lists::put_in_513(heads, g.run_count + 1, next, later, 0, 1);
-    let new_parents = lists::put_in_2048(
-        parents,
-        g.entry_count,
-        later as usize,
-        run as u32,
-        run as u32,
-        1,
-    );
-    let new_seen = lists::put_in_512(seen, g.run_count, next, second, 0, 0);
+    let new_parents = lists::put_in_2048(parents, g.entry_count, later as usize, run.0, run.0, 1);
+    let new_seen = lists::put_in_512(seen, g.run_count, next, second.0, 0, 0);
     let marks = crate::marks::marks_of(&new_starts, &new_seen, g.run_count + 1);
     let items = marks.items;
     let was = g.changed_from;
-    let changed = EventRunIndex(lists::smaller(run as u32, was.0));
+    let changed = EventRunIndex(lists::smaller(run.0, was.0));
     let mut h = g;
     h.starts = new_starts;
     h.parent_starts = new_heads;
@@ -63,31 +62,31 @@ pub fn split_run(g: CausalGraph, run: usize, at: u32) -> CausalGraph
 }
 
 // Whether a parent is held and no run, nor the graph, ends in it.
-fn needs_split(g: CausalGraph, p: u32) -> bool
+fn needs_split(g: CausalGraph, p: EventIndex) -> bool
     requires { ⌜ Held g ⌝ }
-    requires { ⌜ p + 1 < 2 ^ 32 ⌝ }
-    ensures { λ r. ⌜ r ≡ leb (firstHeld (view g)) p && not (ends (view g) p) ⌝ }
+    requires { ⌜ p .0 + 1 < 2 ^ 32 ⌝ }
+    ensures { λ r. ⌜ r ≡ leb (firstHeld (view g)) (p .0) && not (ends (view g) (p .0)) ⌝ }
 {
-    if p < g.starts[0] {
+    if p.0 < g.starts[0] {
         return false;
     }
-    !lists::is_among(&g.starts, g.run_count + 1, p + 1)
+    !lists::is_among(&g.starts, g.run_count + 1, p.0 + 1)
 }
 
-fn split_after(g: CausalGraph, p: u32) -> CausalGraph
+fn split_after(g: CausalGraph, p: EventIndex) -> CausalGraph
     requires { ⌜ Held g ⌝ }
-    requires { ⌜ p + 1 < 2 ^ 32 ⌝ }
-    requires { ⌜ Room (view g) (p ∷ []) ⌝ }
-    ensures { λ r. ⌜ r ≡ store (splitAfter (view g) (held (view g) (p ∷ []))) ⌝ }
+    requires { ⌜ p .0 + 1 < 2 ^ 32 ⌝ }
+    requires { ⌜ Room (view g) (p .0 ∷ []) ⌝ }
+    ensures { λ r. ⌜ r ≡ store (splitAfter (view g) (held (view g) (p .0 ∷ []))) ⌝ }
 {
     if !needs_split(g, p) {
         return g;
     }
-    let run = lists::last_at_most(&g.starts, g.run_count, p);
-    split_run(g, run, p + 1)
+    let run = lists::last_at_most(&g.starts, g.run_count, p.0);
+    split_run(g, EventRunIndex(run as u32), EventIndex(p.0 + 1))
 }
 
-pub fn split_all(g: CausalGraph, ps: &[u32]) -> CausalGraph
+pub(crate) fn split_all(g: CausalGraph, ps: &[u32]) -> CausalGraph
     requires { ⌜ Held g ⌝ }
     requires { ⌜ ((k : ℕ) → k < length (now ps) → getD (now ps) k 0 + 1 < 2 ^ 32) ⌝ }
     requires { ⌜ Room (view g) (now ps) ⌝ }
@@ -96,14 +95,14 @@ pub fn split_all(g: CausalGraph, ps: &[u32]) -> CausalGraph
     let mut h = g;
     let mut i = 0;
     while i < ps.len() {
-        h = split_after(h, ps[i]);
+        h = split_after(h, EventIndex(ps[i]));
         i += 1;
     }
     h
 }
 
 // 1 if a test passes.
-pub fn one(b: bool) -> usize
+pub(crate) fn one(b: bool) -> usize
     ensures { λ r. ⌜ r ≡ cond b 1 0 ⌝ }
 {
     if b {
@@ -112,7 +111,7 @@ pub fn one(b: bool) -> usize
     0
 }
 
-pub fn count_splits(g: CausalGraph, ps: &[u32]) -> usize
+pub(crate) fn count_splits(g: CausalGraph, ps: &[u32]) -> usize
     requires { ⌜ Held g ⌝ }
     requires { ⌜ ((k : ℕ) → k < length (now ps) → getD (now ps) k 0 + 1 < 2 ^ 32) ⌝ }
     ensures { λ r. ⌜ r ≡ splits (view g) (now (ps .entry)) ⌝ }
@@ -120,7 +119,7 @@ pub fn count_splits(g: CausalGraph, ps: &[u32]) -> usize
     let mut n = 0;
     let mut i = 0;
     while i < ps.len() {
-        n += one(needs_split(g, ps[i]));
+        n += one(needs_split(g, EventIndex(ps[i])));
         i += 1;
     }
     n

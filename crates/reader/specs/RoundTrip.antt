@@ -36,7 +36,7 @@ pub record RoundTrip : Type 0 where
   -- every walk and every full replay of every graph value, refused ones included, whatever room it is lent
   pub walks-read : (g : CausalGraph) (a b known first : ℕ) (rows steps : List ℕ) → ReadsBack (walkOf g a b known first rows steps)
   pub replays-read : (g : CausalGraph) (rows steps : List ℕ) → ReadsBack (replayOf g rows steps)
-  -- every list of words: the steps that it says, as demand 3's claim reads it, or else refusal 16
+  -- every list of words: the steps that it says, or else refusal 16
   pub said-read : (ws : List ℕ) (ss : List Step) → said ws ≡ some ss → readAll ws 0 ≡ justThese ss
   pub unsaid-refused : (ws : List ℕ) → said ws ≡ none → readAll ws 0 .1 .0 ≡ Refused UnknownKind
   -- "step reader at kind above 3": "reader unmoved"

@@ -11,7 +11,7 @@ use Rattle.lists.proofs.Truth.{or-first, or-last}
 use Rattle.model.specs.declared.record.CausalGraph.{CausalGraph}
 use Rattle.model.specs.declared.answers.Walked.{Walked}
 use Rattle.model.specs.declared.answers.Refusal.{Refusal}
-use Rattle.model.specs.declared.answers.Refusal.the-variants.{Broken, Outside, KnownTooLong, RowsTooLong, ListTooShort}
+use Rattle.model.specs.declared.answers.Refusal.the-variants.{RowsTooLong, ListTooShort}
 use Rattle.model.specs.declared.answers.Outcome.{Outcome}
 use Rattle.model.specs.declared.answers.Outcome.the-variants.{Done, Refused}
 use Rattle.model.specs.Graph.{runs}
@@ -90,9 +90,9 @@ module _ (g : CausalGraph) (a b known first : ℕ) (rows steps : List ℕ) where
   pub walk-inside : Sized g → (o : Outcome) → o ≡ rangeOutcome g a b known → o ≡ Done → Held g × (a ≤ b) × (b ≤ g .«run_count») × (known ≤ b - a)
   unfolding rangeOutcome
   walk-inside sized o q e =
-      let f₁ = passed (broken g, Broken) ((ltb b a || ltb (runs (view g)) b, Outside) ∷ (ltb (b - a) known, KnownTooLong) ∷ []) (sym q ∙ e) in
-      let f₂ = passed (ltb b a || ltb (runs (view g)) b, Outside) ((ltb (b - a) known, KnownTooLong) ∷ []) (f₁ .1) in
-      let f₃ = passed (ltb (b - a) known, KnownTooLong) [] (f₂ .1) in
+      let f₁ = passed (broken g, 1) ((ltb b a || ltb (runs (view g)) b, 9) ∷ (ltb (b - a) known, 12) ∷ []) (sym q ∙ e) in
+      let f₂ = passed (ltb b a || ltb (runs (view g)) b, 9) ((ltb (b - a) known, 12) ∷ []) (f₁ .1) in
+      let f₃ = passed (ltb (b - a) known, 12) [] (f₂ .1) in
       let held : Held g = held-of g sized (f₁ .0) in (
         held,
         omega (arith, ltb-false b a (or-first (ltb b a) (ltb (runs (view g)) b) (f₂ .0))),

@@ -13,11 +13,11 @@ use tables::words::long;
 use tables::words::wide;
 
 // The best so far: its cost, weight and place in the ready list; `found` is 1 once there is one.
-pub struct Best {
-    pub cost: u64,
-    pub weight: u64,
-    pub at: usize,
-    pub found: u64,
+pub(crate) struct Best {
+    pub(crate) cost: u64,
+    pub(crate) weight: u64,
+    pub(crate) at: usize,
+    pub(crate) found: u64,
 }
 
 // Strictly lower (cost, weight) takes over; a tie stays with the newer, which came first.
@@ -163,7 +163,7 @@ fn fewer(n: usize) -> usize
 }
 
 // The best of the last 64 of m ready runs, newest first.
-pub fn nearest<'a>(
+pub(crate) fn nearest<'a>(
     ready: &[u32],
     m: usize,
     before: &[u64],

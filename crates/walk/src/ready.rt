@@ -78,7 +78,7 @@ fn start_run(
 }
 
 // The same for all runs.
-pub fn start_all<'a>(
+pub(crate) fn start_all<'a>(
     waiting: &mut [u32],
     ready: &mut [u32],
     heads: &'a [u32],
@@ -125,7 +125,7 @@ fn wake(waiting: &mut [u32], ready: &mut [u32], n: usize, child: u32) -> usize
 }
 
 // All of a run's children, in turn.
-pub fn wake_all(waiting: &mut [u32], ready: &mut [u32], n: usize, children: &[u32]) -> usize
+fn wake_all(waiting: &mut [u32], ready: &mut [u32], n: usize, children: &[u32]) -> usize
     ensures { λ r. ⌜ (r, now (waiting .exit), now (ready .exit)) ≡ wakeAll (n, now (waiting .entry), now (ready .entry)) (now (children .entry)) ⌝ }
 {
     let mut m = n;
@@ -138,7 +138,7 @@ pub fn wake_all(waiting: &mut [u32], ready: &mut [u32], n: usize, children: &[u3
 }
 
 // The runs from a up to e, in turn.
-pub fn wake_range(waiting: &mut [u32], ready: &mut [u32], n: usize, a: u32, e: u32) -> usize
+fn wake_range(waiting: &mut [u32], ready: &mut [u32], n: usize, a: u32, e: u32) -> usize
     ensures { λ r. ⌜ (r, now (waiting .exit), now (ready .exit)) ≡ wakeAll (n, now (waiting .entry), now (ready .entry)) (from a (e - a)) ⌝ }
 {
     let mut m = n;
@@ -151,13 +151,13 @@ pub fn wake_range(waiting: &mut [u32], ready: &mut [u32], n: usize, a: u32, e: u
 }
 
 // How many runs are ready after a visit, and how many of the first are left.
-pub struct Woken {
-    pub ready: usize,
-    pub left: usize,
+pub(crate) struct Woken {
+    pub(crate) ready: usize,
+    pub(crate) left: usize,
 }
 
 // After a visit of `run`: its children, and, where it is the last of the first, all runs from `first` on.
-pub fn wake_visit(
+pub(crate) fn wake_visit(
     waiting: &mut [u32],
     ready: &mut [u32],
     n: usize,
@@ -189,7 +189,7 @@ pub fn wake_visit(
 }
 
 // Takes the run at `at` out of the first `n`.
-pub fn remove(ready: &mut [u32], n: usize, at: usize)
+pub(crate) fn remove(ready: &mut [u32], n: usize, at: usize)
     requires { ⌜ (at < n) × (n ≤ length (now ready)) ⌝ }
     ensures { λ _. ⌜ now (ready .exit) ≡ takenOut (now (ready .entry)) n at ⌝ }
 {

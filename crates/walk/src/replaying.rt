@@ -10,6 +10,7 @@ ghost use Rattle.walk.specs.CutRecords.{rangeBy, rangesIn, runsOf, Tiled
 use crate::walking;
 use crate::walking::Ranged;
 use model::CausalGraph;
+use model::EventRunIndex;
 use model::Outcome;
 use model::Refusal;
 use model::Walked;
@@ -42,8 +43,8 @@ fn ranged(o: Out) -> Ranged
 fn replay_next<'a>(
     r: Ranged,
     kind: u32,
-    a: u32,
-    b: u32,
+    a: EventRunIndex,
+    b: EventRunIndex,
     starts: &'a [u32],
     heads: &'a [u32],
     parents: &'a [u32],
@@ -57,11 +58,11 @@ fn replay_next<'a>(
     covers: &mut [u8],
     scratch: &mut [u32],
 ) -> Ranged
-    requires { ⌜ Arrays (now starts) (now heads) (now parents) b ⌝ }
-    requires { ⌜ (a ≤ b) × (r .moved ≤ a * 2 ^ 52) ⌝ }
+    requires { ⌜ Arrays (now starts) (now heads) (now parents) (b .0) ⌝ }
+    requires { ⌜ (a .0 ≤ b .0) × (r .moved ≤ a .0 * 2 ^ 52) ⌝ }
     requires { ⌜ Room (now groups) (now tables) (now before) (now sizes) (now children) (now covers) (now scratch) ⌝ }
-    ensures { λ s. ⌜ (s, now (rows .exit), now (steps .exit)) ≡ replayOn (now (starts .entry)) (runsOf (now (starts .entry)) (now (heads .entry)) (now (parents .entry))) (r, now (rows .entry), now (steps .entry)) (rangeBy kind a b) ⌝ }
-    ensures { λ s. ⌜ s .moved ≤ b * 2 ^ 52 ⌝ }
+    ensures { λ s. ⌜ (s, now (rows .exit), now (steps .exit)) ≡ replayOn (now (starts .entry)) (runsOf (now (starts .entry)) (now (heads .entry)) (now (parents .entry))) (r, now (rows .entry), now (steps .entry)) (rangeBy kind (a .0) (b .0)) ⌝ }
+    ensures { λ s. ⌜ s .moved ≤ b .0 * 2 ^ 52 ⌝ }
     ensures { λ _. ⌜ Room (now (groups .exit)) (now (tables .exit)) (now (before .exit)) (now (sizes .exit)) (now (children .exit)) (now (covers .exit)) (now (scratch .exit)) ⌝ }
 {
     if r.rows != 0 {
@@ -70,12 +71,12 @@ fn replay_next<'a>(
     if r.short != 0 {
         return r;
     }
-    let o = writing::put_step(steps, out_of(r), 3, a, b, 0);
+    let o = writing::put_step(steps, out_of(r), 3, a.0, b.0, 0);
     if o.short != 0 {
         return ranged(o);
     }
     if kind == 0 {
-        return ranged(writing::put_applies(steps, o, a, b));
+        return ranged(writing::put_applies(steps, o, a.0, b.0));
     }
     walking::walk_range(
         o,
@@ -130,8 +131,8 @@ fn replay_all<'a>(
     while i < n {
         let at = 3 * i;
         let kind = get(cut, at);
-        let a = get(cut, at + 1);
-        let b = get(cut, at + 2);
+        let a = EventRunIndex(get(cut, at + 1));
+        let b = EventRunIndex(get(cut, at + 2));
         r = replay_next(
             r,
             kind,
@@ -206,7 +207,7 @@ pub fn replay_held(g: CausalGraph, rows: &mut [u32], steps: &mut [u32]) -> Walke
     ensures { λ r. ⌜ (r, now (rows .exit), now (steps .exit)) ≡ replayOf g (now (rows .entry)) (now (steps .entry)) ⌝ }
 {
     let mut cut = zeros_1536();
-    let w = graph::cut::cut_held(g, 0, &mut cut);
+    let w = graph::cut::cut_held(g, EventRunIndex(0), &mut cut);
     let r = replay_fresh(
         w.count,
         &cut,

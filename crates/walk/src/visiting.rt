@@ -16,6 +16,7 @@ ghost use Rattle.walk.specs.Turns.{outIn, bestBy, AllSmall, AllInside, G
 use crate::choice;
 use crate::ready;
 use crate::ready::Woken;
+use model::EventRunIndex;
 use moves::moving;
 use moves::writing::Out;
 use tables::versions;
@@ -23,13 +24,13 @@ use tables::words::get;
 use tables::words::wide;
 
 // How far a walk is: what is written, how many runs are ready, how many of the first are left, and the last run visited plus 1.
-pub struct Progress {
-    pub count: u64,
-    pub moved: u64,
-    pub short: u64,
-    pub ready: usize,
-    pub left: usize,
-    pub last: u64,
+pub(crate) struct Progress {
+    pub(crate) count: u64,
+    pub(crate) moved: u64,
+    pub(crate) short: u64,
+    pub(crate) ready: usize,
+    pub(crate) left: usize,
+    pub(crate) last: u64,
 }
 
 fn zeros() -> [u32; 512]
@@ -97,7 +98,7 @@ fn choose<'a>(
 fn visit(
     out: Out,
     run: u32,
-    base: u32,
+    base: EventRunIndex,
     n: usize,
     chains: usize,
     starts: &[u32],
@@ -106,13 +107,13 @@ fn visit(
     steps: &mut [u32],
     current: &mut [u32],
 ) -> Out
-    requires { ⌜ (n ≤ 512) × (chains ≤ 512) × (base < 2 ^ 31) × (run < n) × (8 * (n + 1) ≤ length (now tables)) × (out .moved + 2 ^ 52 < 2 ^ 63) × (chains ≤ length (now current)) ⌝ }
+    requires { ⌜ (n ≤ 512) × (chains ≤ 512) × (base .0 < 2 ^ 31) × (run < n) × (8 * (n + 1) ≤ length (now tables)) × (out .moved + 2 ^ 52 < 2 ^ 63) × (chains ≤ length (now current)) ⌝ }
     requires { ⌜ (getD (lane 0 (n + 1) (now tables)) run 0 ≤ getD (lane 0 (n + 1) (now tables)) (run + 1) 0) × (getD (lane 0 (n + 1) (now tables)) (run + 1) 0 ≤ length (now rows)) ⌝ }
     requires { ⌜ (getD (lane 1 (n + 1) (now tables)) run 0 < chains) × (getD (lane 2 (n + 1) (now tables)) run 0 < 512) ⌝ }
     requires { ⌜ AllSmall (lane 5 (n + 1) (now tables)) ⌝ }
     requires { ⌜ AllInside (lane 5 (n + 1) (now tables)) (lane 4 (n + 1) (now tables)) (now current) chains ⌝ }
     requires { ⌜ AllInside (lane 5 (n + 1) (now tables)) (lane 4 (n + 1) (now tables)) (rowIn (lane 0 (n + 1) (now tables)) (now rows) run) chains ⌝ }
-    ensures { λ r. ⌜ (r, now (steps .exit)) ≡ emit (out, now (steps .entry)) (visitOf (now (starts .entry)) base (lane 5 (n + 1) (now (tables .entry))) (lane 4 (n + 1) (now (tables .entry))) (now (current .entry)) (rowIn (lane 0 (n + 1) (now (tables .entry))) (now (rows .entry)) run) chains run) ⌝ }
+    ensures { λ r. ⌜ (r, now (steps .exit)) ≡ emit (out, now (steps .entry)) (visitOf (now (starts .entry)) (base .0) (lane 5 (n + 1) (now (tables .entry))) (lane 4 (n + 1) (now (tables .entry))) (now (current .entry)) (rowIn (lane 0 (n + 1) (now (tables .entry))) (now (rows .entry)) run) chains run) ⌝ }
     ensures { λ r. ⌜ Holds (arrived (rowIn (lane 0 (n + 1) (now (tables .entry))) (now (rows .entry)) run) (getD (lane 1 (n + 1) (now (tables .entry))) run 0) (getD (lane 2 (n + 1) (now (tables .entry))) run 0)) chains (now (current .exit)) × (length (now (current .exit)) ≡ length (now (current .entry))) ⌝ }
     ensures { λ r. ⌜ r .moved ≤ out .moved + 2 ^ 52 ⌝ }
 {
@@ -127,7 +128,7 @@ fn visit(
         steps,
         out,
         starts,
-        base,
+        base.0,
         &tables[e..f],
         &tables[d..e],
         current,
@@ -178,7 +179,7 @@ fn wake(
 
 fn visit_next<'a>(
     s: Progress,
-    base: u32,
+    base: EventRunIndex,
     n: usize,
     chains: usize,
     known: u32,
@@ -195,8 +196,8 @@ fn visit_next<'a>(
     waiting: &mut [u32],
     ready: &mut [u32],
 ) -> Progress
-    requires { ⌜ Fit (record { starts = now starts; rows = now rows; groups = now groups; tables = now tables; before = now before; sizes = now sizes; children = now children; base = base; runs = n; chains = chains; known = known; first = first }) (s, now steps, now current, now waiting, now ready) ⌝ }
-    ensures { λ r. ⌜ Turned (record { starts = now (starts .entry); rows = now (rows .entry); groups = now (groups .entry); tables = now (tables .entry); before = now (before .entry); sizes = now (sizes .entry); children = now (children .entry); base = base; runs = n; chains = chains; known = known; first = first }) (s, now (steps .entry), now (current .entry), now (waiting .entry), now (ready .entry)) (r, now (steps .exit), now (current .exit), now (waiting .exit), now (ready .exit)) ⌝ }
+    requires { ⌜ Fit (record { starts = now starts; rows = now rows; groups = now groups; tables = now tables; before = now before; sizes = now sizes; children = now children; base = base .0; runs = n; chains = chains; known = known; first = first }) (s, now steps, now current, now waiting, now ready) ⌝ }
+    ensures { λ r. ⌜ Turned (record { starts = now (starts .entry); rows = now (rows .entry); groups = now (groups .entry); tables = now (tables .entry); before = now (before .entry); sizes = now (sizes .entry); children = now (children .entry); base = base .0; runs = n; chains = chains; known = known; first = first }) (s, now (steps .entry), now (current .entry), now (waiting .entry), now (ready .entry)) (r, now (steps .exit), now (current .exit), now (waiting .exit), now (ready .exit)) ⌝ }
 {
     let m = s.ready;
     let at = choose(
@@ -256,7 +257,7 @@ fn visit_next<'a>(
 // All visits of a walk that begins. `most` counts them down: no run is visited twice.
 fn visit_all<'a>(
     begun: Progress,
-    base: u32,
+    base: EventRunIndex,
     n: usize,
     chains: usize,
     known: u32,
@@ -273,10 +274,10 @@ fn visit_all<'a>(
     waiting: &mut [u32],
     ready: &mut [u32],
 ) -> Progress
-    requires { ⌜ Prepared (record { starts = now starts; rows = now rows; groups = now groups; tables = now tables; before = now before; sizes = now sizes; children = now children; base = base; runs = n; chains = chains; known = known; first = first }) ⌝ }
-    requires { ⌜ Begun (record { starts = now starts; rows = now rows; groups = now groups; tables = now tables; before = now before; sizes = now sizes; children = now children; base = base; runs = n; chains = chains; known = known; first = first }) (begun, now steps, now current, now waiting, now ready) ⌝ }
+    requires { ⌜ Prepared (record { starts = now starts; rows = now rows; groups = now groups; tables = now tables; before = now before; sizes = now sizes; children = now children; base = base .0; runs = n; chains = chains; known = known; first = first }) ⌝ }
+    requires { ⌜ Begun (record { starts = now starts; rows = now rows; groups = now groups; tables = now tables; before = now before; sizes = now sizes; children = now children; base = base .0; runs = n; chains = chains; known = known; first = first }) (begun, now steps, now current, now waiting, now ready) ⌝ }
     requires { ⌜ begun .moved + (n + 1) * 2 ^ 52 < 2 ^ 63 ⌝ }
-    ensures { λ r. ⌜ (outIn r, now (steps .exit)) ≡ emit (outIn begun, now (steps .entry)) (recs (now (starts .entry)) (stepsOf (rangeFor (record { starts = now (starts .entry); rows = now (rows .entry); groups = now (groups .entry); tables = now (tables .entry); before = now (before .entry); sizes = now (sizes .entry); children = now (children .entry); base = base; runs = n; chains = chains; known = known; first = first })) base known first)) ⌝ }
+    ensures { λ r. ⌜ (outIn r, now (steps .exit)) ≡ emit (outIn begun, now (steps .entry)) (recs (now (starts .entry)) (stepsOf (rangeFor (record { starts = now (starts .entry); rows = now (rows .entry); groups = now (groups .entry); tables = now (tables .entry); before = now (before .entry); sizes = now (sizes .entry); children = now (children .entry); base = base .0; runs = n; chains = chains; known = known; first = first })) (base .0) known first)) ⌝ }
     ensures { λ r. ⌜ r .moved ≤ begun .moved + n * 2 ^ 52 ⌝ }
 {
     let mut s = begun;
@@ -309,7 +310,7 @@ fn visit_all<'a>(
 // The walk of a range whose tables are there, in work areas for the version, what each run waits for and the ready runs.
 fn visits_in<'a>(
     out: Out,
-    base: u32,
+    base: EventRunIndex,
     n: usize,
     chains: usize,
     known: u32,
@@ -326,10 +327,10 @@ fn visits_in<'a>(
     waiting: &mut [u32],
     ready: &mut [u32],
 ) -> Out
-    requires { ⌜ Prepared (record { starts = now starts; rows = now rows; groups = now groups; tables = now tables; before = now before; sizes = now sizes; children = now children; base = base; runs = n; chains = chains; known = known; first = first }) ⌝ }
+    requires { ⌜ Prepared (record { starts = now starts; rows = now rows; groups = now groups; tables = now tables; before = now before; sizes = now sizes; children = now children; base = base .0; runs = n; chains = chains; known = known; first = first }) ⌝ }
     requires { ⌜ out .moved + (n + 1) * 2 ^ 52 < 2 ^ 63 ⌝ }
     requires { ⌜ (512 ≤ length (now current)) × (length (now waiting) ≡ n) × (512 ≤ length (now ready)) ⌝ }
-    ensures { λ r. ⌜ (r, now (steps .exit)) ≡ emit (out, now (steps .entry)) (recs (now (starts .entry)) (stepsOf (rangeFor (record { starts = now (starts .entry); rows = now (rows .entry); groups = now (groups .entry); tables = now (tables .entry); before = now (before .entry); sizes = now (sizes .entry); children = now (children .entry); base = base; runs = n; chains = chains; known = known; first = first })) base known first)) ⌝ }
+    ensures { λ r. ⌜ (r, now (steps .exit)) ≡ emit (out, now (steps .entry)) (recs (now (starts .entry)) (stepsOf (rangeFor (record { starts = now (starts .entry); rows = now (rows .entry); groups = now (groups .entry); tables = now (tables .entry); before = now (before .entry); sizes = now (sizes .entry); children = now (children .entry); base = base .0; runs = n; chains = chains; known = known; first = first })) (base .0) known first)) ⌝ }
     ensures { λ r. ⌜ r .moved ≤ out .moved + n * 2 ^ 52 ⌝ }
 {
     let w = n + 1;
@@ -372,9 +373,9 @@ fn visits_in<'a>(
 }
 
 // The same with work areas of its own: the walk of the range, after the steps written before.
-pub fn visits<'a>(
+pub(crate) fn visits<'a>(
     out: Out,
-    base: u32,
+    base: EventRunIndex,
     n: usize,
     chains: usize,
     known: u32,
@@ -388,9 +389,9 @@ pub fn visits<'a>(
     children: &[u32],
     steps: &mut [u32],
 ) -> Out
-    requires { ⌜ Prepared (record { starts = now starts; rows = now rows; groups = now groups; tables = now tables; before = now before; sizes = now sizes; children = now children; base = base; runs = n; chains = chains; known = known; first = first }) ⌝ }
+    requires { ⌜ Prepared (record { starts = now starts; rows = now rows; groups = now groups; tables = now tables; before = now before; sizes = now sizes; children = now children; base = base .0; runs = n; chains = chains; known = known; first = first }) ⌝ }
     requires { ⌜ out .moved + (n + 1) * 2 ^ 52 < 2 ^ 63 ⌝ }
-    ensures { λ r. ⌜ (r, now (steps .exit)) ≡ emit (out, now (steps .entry)) (recs (now (starts .entry)) (stepsOf (rangeFor (record { starts = now (starts .entry); rows = now (rows .entry); groups = now (groups .entry); tables = now (tables .entry); before = now (before .entry); sizes = now (sizes .entry); children = now (children .entry); base = base; runs = n; chains = chains; known = known; first = first })) base known first)) ⌝ }
+    ensures { λ r. ⌜ (r, now (steps .exit)) ≡ emit (out, now (steps .entry)) (recs (now (starts .entry)) (stepsOf (rangeFor (record { starts = now (starts .entry); rows = now (rows .entry); groups = now (groups .entry); tables = now (tables .entry); before = now (before .entry); sizes = now (sizes .entry); children = now (children .entry); base = base .0; runs = n; chains = chains; known = known; first = first })) (base .0) known first)) ⌝ }
     ensures { λ r. ⌜ r .moved ≤ out .moved + n * 2 ^ 52 ⌝ }
 {
     let mut current = zeros();

@@ -22,11 +22,11 @@ use tables::tabling;
 use tables::words::wide;
 
 // What a range came to: what is written, and 1 in `rows` if its rows were too long.
-pub struct Ranged {
-    pub count: u64,
-    pub moved: u64,
-    pub short: u64,
-    pub rows: u64,
+pub(crate) struct Ranged {
+    pub(crate) count: u64,
+    pub(crate) moved: u64,
+    pub(crate) short: u64,
+    pub(crate) rows: u64,
 }
 
 // `first` as far as the range goes, and at least `known`.
@@ -103,10 +103,10 @@ fn prepare(
 }
 
 // The range a..b: its rows, and its steps after those written before.
-pub fn walk_range<'a>(
+pub(crate) fn walk_range<'a>(
     out: Out,
-    a: u32,
-    b: u32,
+    a: EventRunIndex,
+    b: EventRunIndex,
     known: u32,
     first: u32,
     starts: &'a [u32],
@@ -122,15 +122,15 @@ pub fn walk_range<'a>(
     covers: &mut [u8],
     scratch: &mut [u32],
 ) -> Ranged
-    requires { ⌜ Arrays (now starts) (now heads) (now parents) b ⌝ }
-    requires { ⌜ (a ≤ b) × (known ≤ b - a) × (out .moved ≤ a * 2 ^ 52) ⌝ }
+    requires { ⌜ Arrays (now starts) (now heads) (now parents) (b .0) ⌝ }
+    requires { ⌜ (a .0 ≤ b .0) × (known ≤ b .0 - a .0) × (out .moved ≤ a .0 * 2 ^ 52) ⌝ }
     requires { ⌜ Room (now groups) (now tables) (now before) (now sizes) (now children) (now covers) (now scratch) ⌝ }
-    ensures { λ r. ⌜ (r, now (rows .exit), now (steps .exit)) ≡ walkedIn (now (starts .entry)) (rangeIn (now (starts .entry)) (now (heads .entry)) (now (parents .entry)) a (b - a)) a known first out (now (rows .entry)) (now (steps .entry)) ⌝ }
-    ensures { λ r. ⌜ r .moved ≤ b * 2 ^ 52 ⌝ }
+    ensures { λ r. ⌜ (r, now (rows .exit), now (steps .exit)) ≡ walkedIn (now (starts .entry)) (rangeIn (now (starts .entry)) (now (heads .entry)) (now (parents .entry)) (a .0) (b .0 - a .0)) (a .0) known first out (now (rows .entry)) (now (steps .entry)) ⌝ }
+    ensures { λ r. ⌜ r .moved ≤ b .0 * 2 ^ 52 ⌝ }
     ensures { λ _. ⌜ Room (now (groups .exit)) (now (tables .exit)) (now (before .exit)) (now (sizes .exit)) (now (children .exit)) (now (covers .exit)) (now (scratch .exit)) ⌝ }
 {
-    let n = wide(b - a);
-    let area = tabling::lay(heads, parents, a, n, rows, groups, tables, scratch);
+    let n = wide(b.0 - a.0);
+    let area = tabling::lay(heads, parents, a.0, n, rows, groups, tables, scratch);
     if area.short != 0 {
         return Ranged {
             count: out.count,
@@ -139,7 +139,7 @@ pub fn walk_range<'a>(
             rows: 1,
         };
     }
-    let x = wide(a);
+    let x = wide(a.0);
     let y = x + n + 1;
     prepare(
         &starts[x..y],
@@ -180,7 +180,7 @@ pub fn walk_range<'a>(
 }
 
 // The answer.
-pub fn walked(r: Ranged) -> Walked
+pub(crate) fn walked(r: Ranged) -> Walked
     ensures { λ w. ⌜ w ≡ walkedOf r ⌝ }
 {
     if r.rows != 0 {
@@ -205,43 +205,43 @@ pub fn walked(r: Ranged) -> Walked
 }
 
 // Work areas.
-pub fn zeros_2561() -> [u32; 2561]
+pub(crate) fn zeros_2561() -> [u32; 2561]
     ensures { λ r. ⌜ length r ≡ 2561 ⌝ }
 {
     [0; 2561]
 }
 
-pub fn zeros_4104() -> [u32; 4104]
+pub(crate) fn zeros_4104() -> [u32; 4104]
     ensures { λ r. ⌜ length r ≡ 4104 ⌝ }
 {
     [0; 4104]
 }
 
-pub fn sums_513() -> [u64; 513]
+pub(crate) fn sums_513() -> [u64; 513]
     ensures { λ r. ⌜ length r ≡ 513 ⌝ }
 {
     [0; 513]
 }
 
-pub fn sums_512() -> [u64; 512]
+pub(crate) fn sums_512() -> [u64; 512]
     ensures { λ r. ⌜ length r ≡ 512 ⌝ }
 {
     [0; 512]
 }
 
-pub fn children_2561() -> [u32; 2561]
+pub(crate) fn children_2561() -> [u32; 2561]
     ensures { λ r. ⌜ length r ≡ 2561 ⌝ }
 {
     [0; 2561]
 }
 
-pub fn bytes_8192() -> [u8; 8192]
+pub(crate) fn bytes_8192() -> [u8; 8192]
     ensures { λ r. ⌜ length r ≡ 8192 ⌝ }
 {
     [0; 8192]
 }
 
-pub fn zeros_513() -> [u32; 513]
+pub(crate) fn zeros_513() -> [u32; 513]
     ensures { λ r. ⌜ length r ≡ 513 ⌝ }
 {
     [0; 513]
@@ -249,8 +249,8 @@ pub fn zeros_513() -> [u32; 513]
 
 // The range a..b in an empty step list.
 fn walk_fresh<'a>(
-    a: u32,
-    b: u32,
+    a: EventRunIndex,
+    b: EventRunIndex,
     known: u32,
     first: u32,
     starts: &'a [u32],
@@ -259,9 +259,9 @@ fn walk_fresh<'a>(
     rows: &mut [u32],
     steps: &mut [u32],
 ) -> Ranged
-    requires { ⌜ Arrays (now starts) (now heads) (now parents) b ⌝ }
-    requires { ⌜ (a ≤ b) × (known ≤ b - a) ⌝ }
-    ensures { λ r. ⌜ (r, now (rows .exit), now (steps .exit)) ≡ walkedIn (now (starts .entry)) (rangeIn (now (starts .entry)) (now (heads .entry)) (now (parents .entry)) a (b - a)) a known first unwritten (now (rows .entry)) (now (steps .entry)) ⌝ }
+    requires { ⌜ Arrays (now starts) (now heads) (now parents) (b .0) ⌝ }
+    requires { ⌜ (a .0 ≤ b .0) × (known ≤ b .0 - a .0) ⌝ }
+    ensures { λ r. ⌜ (r, now (rows .exit), now (steps .exit)) ≡ walkedIn (now (starts .entry)) (rangeIn (now (starts .entry)) (now (heads .entry)) (now (parents .entry)) (a .0) (b .0 - a .0)) (a .0) known first unwritten (now (rows .entry)) (now (steps .entry)) ⌝ }
 {
     let mut groups = zeros_2561();
     let mut tables = zeros_4104();
@@ -297,18 +297,18 @@ fn walk_fresh<'a>(
 }
 
 // `walk` on a graph that is known not to be broken and a range inside it.
-pub fn walk_held(
+fn walk_held(
     g: CausalGraph,
-    a: u32,
-    b: u32,
+    a: EventRunIndex,
+    b: EventRunIndex,
     known: u32,
     first: u32,
     rows: &mut [u32],
     steps: &mut [u32],
 ) -> Walked
     requires { ⌜ Held g ⌝ }
-    requires { ⌜ (a ≤ b) × (b ≤ g .«run_count») × (known ≤ b - a) ⌝ }
-    ensures { λ r. ⌜ (r, now (rows .exit), now (steps .exit)) ≡ walkRange (view g) a b known first (now (rows .entry)) (now (steps .entry)) ⌝ }
+    requires { ⌜ (a .0 ≤ b .0) × (b .0 ≤ g .«run_count») × (known ≤ b .0 - a .0) ⌝ }
+    ensures { λ r. ⌜ (r, now (rows .exit), now (steps .exit)) ≡ walkRange (view g) (a .0) (b .0) known first (now (rows .entry)) (now (steps .entry)) ⌝ }
 {
     let r = walk_fresh(
         a,
@@ -343,6 +343,6 @@ pub fn walk(
             moved: 0,
             outcome: Outcome::Refused(r),
         },
-        Outcome::Done => walk_held(g, first_run.0, end_run.0, known, first, rows, steps),
+        Outcome::Done => walk_held(g, first_run, end_run, known, first, rows, steps),
     }
 }

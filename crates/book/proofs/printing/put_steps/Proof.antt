@@ -23,23 +23,23 @@ loop-holds c = (omega arith, refl, refl)
 sub-loop : tie.Need-sub-loop Inv-loop μ-loop
 sub-loop c = search needs
 
+add-step-line : tie.Need-add-step-line Inv-loop μ-loop
+add-step-line c = search needs
+
 mul-step-line : tie.Need-mul-step-line Inv-loop μ-loop
 mul-step-line c = search needs
 
 shared-slice-read-step-line : tie.Need-shared-slice-read-step-line Inv-loop μ-loop
 shared-slice-read-step-line c = search needs
 
-add-step-line : tie.Need-add-step-line Inv-loop μ-loop
-add-step-line c = search needs
+add-step-line-2 : tie.Need-add-step-line-2 Inv-loop μ-loop
+add-step-line-2 c = search needs
 
 mul-step-line-2 : tie.Need-mul-step-line-2 Inv-loop μ-loop
 mul-step-line-2 c = search needs
 
 shared-slice-read-step-line-2 : tie.Need-shared-slice-read-step-line-2 Inv-loop μ-loop
 shared-slice-read-step-line-2 c = search needs
-
-add-step-line-2 : tie.Need-add-step-line-2 Inv-loop μ-loop
-add-step-line-2 c = search needs
 
 mul-step-line-3 : tie.Need-mul-step-line-3 Inv-loop μ-loop
 mul-step-line-3 c = search needs
@@ -91,12 +91,12 @@ put-steps-spec =
     μ-loop
     loop-holds
     sub-loop
+    add-step-line
     mul-step-line
     shared-slice-read-step-line
-    add-step-line
+    add-step-line-2
     mul-step-line-2
     shared-slice-read-step-line-2
-    add-step-line-2
     mul-step-line-3
     shared-slice-read-step-line-3
     step-line-requires

@@ -43,13 +43,13 @@ returns : tie.Need-returns
 unfolding ascii
 returns c =
     let a = c .before .before .before .args in
-    step-retreat (c .two .result) (a .kind) (a .a) (a .b) (c .before .before .match .keys1) (c .two .ensures)
+    step-retreat (c .two .result) (a .kind) (a .a .0) (a .b .0) (c .before .before .match .keys1) (c .two .ensures)
 
 returns-2 : tie.Need-returns-2
 unfolding ascii
 returns-2 c =
     let a = c .before .before .before .args in
-    step-advance (c .two2 .result) (a .kind) (a .a) (a .b) (c .before .before .match .keys2) (c .two2 .ensures)
+    step-advance (c .two2 .result) (a .kind) (a .a .0) (a .b .0) (c .before .before .match .keys2) (c .two2 .ensures)
 
 returns-3 : tie.Need-returns-3
 unfolding ascii
@@ -57,20 +57,20 @@ returns-3 c =
     let x₁ = c .before .before .before in
     let arms = x₁ .match in
     let a = x₁ .before .args in
-    step-apply (c .one .result) (a .kind) (a .a) (a .b) (arms .keys3)
+    step-apply (c .one .result) (a .kind) (a .a .0) (a .b .0) (arms .keys3)
     (subst (λ (n : ℕ). Shows (c .one .result) (ascii "apply " ++ decimal n ++ ascii "\n")) (c .before .wide .ensures) (c .one .ensures))
 
 returns-4 : tie.Need-returns-4
 unfolding ascii
 returns-4 c =
     let a = c .before .before .before .args in
-    step-open (c .two3 .result) (a .kind) (a .a) (a .b) (c .before .before .match .keys4) (c .two3 .ensures)
+    step-open (c .two3 .result) (a .kind) (a .a .0) (a .b .0) (c .before .before .match .keys4) (c .two3 .ensures)
 
 returns-5 : tie.Need-returns-5
 returns-5 c =
     let a = c .before .before .args in
     let x = c .before .match .rest in
-    step-none (c .empty .result) (a .kind) (a .a) (a .b) (x .0 .0 .0 .1) (x .0 .0 .1) (x .0 .1) (x .1) (c .empty .ensures)
+    step-none (c .empty .result) (a .kind) (a .a .0) (a .b .0) (x .0 .0 .0 .1) (x .0 .0 .1) (x .0 .1) (x .1) (c .empty .ensures)
 
 pub step-line-spec : {M : Type 1} → statement M
 step-line-spec =

@@ -27,4 +27,10 @@ returns-2 c = search needs
 
 pub concurrent-runs-spec : {M : Type 1} → statement M
 concurrent-runs-spec =
-    tie.close (tie.spec is-broken-requires returns concurrent-held-requires same-length returns-2)
+    tie.close
+    (tie.spec
+    is-broken-requires
+    returns
+    concurrent-held-requires
+    same-length
+    returns-2)

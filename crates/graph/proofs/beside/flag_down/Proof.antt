@@ -11,10 +11,10 @@ use Rattle.graph.proofs.beside.flag_down.Statement.{statement}
 use Rattle.graph.proofs.beside.flag_down.Tie as tie
 
 abbrev Inv-loop : tie.InvT-loop
-Inv-loop flags₀ starts items n end c₀ flags c = (length flags ≡ length flags₀) × ((c ≤ end) × (flagDown (row starts items) flags c ≡ flagDown (row starts items) flags₀ c₀))
+Inv-loop flags₀ starts items n c₀ flags c = (length flags ≡ length flags₀) × ((c ≤ c₀) × (flagDown (row starts items) flags c ≡ flagDown (row starts items) flags₀ c₀))
 
 abbrev μ-loop : tie.MeasureT-loop
-μ-loop flags₀ starts items n end c₀ flags c = c
+μ-loop flags₀ starts items n c₀ flags c = c
 
 loop-holds : tie.Need-loop-holds Inv-loop μ-loop
 loop-holds c = (refl, (omega arith, refl))

@@ -12,7 +12,7 @@ use Rattle.graph.proofs.beside.flag_of.Statement.{statement}
 use Rattle.graph.proofs.beside.flag_of.Tie as tie
 
 abbrev Inv-loop : tie.InvT-loop
-Inv-loop flags run items from to i₀ i = any (flagged flags run) (part i₀ to items) ≡ any (flagged flags run) (part i to items)
+Inv-loop flags run items from to i₀ i = any (flagged flags (run .0)) (part i₀ to items) ≡ any (flagged flags (run .0)) (part i to items)
 
 abbrev μ-loop : tie.MeasureT-loop
 μ-loop flags run items from to i₀ i = to - i
@@ -20,11 +20,11 @@ abbrev μ-loop : tie.MeasureT-loop
 loop-holds : tie.Need-loop-holds Inv-loop μ-loop
 loop-holds c = refl
 
-mul-is-flagged : tie.Need-mul-is-flagged Inv-loop μ-loop
-mul-is-flagged c = search needs
+mul-t9 : tie.Need-mul-t9 Inv-loop μ-loop
+mul-t9 c = search needs
 
-shared-slice-read-is-flagged : tie.Need-shared-slice-read-is-flagged Inv-loop μ-loop
-shared-slice-read-is-flagged c = search needs
+shared-slice-read-t11 : tie.Need-shared-slice-read-t11 Inv-loop μ-loop
+shared-slice-read-t11 c = search needs
 
 is-flagged-requires : tie.Need-is-flagged-requires Inv-loop μ-loop
 is-flagged-requires c κs = search needs
@@ -34,7 +34,7 @@ returns c =
     let a = c .before .before .before .before .before .before .before .args in
     let p = c .before .before .before .before .before .before .before .pre in
     let l = c .before .before .before .before .loop in
-    ap bit (found (flagged (a .flags .now) (a .run) (getD (a .items .now) (l .i) 0)) (any (flagged (a .flags .now) (a .run)) (part (l .i + 1) (a .to) (a .items .now))) (l .inv) (any-next (a .items .now) (a .to) (p) (l .i) (flagged (a .flags .now) (a .run)) (c .before .before .before .loop-test .taken)) (sym (c .before .is-flagged .ensures) ∙ c .if1 .taken))
+    ap bit (found (flagged (a .flags .now) (a .run .0) (getD (a .items .now) (l .i) 0)) (any (flagged (a .flags .now) (a .run .0)) (part (l .i + 1) (a .to) (a .items .now))) (l .inv) (any-next (a .items .now) (a .to) (p) (l .i) (flagged (a .flags .now) (a .run .0)) (c .before .before .before .loop-test .taken)) (sym (c .before .is-flagged .ensures) ∙ c .if1 .taken))
 
 add-i : tie.Need-add-i Inv-loop μ-loop
 add-i c = search needs
@@ -47,14 +47,14 @@ loop-again c =
     let a = c .before .before .before .before .before .before .before .args in
     let p = c .before .before .before .before .before .before .before .pre in
     let l = c .before .before .before .before .loop in
-    missed (flagged (a .flags .now) (a .run) (getD (a .items .now) (l .i) 0)) (any (flagged (a .flags .now) (a .run)) (part (l .i + 1) (a .to) (a .items .now))) (l .inv) (any-next (a .items .now) (a .to) (p) (l .i) (flagged (a .flags .now) (a .run)) (c .before .before .before .loop-test .taken)) (sym (c .before .is-flagged .ensures) ∙ c .if1 .left)
+    missed (flagged (a .flags .now) (a .run .0) (getD (a .items .now) (l .i) 0)) (any (flagged (a .flags .now) (a .run .0)) (part (l .i + 1) (a .to) (a .items .now))) (l .inv) (any-next (a .items .now) (a .to) (p) (l .i) (flagged (a .flags .now) (a .run .0)) (c .before .before .before .loop-test .taken)) (sym (c .before .is-flagged .ensures) ∙ c .if1 .left)
 
 returns-2 : tie.Need-returns-2 Inv-loop μ-loop
 returns-2 c =
     let a = c .before .before .before .before .args in
     let p = c .before .before .before .before .pre in
     let l = c .before .loop in
-    sym (ap bit (l .inv ∙ any-none (a .items .now) (a .to) (p) (l .i) (flagged (a .flags .now) (a .run)) (c .loop-test .left)))
+    sym (ap bit (l .inv ∙ any-none (a .items .now) (a .to) (p) (l .i) (flagged (a .flags .now) (a .run .0)) (c .loop-test .left)))
 
 pub flag-of-spec : {M : Type 1} → statement M
 flag-of-spec =
@@ -63,8 +63,8 @@ flag-of-spec =
     Inv-loop
     μ-loop
     loop-holds
-    mul-is-flagged
-    shared-slice-read-is-flagged
+    mul-t9
+    shared-slice-read-t11
     is-flagged-requires
     returns
     add-i

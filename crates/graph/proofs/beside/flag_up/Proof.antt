@@ -11,16 +11,22 @@ use Rattle.graph.proofs.beside.flag_up.Statement.{statement}
 use Rattle.graph.proofs.beside.flag_up.Tie as tie
 
 abbrev Inv-loop : tie.InvT-loop
-Inv-loop flags₀ run starts items n from q₀ flags q = (length flags ≡ length flags₀) × (flagUp (row starts items) run flags q (n - q) ≡ flagUp (row starts items) run flags₀ q₀ (n - q₀))
+Inv-loop flags₀ run starts items n q₀ flags q = (length flags ≡ length flags₀) × (flagUp (row starts items) (run .0) flags q (n - q) ≡ flagUp (row starts items) (run .0) flags₀ q₀ (n - q₀))
 
 abbrev μ-loop : tie.MeasureT-loop
-μ-loop flags₀ run starts items n from q₀ flags q = n - q
+μ-loop flags₀ run starts items n q₀ flags q = n - q
+
+cast-q : tie.Need-cast-q Inv-loop μ-loop
+cast-q c = search needs
 
 loop-holds : tie.Need-loop-holds Inv-loop μ-loop
 loop-holds c = (refl, refl)
 
+cast-t12 : tie.Need-cast-t12 Inv-loop μ-loop
+cast-t12 c = omega (arith, c .before .before .before .before .before .before .before .pre .0 .few)
+
 flag-child-requires : tie.Need-flag-child-requires Inv-loop μ-loop
-flag-child-requires c κs = (c .before .before .before .before .before .before .pre .0, (omega arith, omega arith))
+flag-child-requires c κs = (c .before .before .before .before .before .before .before .pre .0, (omega arith, omega arith))
 
 add-q : tie.Need-add-q Inv-loop μ-loop
 add-q c = search needs
@@ -30,17 +36,17 @@ loop-less c = search needs
 
 loop-again : tie.Need-loop-again Inv-loop μ-loop
 loop-again c =
-    let a = c .before .before .before .before .before .before .before .before .before .args in
-    (c .before .before .flag-child .kept .0 ∙ c .before .before .before .before .before .loop .inv .0, ap (λ (l : List ℕ). flagUp (row (a .starts .now) (a .items .now)) (a .run) l (c .before .before .before .before .before .loop .q + 1) (a .n - (c .before .before .before .before .before .loop .q + 1))) (c .before .before .flag-child .ensures) ∙ (up-next (row (a .starts .now) (a .items .now)) (a .run) (c .before .before .before .before .before .loop .flags) (c .before .before .before .before .before .loop .q) (a .n) (c .before .before .before .before .loop-test .taken) ∙ c .before .before .before .before .before .loop .inv .1))
+    let a = c .before .before .before .before .before .before .before .before .before .before .args in
+    (c .before .before .flag-child .kept .0 ∙ c .before .before .before .before .before .loop .inv .0, ap (λ (l : List ℕ). flagUp (row (a .starts .now) (a .items .now)) (a .run .0) l (c .before .before .before .before .before .loop .q + 1) (a .n - (c .before .before .before .before .before .loop .q + 1))) (c .before .before .flag-child .ensures) ∙ (up-next (row (a .starts .now) (a .items .now)) (a .run .0) (c .before .before .before .before .before .loop .flags) (c .before .before .before .before .before .loop .q) (a .n) (c .before .before .before .before .loop-test .taken) ∙ c .before .before .before .before .before .loop .inv .1))
 
 same-length : tie.Need-same-length Inv-loop μ-loop
 same-length c = c .before .loop .inv .0
 
 returns : tie.Need-returns Inv-loop μ-loop
 returns c =
-    let a = c .before .before .before .before .before .args in
+    let a = c .before .before .before .before .before .before .args in
     let l = c .before .loop in
-    sym (up-none (row (a .starts .now) (a .items .now)) (a .run) (l .flags) (l .q) (a .n) (c .loop-test .left)) ∙ l .inv .1
+    sym (up-none (row (a .starts .now) (a .items .now)) (a .run .0) (l .flags) (l .q) (a .n) (c .loop-test .left)) ∙ l .inv .1
 
 pub flag-up-spec : {M : Type 1} → statement M
 flag-up-spec =
@@ -48,7 +54,9 @@ flag-up-spec =
     (tie.spec
     Inv-loop
     μ-loop
+    cast-q
     loop-holds
+    cast-t12
     flag-child-requires
     add-q
     loop-less

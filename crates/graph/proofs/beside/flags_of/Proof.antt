@@ -12,6 +12,12 @@ use Rattle.graph.proofs.ConcurrentWays.{kept-room, passes-flag}
 use Rattle.graph.proofs.beside.flags_of.Statement.{statement}
 use Rattle.graph.proofs.beside.flags_of.Tie as tie
 
+cast-at : tie.Need-cast-at
+cast-at c = search needs
+
+add-t8 : tie.Need-add-t8
+add-t8 c = omega (arith, c .before .before .pre .1, facts (c .before .before .args .t1) (c .before .before .pre .0) .runs)
+
 nothing-requires : tie.Need-nothing-requires
 nothing-requires c κs = search needs
 
@@ -19,49 +25,43 @@ mul-f : tie.Need-mul-f
 mul-f c = search needs
 
 array-write-f : tie.Need-array-write-f
-array-write-f c = omega (arith, facts (c .before .before .args .t1) (c .before .before .pre .0) .runs)
+array-write-f c = omega (arith, facts (c .before .before .before .before .args .t1) (c .before .before .before .before .pre .0) .runs)
 
 slice-aggregate-flag-down : tie.Need-slice-aggregate-flag-down
 slice-aggregate-flag-down c = search needs
 
-add-flag-down : tie.Need-add-flag-down
-add-flag-down c = search needs
-
 flag-down-requires : tie.Need-flag-down-requires
 flag-down-requires c κs =
-    let a = c .before .before .before .before .before .before .before .before .args in
-    let p = c .before .before .before .before .before .before .before .before .pre in
-    (rows-of (a .t1) (p .0), (kept-room (c .before .before .before .before .before .before .before .nothing .result) (a .run) (a .t1 .«run_count») (c .before .before .before .before .before .before .before .nothing .ensures) (facts (a .t1) (p .0) .runs), omega arith))
+    let a = c .before .before .before .before .before .before .before .before .before .before .args in
+    let p = c .before .before .before .before .before .before .before .before .before .before .pre in
+    (rows-of (a .t1) (p .0), (kept-room (c .before .before .before .before .before .before .before .nothing .result) (a .run .0) (a .t1 .«run_count») (c .before .before .before .before .before .before .before .nothing .ensures) (facts (a .t1) (p .0) .runs), omega arith))
 
 slice-aggregate-flag-up : tie.Need-slice-aggregate-flag-up
 slice-aggregate-flag-up c = search needs
 
-add-flag-up : tie.Need-add-flag-up
-add-flag-up c = search needs
-
 flag-up-requires : tie.Need-flag-up-requires
 flag-up-requires c κs =
-    let a = c .before .before .before .before .before .before .before .before .before .before .before .before .before .before .before .before .args in
-    let p = c .before .before .before .before .before .before .before .before .before .before .before .before .before .before .before .before .pre in
+    let a = c .before .before .before .before .before .before .before .before .before .before .before .before .before .before .before .before .before .before .args in
+    let p = c .before .before .before .before .before .before .before .before .before .before .before .before .before .before .before .before .before .before .pre in
     (rows-of (a .t1) (p .0), omega (arith, facts (a .t1) (p .0) .runs))
 
 returns : tie.Need-returns
 returns c =
-    let a = c .before .before .before .before .before .before .before .before .before .before .before .before .before .before .before .before .before .before .args in
-    let p = c .before .before .before .before .before .before .before .before .before .before .before .before .before .before .before .before .before .before .pre in
-    subst (λ (l : List ℕ). Flags (view (a .t1)) (a .run) l) (sym (c .before .flag-up .ensures ∙ ap (λ (l : List ℕ). flagUp (row (a .t1 .«parent_starts») (a .t1 .parents)) (a .run) l (a .run + 1) (a .t1 .«run_count» - (a .run + 1))) (c .before .before .before .before .before .before .before .before .before .flag-down .ensures))) (passes-flag (a .t1) (p .0) (a .run) (p .1) (c .before .before .before .before .before .before .before .before .before .before .before .before .before .before .before .before .before .nothing .result) (c .before .before .before .before .before .before .before .before .before .before .before .before .before .before .before .before .before .nothing .ensures))
+    let a = c .before .before .before .before .before .before .before .before .before .before .before .before .before .before .before .before .before .before .before .before .args in
+    let p = c .before .before .before .before .before .before .before .before .before .before .before .before .before .before .before .before .before .before .before .before .pre in
+    subst (λ (l : List ℕ). Flags (view (a .t1)) (a .run .0) l) (sym (c .before .flag-up .ensures ∙ ap (λ (l : List ℕ). flagUp (row (a .t1 .«parent_starts») (a .t1 .parents)) (a .run .0) l (a .run .0 + 1) (a .t1 .«run_count» - (a .run .0 + 1))) (c .before .before .before .before .before .before .before .before .before .flag-down .ensures))) (passes-flag (a .t1) (p .0) (a .run .0) (p .1) (c .before .before .before .before .before .before .before .before .before .before .before .before .before .before .before .before .before .nothing .result) (c .before .before .before .before .before .before .before .before .before .before .before .before .before .before .before .before .before .nothing .ensures))
 
 pub flags-of-spec : {M : Type 1} → statement M
 flags-of-spec =
     tie.close
     (tie.spec
+    cast-at
+    add-t8
     nothing-requires
     mul-f
     array-write-f
     slice-aggregate-flag-down
-    add-flag-down
     flag-down-requires
     slice-aggregate-flag-up
-    add-flag-up
     flag-up-requires
     returns)

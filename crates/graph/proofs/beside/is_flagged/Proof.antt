@@ -5,12 +5,15 @@ use Rattle.graph.proofs.beside.is_flagged.Statement.{statement}
 use Rattle.graph.proofs.beside.is_flagged.Tie as tie
 
 returns : tie.Need-returns
-returns c = flagged-low (c .before .args .flags .now) (c .before .args .run) (c .before .args .p) (c .if1 .taken)
+returns c = flagged-low (c .before .before .before .args .flags .now) (c .before .before .before .args .run .0) (c .before .before .before .args .p .0) (c .if1 .taken)
+
+cast-at : tie.Need-cast-at
+cast-at c = search needs
 
 returns-2 : tie.Need-returns-2
 returns-2 c =
-    let a = c .before .before .args in
-    flagged-out (a .flags .now) (a .run) (a .p) (c .before .if1 .left) (c .if2 .taken)
+    let a = c .before .before .before .before .before .args in
+    flagged-out (a .flags .now) (a .run .0) (a .p .0) (c .before .before .if1 .left) (c .if2 .taken)
 
 mul-result : tie.Need-mul-result
 mul-result c = search needs
@@ -20,9 +23,16 @@ shared-slice-read-result c = search needs
 
 returns-3 : tie.Need-returns-3
 returns-3 c =
-    let a = c .before .before .before .args in
-    flagged-is (a .flags .now) (a .run) (a .p) (c .before .before .if1 .left)
+    let a = c .before .before .before .before .before .before .args in
+    flagged-is (a .flags .now) (a .run .0) (a .p .0) (c .before .before .before .if1 .left)
 
 pub is-flagged-spec : {M : Type 1} → statement M
 is-flagged-spec =
-    tie.close (tie.spec returns returns-2 mul-result shared-slice-read-result returns-3)
+    tie.close
+    (tie.spec
+    returns
+    cast-at
+    returns-2
+    mul-result
+    shared-slice-read-result
+    returns-3)

@@ -19,8 +19,8 @@ abbrev μ-loop : tie.MeasureT-loop
 loop-holds : tie.Need-loop-holds Inv-loop μ-loop
 loop-holds c = (refl, refl)
 
-cast-put-free : tie.Need-cast-put-free Inv-loop μ-loop
-cast-put-free c = search needs
+cast-t9 : tie.Need-cast-t9 Inv-loop μ-loop
+cast-t9 c = search needs
 
 mul-put-free : tie.Need-mul-put-free Inv-loop μ-loop
 mul-put-free c = search needs
@@ -58,7 +58,7 @@ put-all-free-spec =
     Inv-loop
     μ-loop
     loop-holds
-    cast-put-free
+    cast-t9
     mul-put-free
     shared-slice-read-put-free
     put-free-requires

@@ -20,4 +20,10 @@ returns-2 : tie.Need-returns-2
 returns-2 c = rw (ne-eqb (c .before .before .args .flag) 0 (c .if1 .left))
 
 pub put-free-spec : {M : Type 1} → statement M
-put-free-spec = tie.close (tie.spec put-one-requires same-length returns returns-2)
+put-free-spec =
+    tie.close
+    (tie.spec
+    put-one-requires
+    same-length
+    returns
+    returns-2)

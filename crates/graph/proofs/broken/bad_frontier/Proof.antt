@@ -56,14 +56,14 @@ returns-4 c =
     let d = told (c₂ .before .all-below .ensures) (not-false _ (c₂ .if2 .left)) in
     no-frontier (g .«run_count») (getD (g .starts) (g .«run_count») 0) (g .«frontier_count») (g .frontier) (search needs) e d (c₃ .if3 .left) (c .if4 .taken)
 
-sub-is-next : tie.Need-sub-is-next
-sub-is-next c = search needs
+sub-t6 : tie.Need-sub-t6
+sub-t6 c = search needs
 
-mul-is-next : tie.Need-mul-is-next
-mul-is-next c = search needs
+mul-t16 : tie.Need-mul-t16
+mul-t16 c = search needs
 
-element-copy-out-is-next : tie.Need-element-copy-out-is-next
-element-copy-out-is-next c = search needs
+element-copy-out-t9 : tie.Need-element-copy-out-t9
+element-copy-out-t9 c = search needs
 
 is-next-requires : tie.Need-is-next-requires
 is-next-requires c κs = search needs
@@ -92,8 +92,8 @@ bad-frontier-spec =
     returns-2
     returns-3
     returns-4
-    sub-is-next
-    mul-is-next
-    element-copy-out-is-next
+    sub-t6
+    mul-t16
+    element-copy-out-t9
     is-next-requires
     returns-5)

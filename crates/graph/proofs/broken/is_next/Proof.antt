@@ -11,7 +11,12 @@ sub-result : tie.Need-sub-result
 sub-result c = search needs
 
 returns-2 : tie.Need-returns-2
-returns-2 c = next-is _ _ (c .if1 .left)
+returns-2 c = next-is _ _ (c .before .before .if1 .left)
 
 pub is-next-spec : {M : Type 1} → statement M
-is-next-spec = tie.close (tie.spec returns sub-result returns-2)
+is-next-spec =
+    tie.close
+    (tie.spec
+    returns
+    sub-result
+    returns-2)

@@ -11,7 +11,7 @@ is-single-requires c κs = search needs
 returns : tie.Need-returns
 returns c =
     let a = c .before .before .before .args in
-    sym (on-single (a .s, a .list .now) (a .a) (a .b) (sym (c .before .is-single .ensures) ∙ c .if1 .taken))
+    sym (on-single (a .s, a .list .now) (a .a .0) (a .b .0) (sym (c .before .is-single .ensures) ∙ c .if1 .taken))
 
 put-linear-requires : tie.Need-put-linear-requires
 put-linear-requires c κs = search needs
@@ -24,8 +24,8 @@ same-length c = search needs
 
 returns-2 : tie.Need-returns-2
 returns-2 c =
-    let a = c .before .before .before .before .before .before .before .before .before .before .before .before .args in
-    on-closed (a .s, a .list .now) (a .a) (a .b) (sym (c .before .before .before .before .before .before .before .before .before .before .is-single .ensures) ∙ c .before .before .before .before .before .before .before .before .before .if1 .left) _ _ _ _ (c .before .before .before .before .before .before .put-linear .ensures) (c .before .before .put-three .ensures)
+    let a = c .before .before .before .before .before .before .before .before .before .before .before .before .before .args in
+    on-closed (a .s, a .list .now) (a .a .0) (a .b .0) (sym (c .before .before .before .before .before .before .before .before .before .before .before .is-single .ensures) ∙ c .before .before .before .before .before .before .before .before .before .before .if1 .left) _ _ _ _ (c .before .before .before .before .before .before .put-linear .ensures) (c .before .before .put-three .ensures)
 
 pub cut-on-spec : {M : Type 1} → statement M
 cut-on-spec =

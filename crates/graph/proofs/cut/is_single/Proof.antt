@@ -11,7 +11,12 @@ sub-result : tie.Need-sub-result
 sub-result c = search needs
 
 returns-2 : tie.Need-returns-2
-returns-2 c = single-is (c .before .args .a) (c .before .args .b) (c .if1 .left)
+returns-2 c = single-is (c .before .before .before .before .before .args .a .0) (c .before .before .before .before .before .args .b .0) (c .before .before .if1 .left)
 
 pub is-single-spec : {M : Type 1} → statement M
-is-single-spec = tie.close (tie.spec returns sub-result returns-2)
+is-single-spec =
+    tie.close
+    (tie.spec
+    returns
+    sub-result
+    returns-2)

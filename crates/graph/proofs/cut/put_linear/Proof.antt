@@ -13,13 +13,19 @@ same-length c = search needs
 
 returns : tie.Need-returns
 returns c =
-    let a = c .before .before .before .before .before .before .args in
-    c .before .before .put-three .ensures ∙ sym (linear-put (a .p, a .list .now) (a .first) (a .end) (c .before .before .before .before .if1 .taken))
+    let a = c .before .before .before .before .before .before .before .before .args in
+    c .before .before .put-three .ensures ∙ sym (linear-put (a .p, a .list .now) (a .first .0) (a .end .0) (c .before .before .before .before .if1 .taken))
 
 returns-2 : tie.Need-returns-2
 returns-2 c =
-    let a = c .before .before .args in
-    sym (linear-none (a .p, a .list .now) (a .first) (a .end) (c .if1 .left))
+    let a = c .before .before .before .before .args in
+    sym (linear-none (a .p, a .list .now) (a .first .0) (a .end .0) (c .if1 .left))
 
 pub put-linear-spec : {M : Type 1} → statement M
-put-linear-spec = tie.close (tie.spec put-three-requires same-length returns returns-2)
+put-linear-spec =
+    tie.close
+    (tie.spec
+    put-three-requires
+    same-length
+    returns
+    returns-2)

@@ -27,4 +27,10 @@ returns-2 c = search needs
 
 pub split-at-critical-versions-from-spec : {M : Type 1} → statement M
 split-at-critical-versions-from-spec =
-    tie.close (tie.spec is-broken-requires returns cut-held-requires same-length returns-2)
+    tie.close
+    (tie.spec
+    is-broken-requires
+    returns
+    cut-held-requires
+    same-length
+    returns-2)

@@ -28,7 +28,7 @@ zeros-512-requires-2 c κs = search needs
 returns : tie.Need-returns
 returns c =
     let a = c .before .before .before .before .before .before .before .args in
-    fresh-stored (a .events) (a .frontier .now) _ _ _ _ _ _
+    fresh-stored (a .events .0) (a .frontier .now) _ _ _ _ _ _
     (c .before .before .before .before .before .zeros-513 .ensures) (c .before .before .before .before .zeros-5132 .ensures) (c .before .before .before .zeros-2048 .ensures)
     (c .before .before .padded-512 .ensures) (c .before .zeros-512 .ensures) (c .zeros-5122 .ensures)
 

@@ -23,4 +23,9 @@ returns c = c .fresh-held .ensures
 pub new-spec : {M : Type 1} → statement M
 new-spec =
     tie.close
-    (tie.spec sub-fresh-held part-fresh-held-start part-fresh-held-end fresh-held-requires returns)
+    (tie.spec
+    sub-fresh-held
+    part-fresh-held-start
+    part-fresh-held-end
+    fresh-held-requires
+    returns)

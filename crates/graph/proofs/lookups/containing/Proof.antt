@@ -2,7 +2,7 @@
 use mathlib.Core.Path.{sym, _∙_}
 use native.Mathlib.Omega.{arith}
 use borrow.Author.Needs.{needs}
-use Rattle.model.specs.Lookups.{runOr, containingOf}
+use Rattle.model.specs.Lookups.{containingOf}
 use Rattle.model.proofs.Stored.{held-of}
 use Rattle.graph.proofs.Views.{facts}
 use Rattle.graph.proofs.Looking.{look-broken, look-outside, look-done, outside-before, outside-past, outside-not, found-run, found-in}
@@ -13,14 +13,14 @@ is-broken-requires : tie.Need-is-broken-requires
 is-broken-requires c κs = search needs
 
 returns : tie.Need-returns
-unfolding containingOf runOr
+unfolding containingOf
 returns c = rw (look-broken (c .before .before .args .t1) (sym (c .before .is-broken .ensures) ∙ c .if1 .taken))
 
 element-copy-out-if2 : tie.Need-element-copy-out-if2
 element-copy-out-if2 c = search needs
 
 returns-2 : tie.Need-returns-2
-unfolding containingOf runOr
+unfolding containingOf
 returns-2 c =
     let p = c .before .before in
     let g = p .before .before .args .t1 in
@@ -42,7 +42,7 @@ element-copy-out-if3 c =
     omega (arith, facts g held .runs)
 
 returns-3 : tie.Need-returns-3
-unfolding containingOf runOr
+unfolding containingOf
 returns-3 c =
     let p = c .before .before .before .before in
     let g = p .before .before .args .t1 in
@@ -64,7 +64,7 @@ cast-t12 c =
     omega (arith, c .last-at-most .ensures, found-in g held (p .before .before .args .event .0) (c .before .before .before .before .before .before .if2 .left) (c .before .before .before .before .if3 .left))
 
 returns-4 : tie.Need-returns-4
-unfolding containingOf runOr
+unfolding containingOf
 returns-4 c =
     let p = c .before .before .before .before .before .before .before .before in
     let g = p .before .before .args .t1 in

@@ -7,7 +7,7 @@ use borrow.Author.Needs.{needs}
 use borrow.Author.Tests.{le-leb, lt-leb}
 use Rattle.model.specs.Graph.{runs}
 use Rattle.model.specs.Record.{view}
-use Rattle.model.specs.Lookups.{eventsOr, eventsOf}
+use Rattle.model.specs.Lookups.{eventsOf}
 use Rattle.model.proofs.Stored.{held-of}
 use Rattle.graph.proofs.Views.{facts, runs-view, start-view}
 use Rattle.graph.proofs.Looking.{look-broken, look-outside, look-done}
@@ -18,14 +18,14 @@ is-broken-requires : tie.Need-is-broken-requires
 is-broken-requires c κs = search needs
 
 returns : tie.Need-returns
-unfolding eventsOf eventsOr
+unfolding eventsOf
 returns c = rw (look-broken (c .before .before .args .t1) (sym (c .before .is-broken .ensures) ∙ c .if1 .taken))
 
 cast-n : tie.Need-cast-n
 cast-n c = search needs
 
 returns-2 : tie.Need-returns-2
-unfolding eventsOf eventsOr
+unfolding eventsOf
 returns-2 c =
     let p = c .before .before in
     let g = p .before .before .args .t1 in
@@ -57,7 +57,7 @@ element-copy-out-t19 c =
     omega (arith, facts g held .runs)
 
 returns-3 : tie.Need-returns-3
-unfolding eventsOf eventsOr
+unfolding eventsOf
 returns-3 c =
     let p = c .before .before .before .before in
     let g = p .before .before .args .t1 in

@@ -1,7 +1,7 @@
 -- `graph::lookups::first_held_event` meets its contract: its read is one of the graph. Assumes nothing.
 use mathlib.Core.Path.{refl, sym, _∙_}
 use borrow.Author.Needs.{needs}
-use Rattle.model.specs.Lookups.{eventOr, firstHeldEventOf}
+use Rattle.model.specs.Lookups.{firstHeldEventOf}
 use Rattle.model.proofs.Stored.{held-of}
 use Rattle.graph.proofs.Views.{first-view}
 use Rattle.graph.proofs.Looking.{look-broken, look-done}
@@ -12,14 +12,14 @@ is-broken-requires : tie.Need-is-broken-requires
 is-broken-requires c κs = search needs
 
 returns : tie.Need-returns
-unfolding firstHeldEventOf eventOr
+unfolding firstHeldEventOf
 returns c = rw (look-broken (c .before .before .args .t1) (sym (c .before .is-broken .ensures) ∙ c .if1 .taken))
 
 element-copy-out-t8 : tie.Need-element-copy-out-t8
 element-copy-out-t8 c = search needs
 
 returns-2 : tie.Need-returns-2
-unfolding firstHeldEventOf eventOr
+unfolding firstHeldEventOf
 returns-2 c =
     let p = c .before in
     let g = p .before .before .args .t1 in

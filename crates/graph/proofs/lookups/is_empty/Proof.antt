@@ -1,7 +1,7 @@
 -- `graph::lookups::is_empty` meets its contract: the run count is the number of runs. Assumes nothing.
 use mathlib.Core.Path.{refl, sym, _∙_}
 use borrow.Author.Needs.{needs}
-use Rattle.model.specs.Lookups.{boolOr, isEmptyOf}
+use Rattle.model.specs.Lookups.{isEmptyOf}
 use Rattle.model.proofs.Stored.{held-of}
 use Rattle.graph.proofs.Views.{runs-view}
 use Rattle.graph.proofs.Looking.{look-broken, look-done}
@@ -12,11 +12,11 @@ is-broken-requires : tie.Need-is-broken-requires
 is-broken-requires c κs = search needs
 
 returns : tie.Need-returns
-unfolding isEmptyOf boolOr
+unfolding isEmptyOf
 returns c = rw (look-broken (c .before .before .args .g) (sym (c .before .is-broken .ensures) ∙ c .if1 .taken))
 
 returns-2 : tie.Need-returns-2
-unfolding isEmptyOf boolOr
+unfolding isEmptyOf
 returns-2 c =
     let p = c .before in
     let g = p .before .before .args .g in

@@ -2,7 +2,7 @@
 use mathlib.Core.Path.{refl, sym, _∙_}
 use native.Mathlib.Omega.{arith}
 use borrow.Author.Needs.{needs}
-use Rattle.model.specs.Lookups.{eventOr, lenOf}
+use Rattle.model.specs.Lookups.{lenOf}
 use Rattle.model.proofs.Stored.{held-of}
 use Rattle.graph.proofs.Views.{facts, len-view}
 use Rattle.graph.proofs.Looking.{look-broken, look-done}
@@ -13,7 +13,7 @@ is-broken-requires : tie.Need-is-broken-requires
 is-broken-requires c κs = search needs
 
 returns : tie.Need-returns
-unfolding lenOf eventOr
+unfolding lenOf
 returns c = rw (look-broken (c .before .before .args .t1) (sym (c .before .is-broken .ensures) ∙ c .if1 .taken))
 
 mul-t7 : tie.Need-mul-t7
@@ -29,7 +29,7 @@ element-copy-out-t10 c =
     omega (arith, facts g held .runs)
 
 returns-2 : tie.Need-returns-2
-unfolding lenOf eventOr
+unfolding lenOf
 returns-2 c =
     let p = c .before in
     let g = p .before .before .args .t1 in

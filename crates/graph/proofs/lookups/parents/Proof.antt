@@ -8,7 +8,10 @@ use borrow.Author.Tests.{le-leb, lt-leb}
 use Rattle.lists.specs.Areas.{pad, part}
 use Rattle.model.specs.Graph.{runs}
 use Rattle.model.specs.Record.{view}
-use Rattle.model.specs.Lookups.{listedOr, parentsOf}
+use Rattle.model.specs.declared.answers.ParentRuns.{ParentRuns}
+use Rattle.model.specs.declared.answers.Outcome.the-variants.{Done}
+use Rattle.model.specs.Answers.{listed, parentRunsOr}
+use Rattle.model.specs.Lookups.{parentsOf}
 use Rattle.model.proofs.Stored.{held-of}
 use Rattle.graph.proofs.Views.{facts, runs-view}
 use Rattle.graph.proofs.Looking.{look-broken, look-outside, look-done, group-bounds, group-end, group-view, group-short, group-count, listed-done}
@@ -18,29 +21,29 @@ use Rattle.graph.proofs.lookups.parents.Tie as tie
 is-broken-requires : tie.Need-is-broken-requires
 is-broken-requires c κs = search needs
 
-refused-requires : tie.Need-refused-requires
-refused-requires c κs = search needs
+no-parents-requires : tie.Need-no-parents-requires
+no-parents-requires c κs = search needs
 
 returns : tie.Need-returns
-unfolding parentsOf listedOr
+unfolding parentsOf parentRunsOr listed
 returns c =
     let p = c .before in
-    rw (look-broken (p .before .before .args .t1) (sym (p .before .is-broken .ensures) ∙ p .if1 .taken)) (c .refused .ensures)
+    rw (look-broken (p .before .before .args .t1) (sym (p .before .is-broken .ensures) ∙ p .if1 .taken)) (c .no-parents .ensures)
 
 cast-n : tie.Need-cast-n
 cast-n c = search needs
 
-refused-requires-2 : tie.Need-refused-requires-2
-refused-requires-2 c κs = search needs
+no-parents-requires-2 : tie.Need-no-parents-requires-2
+no-parents-requires-2 c κs = search needs
 
 returns-2 : tie.Need-returns-2
-unfolding parentsOf listedOr
+unfolding parentsOf parentRunsOr listed
 returns-2 c =
     let p = c .before .before .before in
     let g = p .before .before .args .t1 in
     let whole = sym (p .before .is-broken .ensures) ∙ p .if1 .left in
     let held = held-of g (search needs) whole in
-    rw (look-outside g whole _ (le-leb (runs (view g)) (p .before .before .args .run .0) (omega (arith, runs-view g held, c .before .if2 .taken)))) (c .refused2 .ensures)
+    rw (look-outside g whole _ (le-leb (runs (view g)) (p .before .before .args .run .0) (omega (arith, runs-view g held, c .before .if2 .taken)))) (c .no-parents2 .ensures)
 
 add-next : tie.Need-add-next
 add-next c = search needs
@@ -116,7 +119,7 @@ sub-t13 c =
     group-bounds g held (p .before .before .args .run .0) (c .before .before .before .before .before .before .if2 .left) .0
 
 returns-3 : tie.Need-returns-3
-unfolding parentsOf part
+unfolding parentsOf parentRunsOr listed part
 returns-3 c =
     let p = c .before .before .before .before .before .before .before .before in
     let g = p .before .before .args .t1 in
@@ -125,17 +128,19 @@ returns-3 c =
     let held = held-of g (search needs) whole in
     let inside = lt-leb (runs (view g)) r (omega (arith, runs-view g held, c .before .before .before .before .before .before .if2 .left)) in
     let items = c .padded-512 .ensures ∙ ap (pad 512) (sym (group-view g held r (c .before .before .before .before .before .before .if2 .left))) in
-    rw (look-done g whole _ inside) (listed-done _ _ (getD (view g .parents) r []) items (group-count g held r (c .before .before .before .before .before .before .if2 .left)))
+    let count = group-count g held r (c .before .before .before .before .before .before .if2 .left) in
+    rw (look-done g whole _ inside)
+    (listed-done {A = ParentRuns} (λ rs n. record { runs = rs; count = n; outcome = Done }) _ _ (getD (view g .parents) r []) items count)
 
 pub parents-spec : {M : Type 1} → statement M
 parents-spec =
     tie.close
     (tie.spec
     is-broken-requires
-    refused-requires
+    no-parents-requires
     returns
     cast-n
-    refused-requires-2
+    no-parents-requires-2
     returns-2
     add-next
     mul-from

@@ -10,66 +10,56 @@ use Rattle.graph.proofs.pushing.seen_after.Reads as seen-after-reads
 use Rattle.lists.proofs.larger.Reads as larger-reads
 use Rattle.lists.proofs.last_at_most.Reads as last-at-most-reads
 
--- src/pushing.rt:126:12
 element-copy-out-if1 : tie.Need-element-copy-out-if1
 element-copy-out-if1 c = search needs
 
--- src/pushing.rt:127:9
 returns : tie.Need-returns
-returns c = own-no (c .before .before .args .t1) (c .before .before .pre .0) (c .before .before .args .t) (c .before .before .args .p) (c .if1 .taken)
+returns c = own-no (c .before .before .before .args .t1) (c .before .before .before .pre .0) (c .before .before .before .args .t) (c .before .before .before .args .p .0) (c .if1 .taken)
 
--- src/pushing.rt:129:9
 last-at-most-requires : tie.Need-last-at-most-requires
 last-at-most-requires c κs =
-    let a = c .before .before .before .before .before .args in
-    let p = c .before .before .before .before .before .pre in
-    omega (arith, facts (a .t1) (p .0) .runs)
-
--- src/pushing.rt:130:9
-seen-after-requires : tie.Need-seen-after-requires
-seen-after-requires c κs =
     let a = c .before .before .before .before .before .before .args in
     let p = c .before .before .before .before .before .before .pre in
-    (p .0, run-in (a .t1) (p .0) (a .p) _ (c .before .before .before .before .if1 .left) (p .1 .0) (c .last-at-most .ensures) .1)
+    omega (arith, facts (a .t1) (p .0) .runs)
 
--- src/pushing.rt:133:18
-cast-h : tie.Need-cast-h
-cast-h c =
+cast-run : tie.Need-cast-run
+cast-run c =
     let a = c .before .before .before .before .before .before .before .args in
     let p = c .before .before .before .before .before .before .before .pre in
-    omega (arith, facts (a .t1) (p .0) .runs, run-in (a .t1) (p .0) (a .p) _ (c .before .before .before .before .before .if1 .left) (p .1 .0) (c .before .last-at-most .ensures) .1)
+    omega (arith, facts (a .t1) (p .0) .runs, run-in (a .t1) (p .0) (a .p .0) _ (c .before .before .before .before .if1 .left) (p .1 .0) (c .last-at-most .ensures) .1)
 
--- src/pushing.rt:133:5
-mul-h : tie.Need-mul-h
-mul-h c =
+seen-after-requires : tie.Need-seen-after-requires
+seen-after-requires c κs =
     let a = c .before .before .before .before .before .before .before .args in
     let p = c .before .before .before .before .before .before .before .pre in
-    omega (arith, (p .1 .1 (omega (arith, first-view (a .t1) (p .0), c .before .before .before .before .before .if1 .left))))
+    (p .0, run-in (a .t1) (p .0) (a .p .0) _ (c .before .before .before .before .if1 .left) (p .1 .0) (c .last-at-most .ensures) .1)
 
--- src/pushing.rt:133:5
-element-write-h : tie.Need-element-write-h
-element-write-h c =
-    let a = c .before .before .before .before .before .before .before .args in
-    let p = c .before .before .before .before .before .before .before .pre in
-    (p .1 .1 (omega (arith, first-view (a .t1) (p .0), c .before .before .before .before .before .if1 .left)))
-
--- src/pushing.rt:134:15
-add-h : tie.Need-add-h
-add-h c =
-    let a = c .before .before .before .before .before .before .before .args in
-    let p = c .before .before .before .before .before .before .before .pre in
-    omega (arith, (p .1 .1 (omega (arith, first-view (a .t1) (p .0), c .before .before .before .before .before .if1 .left))))
-
--- src/pushing.rt:135:14
 larger-requires : tie.Need-larger-requires
 larger-requires c κs = search needs
 
--- src/pushing.rt:120:1
+mul-h : tie.Need-mul-h
+mul-h c =
+    let a = c .before .before .before .before .before .before .before .before .before .before .args in
+    let p = c .before .before .before .before .before .before .before .before .before .before .pre in
+    omega (arith, (p .1 .1 (omega (arith, first-view (a .t1) (p .0), c .before .before .before .before .before .before .before .if1 .left))))
+
+element-write-h : tie.Need-element-write-h
+element-write-h c =
+    let a = c .before .before .before .before .before .before .before .before .before .before .args in
+    let p = c .before .before .before .before .before .before .before .before .before .before .pre in
+    (p .1 .1 (omega (arith, first-view (a .t1) (p .0), c .before .before .before .before .before .before .before .if1 .left)))
+
+add-h : tie.Need-add-h
+add-h c =
+    let a = c .before .before .before .before .before .before .before .before .before .before .args in
+    let p = c .before .before .before .before .before .before .before .before .before .before .pre in
+    omega (arith, (p .1 .1 (omega (arith, first-view (a .t1) (p .0), c .before .before .before .before .before .before .before .if1 .left))))
+
 returns-2 : tie.Need-returns-2
 returns-2 c =
-    let a = c .before .before .before .before .before .before .before .before .args in
-    let p = c .before .before .before .before .before .before .before .before .pre in
-    own-yes (a .t1) (p .0) (a .t) (a .p) _ _ _ (c .before .before .before .before .before .before .if1 .left) (run-in (a .t1) (p .0) (a .p) _ (c .before .before .before .before .before .before .if1 .left) (p .1 .0) (c .before .before .last-at-most .ensures) .0) (c .before .seen-after .ensures) (c .larger .ensures)
+    let a = c .before .before .before .before .before .before .before .before .before .before .args in
+    let p = c .before .before .before .before .before .before .before .before .before .before .pre in
+    own-yes (a .t1) (p .0) (a .t) (a .p .0) _ _ _ (c .before .before .before .before .before .before .before .if1 .left) (run-in (a .t1) (p .0) (a .p .0) _ (c .before .before .before .before .before .before .before .if1 .left) (p .1 .0) (c .before .before .before .last-at-most .ensures) .0) (c .before .before .seen-after .ensures) (c .larger .ensures)
 
 pub add-own-spec : {M : Type 1} → statement M
 add-own-spec =
@@ -78,10 +68,10 @@ add-own-spec =
     element-copy-out-if1
     returns
     last-at-most-requires
+    cast-run
     seen-after-requires
-    cast-h
+    larger-requires
     mul-h
     element-write-h
     add-h
-    larger-requires
     returns-2)

@@ -8,31 +8,24 @@ use Rattle.graph.proofs.pushing.does_extend.Reads as reads
 use Rattle.graph.proofs.pushing.does_extend.Lts as lts
 use Rattle.graph.proofs.pushing.is_last.Reads as is-last-reads
 
--- src/pushing.rt:56:9
 returns : tie.Need-returns
 returns c = extends-no-runs (c .before .before .args .t1) (c .before .before .pre) _ (c .if1 .taken)
 
--- src/pushing.rt:59:9
 returns-2 : tie.Need-returns-2
 returns-2 c = extends-not-one (c .before .before .before .args .t1) (c .before .before .before .pre) _ (c .before .if1 .left) (c .if2 .taken)
 
--- src/pushing.rt:61:13
-shared-slice-read-is-last : tie.Need-shared-slice-read-is-last
-shared-slice-read-is-last c = search needs
+shared-slice-read-t8 : tie.Need-shared-slice-read-t8
+shared-slice-read-t8 c = search needs
 
--- src/pushing.rt:61:20
-mul-is-last : tie.Need-mul-is-last
-mul-is-last c = omega (arith, facts (c .before .before .before .before .args .t1) (c .before .before .before .before .pre) .runs)
+mul-t6 : tie.Need-mul-t6
+mul-t6 c = omega (arith, facts (c .before .before .before .before .args .t1) (c .before .before .before .before .pre) .runs)
 
--- src/pushing.rt:61:20
-element-copy-out-is-last : tie.Need-element-copy-out-is-last
-element-copy-out-is-last c = omega (arith, facts (c .before .before .before .before .args .t1) (c .before .before .before .before .pre) .runs)
+element-copy-out-t12 : tie.Need-element-copy-out-t12
+element-copy-out-t12 c = omega (arith, facts (c .before .before .before .before .args .t1) (c .before .before .before .before .pre) .runs)
 
--- src/pushing.rt:61:5
 is-last-requires : tie.Need-is-last-requires
 is-last-requires c κs = search needs
 
--- src/pushing.rt:50:1
 returns-3 : tie.Need-returns-3
 returns-3 c =
     let a = c .before .before .before .before .before .before .args in
@@ -45,8 +38,8 @@ does-extend-spec =
     (tie.spec
     returns
     returns-2
-    shared-slice-read-is-last
-    mul-is-last
-    element-copy-out-is-last
+    shared-slice-read-t8
+    mul-t6
+    element-copy-out-t12
     is-last-requires
     returns-3)

@@ -8,55 +8,44 @@ use Rattle.graph.proofs.pushing.grow_last.Reads as reads
 use Rattle.graph.proofs.pushing.grow_last.Lts as lts
 use Rattle.lists.proofs.smaller.Reads as smaller-reads
 
--- src/pushing.rt:98:15
 add-end : tie.Need-add-end
 add-end c = search needs
 
--- src/pushing.rt:100:48
 cast-smaller : tie.Need-cast-smaller
-cast-smaller c = omega (arith, facts (c .before .args .g) (c .before .pre .0) .runs)
+cast-smaller c = omega (arith, facts (c .before .before .args .g) (c .before .before .pre .0) .runs)
 
--- src/pushing.rt:100:48
 sub-smaller : tie.Need-sub-smaller
 sub-smaller c = search needs
 
--- src/pushing.rt:100:33
 smaller-requires : tie.Need-smaller-requires
 smaller-requires c κs = search needs
 
--- src/pushing.rt:102:5
 mul-h : tie.Need-mul-h
-mul-h c = omega (arith, facts (c .before .before .args .g) (c .before .before .pre .0) .runs)
+mul-h c = omega (arith, facts (c .before .before .before .args .g) (c .before .before .before .pre .0) .runs)
 
--- src/pushing.rt:102:5
 element-write-h : tie.Need-element-write-h
-element-write-h c = omega (arith, facts (c .before .before .args .g) (c .before .before .pre .0) .runs)
+element-write-h c = omega (arith, facts (c .before .before .before .args .g) (c .before .before .before .pre .0) .runs)
 
--- src/pushing.rt:103:28
 sub-h : tie.Need-sub-h
 sub-h c = search needs
 
--- src/pushing.rt:103:16
 sub-h-2 : tie.Need-sub-h-2
-sub-h-2 c = omega (arith, some-tip (c .before .before .args .g) (c .before .before .pre .0) (c .before .before .pre .1 .1 .0))
+sub-h-2 c = omega (arith, some-tip (c .before .before .before .args .g) (c .before .before .before .pre .0) (c .before .before .before .pre .1 .1 .0))
 
--- src/pushing.rt:103:5
 mul-h-2 : tie.Need-mul-h-2
-mul-h-2 c = omega (arith, facts (c .before .before .args .g) (c .before .before .pre .0) .tips)
+mul-h-2 c = omega (arith, facts (c .before .before .before .args .g) (c .before .before .before .pre .0) .tips)
 
--- src/pushing.rt:103:5
 element-write-h-2 : tie.Need-element-write-h-2
 element-write-h-2 c =
-    let a = c .before .before .args in
-    let p = c .before .before .pre in
+    let a = c .before .before .before .args in
+    let p = c .before .before .before .pre in
     omega (arith, facts (a .g) (p .0) .tips, some-tip (a .g) (p .0) (p .1 .1 .0))
 
--- src/pushing.rt:88:1
 returns : tie.Need-returns
 returns c =
-    let a = c .before .before .args in
-    let p = c .before .before .pre in
-    grown-stored (a .g) (p .0) (p .1 .1 .0) (a .n) (a .start) _ (p .1 .0) (c .smaller .ensures)
+    let a = c .before .before .before .args in
+    let p = c .before .before .before .pre in
+    grown-stored (a .g) (p .0) (p .1 .1 .0) (a .n) (a .start .0) _ (p .1 .0) (c .smaller .ensures)
 
 pub grow-last-spec : {M : Type 1} → statement M
 grow-last-spec =

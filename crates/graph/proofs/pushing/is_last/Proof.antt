@@ -5,17 +5,19 @@ use Rattle.graph.proofs.pushing.is_last.Tie as tie
 use Rattle.graph.proofs.pushing.is_last.Reads as reads
 use Rattle.graph.proofs.pushing.is_last.Lts as lts
 
--- src/pushing.rt:44:9
 returns : tie.Need-returns
-returns c = last-zero _ _ (c .if1 .taken)
+returns c = last-zero _ _ (c .before .if1 .taken)
 
--- src/pushing.rt:46:10
 sub-result : tie.Need-sub-result
 sub-result c = search needs
 
--- src/pushing.rt:40:1
 returns-2 : tie.Need-returns-2
 returns-2 c = search needs
 
 pub is-last-spec : {M : Type 1} → statement M
-is-last-spec = tie.close (tie.spec returns sub-result returns-2)
+is-last-spec =
+    tie.close
+    (tie.spec
+    returns
+    sub-result
+    returns-2)

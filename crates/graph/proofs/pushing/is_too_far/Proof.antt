@@ -9,7 +9,11 @@ sub-result : tie.Need-sub-result
 sub-result c = search needs
 
 returns : tie.Need-returns
-returns c = far-test (c .args .start) (c .args .len) (omega arith)
+returns c = far-test (c .before .args .start .0) (c .before .args .len) (omega arith)
 
 pub is-too-far-spec : {M : Type 1} → statement M
-is-too-far-spec = tie.close (tie.spec sub-result returns)
+is-too-far-spec =
+    tie.close
+    (tie.spec
+    sub-result
+    returns)

@@ -5,17 +5,19 @@ use Rattle.graph.proofs.pushing.lower.Reads as reads
 use Rattle.graph.proofs.pushing.lower.Lts as lts
 use Rattle.lists.proofs.smaller.Reads as smaller-reads
 
--- src/pushing.rt:180:9
 smaller-requires : tie.Need-smaller-requires
 smaller-requires c κs = search needs
 
--- src/pushing.rt:180:9
 returns : tie.Need-returns
 returns c = rw (c .before .if1 .taken) (c .smaller .ensures)
 
--- src/pushing.rt:176:1
 returns-2 : tie.Need-returns-2
 returns-2 c = search needs
 
 pub lower-spec : {M : Type 1} → statement M
-lower-spec = tie.close (tie.spec smaller-requires returns returns-2)
+lower-spec =
+    tie.close
+    (tie.spec
+    smaller-requires
+    returns
+    returns-2)

@@ -15,24 +15,20 @@ use Rattle.graph.proofs.pushing.lower_all.Lts as lts
 use Rattle.graph.proofs.pushing.lower.Reads as lower-reads
 
 abbrev Inv-loop : tie.InvT-loop
-Inv-loop seen from g c₀ i₀ c i = (i ≤ g .«mark_count») × (lowerAll (view g .starts) seen c (drop i (marks (view g))) ≡ lowerAll (view g .starts) seen from (marks (view g)))
+Inv-loop seen g c₀ i₀ c i = (i ≤ g .«mark_count») × (lowerAll (view g .starts) (seen .0) (c .0) (drop i (marks (view g))) ≡ lowerAll (view g .starts) (seen .0) (c₀ .0) (marks (view g)))
 
 abbrev μ-loop : tie.MeasureT-loop
-μ-loop seen from g c₀ i₀ c i = g .«mark_count» - i
+μ-loop seen g c₀ i₀ c i = g .«mark_count» - i
 
--- src/pushing.rt:192:5
 loop-holds : tie.Need-loop-holds Inv-loop μ-loop
 loop-holds c = (omega arith, refl)
 
--- src/pushing.rt:193:17
 mul-m : tie.Need-mul-m Inv-loop μ-loop
 mul-m c = omega (arith, facts (c .before .before .args .t1) (c .before .before .pre) .marked)
 
--- src/pushing.rt:193:17
 element-copy-out-m : tie.Need-element-copy-out-m Inv-loop μ-loop
 element-copy-out-m c = omega (arith, facts (c .before .before .args .t1) (c .before .before .pre) .marked, c .loop-test .taken)
 
--- src/pushing.rt:194:18
 cast-at : tie.Need-cast-at Inv-loop μ-loop
 cast-at c =
     let a = c .before .before .before .args in
@@ -40,7 +36,6 @@ cast-at c =
     let l = c .before .before .loop in
     omega (arith, facts (a .t1) (p) .runs, mark-in (a .t1) (p) (l .i) (c .before .loop-test .taken))
 
--- src/pushing.rt:195:29
 mul-lower : tie.Need-mul-lower Inv-loop μ-loop
 mul-lower c =
     let a = c .before .before .before .args in
@@ -48,7 +43,6 @@ mul-lower c =
     let l = c .before .before .loop in
     omega (arith, facts (a .t1) (p) .runs, mark-in (a .t1) (p) (l .i) (c .before .loop-test .taken))
 
--- src/pushing.rt:195:29
 element-copy-out-lower : tie.Need-element-copy-out-lower Inv-loop μ-loop
 element-copy-out-lower c =
     let a = c .before .before .before .args in
@@ -56,36 +50,31 @@ element-copy-out-lower c =
     let l = c .before .before .loop in
     omega (arith, facts (a .t1) (p) .runs, mark-in (a .t1) (p) (l .i) (c .before .loop-test .taken))
 
--- src/pushing.rt:195:9
 lower-requires : tie.Need-lower-requires Inv-loop μ-loop
 lower-requires c κs = search needs
 
--- src/pushing.rt:196:9
 add-i : tie.Need-add-i Inv-loop μ-loop
 add-i c =
-    let a = c .before .before .before .before .before .args in
-    let p = c .before .before .before .before .before .pre in
-    omega (arith, facts (a .t1) (p) .marked, c .before .before .before .loop-test .taken)
+    let a = c .before .before .before .before .before .before .args in
+    let p = c .before .before .before .before .before .before .pre in
+    omega (arith, facts (a .t1) (p) .marked, c .before .before .before .before .loop-test .taken)
 
--- src/pushing.rt:192:5
 loop-less : tie.Need-loop-less Inv-loop μ-loop
 loop-less c = search needs
 
--- src/pushing.rt:192:5
 loop-again : tie.Need-loop-again Inv-loop μ-loop
 loop-again c =
-    let a = c .before .before .before .before .before .args in
-    let p = c .before .before .before .before .before .pre in
-    let l = c .before .before .before .before .loop in
-    (omega arith, sym (lower-step (a .t1) (p) (a .seen) (l .c) (l .i) (c .lower .result) (c .before .before .before .loop-test .taken) (c .lower .ensures)) ∙ l .inv .1)
+    let a = c .before .before .before .before .before .before .args in
+    let p = c .before .before .before .before .before .before .pre in
+    let l = c .before .before .before .before .before .loop in
+    (omega arith, sym (lower-step (a .t1) (p) (a .seen .0) (l .c .0) (l .i) (c .lower .result .0) (c .before .before .before .before .loop-test .taken) (c .lower .ensures)) ∙ l .inv .1)
 
--- src/pushing.rt:186:1
 returns : tie.Need-returns Inv-loop μ-loop
 returns c =
     let a = c .before .before .args in
     let p = c .before .before .pre in
     let l = c .before .loop in
-    sym (lower-end (a .t1) (p) (a .seen) (l .c) (l .i) (c .loop-test .left)) ∙ l .inv .1
+    sym (lower-end (a .t1) (p) (a .seen .0) (l .c .0) (l .i) (c .loop-test .left)) ∙ l .inv .1
 
 pub lower-all-spec : {M : Type 1} → statement M
 lower-all-spec =

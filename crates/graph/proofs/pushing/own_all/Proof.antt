@@ -23,34 +23,27 @@ Inv-loop g ps h₀ i₀ h i = (i ≤ length ps) × ((h .count + length (held (vi
 abbrev μ-loop : tie.MeasureT-loop
 μ-loop g ps h₀ i₀ h i = length ps - i
 
--- src/pushing.rt:159:5
 loop-holds : tie.Need-loop-holds Inv-loop μ-loop
 loop-holds c = (omega arith, (c .before .pre .1 .1, refl))
 
--- src/pushing.rt:160:27
-mul-add-own : tie.Need-mul-add-own Inv-loop μ-loop
-mul-add-own c = search needs
+mul-t6 : tie.Need-mul-t6 Inv-loop μ-loop
+mul-t6 c = search needs
 
--- src/pushing.rt:160:27
-shared-slice-read-add-own : tie.Need-shared-slice-read-add-own Inv-loop μ-loop
-shared-slice-read-add-own c = search needs
+shared-slice-read-t9 : tie.Need-shared-slice-read-t9 Inv-loop μ-loop
+shared-slice-read-t9 c = search needs
 
--- src/pushing.rt:160:9
 add-own-requires : tie.Need-add-own-requires Inv-loop μ-loop
 add-own-requires c κs =
     let a = c .before .before .before .before .args in
     let p = c .before .before .before .before .pre in
     let l = c .before .before .loop in (p .0, (below-at _ _ (p .1 .0) _ (getD-mem (a .ps .now) (l .i) 0 (c .before .loop-test .taken)), λ f. own-room (view (a .g)) (a .ps .now) (l .h .count) (l .i) (c .before .loop-test .taken) (l .inv .1 .0) f))
 
--- src/pushing.rt:161:9
 add-i : tie.Need-add-i Inv-loop μ-loop
 add-i c = search needs
 
--- src/pushing.rt:159:5
 loop-less : tie.Need-loop-less Inv-loop μ-loop
 loop-less c = search needs
 
--- src/pushing.rt:159:5
 loop-again : tie.Need-loop-again Inv-loop μ-loop
 loop-again c = let l = c .before .before .before .loop in let a = view (c .before .before .before .before .before .args .g) in let ps = c .before .before .before .before .before .args .ps .now in
     let k = own-count a (l .h) (getD ps (l .i) 0) in
@@ -58,7 +51,6 @@ loop-again c = let l = c .before .before .before .loop in let a = view (c .befor
     let s = held-step a ps (l .i) (c .before .before .loop-test .taken) in
     (omega arith, (omega (arith, k, n, s, l .inv .1 .0), ap (λ (t : Own). ownAll a t (drop (l .i + 1) ps)) (c .add-own .ensures) ∙ sym (own-step a (l .h) ps (l .i) (c .before .before .loop-test .taken)) ∙ l .inv .1 .1))
 
--- src/pushing.rt:151:1
 returns : tie.Need-returns Inv-loop μ-loop
 returns c =
     let a = c .before .before .before .args in
@@ -72,8 +64,8 @@ own-all-spec =
     Inv-loop
     μ-loop
     loop-holds
-    mul-add-own
-    shared-slice-read-add-own
+    mul-t6
+    shared-slice-read-t9
     add-own-requires
     add-i
     loop-less

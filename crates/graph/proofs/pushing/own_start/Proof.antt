@@ -7,11 +7,9 @@ use Rattle.graph.proofs.pushing.own_start.Tie as tie
 use Rattle.graph.proofs.pushing.own_start.Reads as reads
 use Rattle.graph.proofs.pushing.own_start.Lts as lts
 
--- src/pushing.rt:147:15
 element-copy-out-t7 : tie.Need-element-copy-out-t7
 element-copy-out-t7 c = search needs
 
--- src/pushing.rt:139:1
 returns : tie.Need-returns
 returns c =
     let a = c .before .before .args in
@@ -19,4 +17,8 @@ returns c =
     rw (first-view (a .t1) (p), ← parents-pad (a .t1) (p), ← entries-flat (view (a .t1)), entries-view (a .t1) (p))
 
 pub own-start-spec : {M : Type 1} → statement M
-own-start-spec = tie.close (tie.spec element-copy-out-t7 returns)
+own-start-spec =
+    tie.close
+    (tie.spec
+    element-copy-out-t7
+    returns)

@@ -8,21 +8,18 @@ use Rattle.graph.proofs.pushing.pick_seen.Reads as reads
 use Rattle.graph.proofs.pushing.pick_seen.Lts as lts
 use Rattle.lists.proofs.is_same.Reads as is-same-reads
 
--- src/pushing.rt:170:8
 is-same-requires : tie.Need-is-same-requires
 is-same-requires c κs =
     let a = c .before .before .before .before .args in
     let p = c .before .before .before .before .pre in
     (omega arith, omega (arith, facts (a .t1) (p) .tips))
 
--- src/pushing.rt:171:9
 returns : tie.Need-returns
 returns c =
     let a = c .before .before .before .before .before .before .args in
     let p = c .before .before .before .before .before .before .pre in
     rw (frontier-list (a .t1) (p), ← take-length (a .ps .now), sym (c .before .is-same .ensures) ∙ c .if1 .taken)
 
--- src/pushing.rt:166:1
 returns-2 : tie.Need-returns-2
 returns-2 c =
     let a = c .before .before .before .before .before .before .args in
@@ -30,4 +27,9 @@ returns-2 c =
     rw (frontier-list (a .t1) (p), ← take-length (a .ps .now), sym (c .before .is-same .ensures) ∙ c .if1 .left)
 
 pub pick-seen-spec : {M : Type 1} → statement M
-pick-seen-spec = tie.close (tie.spec is-same-requires returns returns-2)
+pick-seen-spec =
+    tie.close
+    (tie.spec
+    is-same-requires
+    returns
+    returns-2)

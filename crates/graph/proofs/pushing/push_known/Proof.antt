@@ -18,28 +18,28 @@ does-extend-requires c κs = search needs
 
 grow-last-requires : tie.Need-grow-last-requires
 grow-last-requires c κs =
-    let start = c .before .before .before in
+    let start = c .before .before .before .before in
     let a = start .args in
-    let k = known-of (a .t1) (a .ps .now) (a .n) (a .start) (start .pre) in
+    let k = known-of (a .t1) (a .ps .now) (a .n) (a .start .0) (start .pre) in
     (k .holds, (k .at-end, (some-runs k (c .before .does-extend .ensures) (c .if1 .taken), (k .some, k .events))))
 
 returns : tie.Need-returns
 returns c =
     let x = c .before in
-    let start = x .before .before .before in
+    let start = x .before .before .before .before in
     let a = start .args in
-    let k = known-of (a .t1) (a .ps .now) (a .n) (a .start) (start .pre) in
+    let k = known-of (a .t1) (a .ps .now) (a .n) (a .start .0) (start .pre) in
     grown-out k (c .grow-last .result) (x .before .does-extend .ensures) (x .if1 .taken) (c .grow-last .ensures)
 
 count-splits-requires : tie.Need-count-splits-requires
 count-splits-requires c κs =
-    let start = c .before .before .before in
+    let start = c .before .before .before .before in
     let a = start .args in
-    let k = known-of (a .t1) (a .ps .now) (a .n) (a .start) (start .pre) in
+    let k = known-of (a .t1) (a .ps .now) (a .n) (a .start .0) (start .pre) in
     (k .holds, parents-fit k)
 
 add-over : tie.Need-add-over
-add-over c = omega (arith, facts (c .before .before .before .before .args .t1) (c .before .before .before .before .pre .0))
+add-over c = omega (arith, facts (c .before .before .before .before .before .args .t1) (c .before .before .before .before .before .pre .0))
 
 over-requires : tie.Need-over-requires
 over-requires c κs = search needs
@@ -47,9 +47,9 @@ over-requires c κs = search needs
 returns-2 : tie.Need-returns-2
 returns-2 c =
     let x = c .before .before .before in
-    let start = x .before .before .before in
+    let start = x .before .before .before .before in
     let a = start .args in
-    let k = known-of (a .t1) (a .ps .now) (a .n) (a .start) (start .pre) in
+    let k = known-of (a .t1) (a .ps .now) (a .n) (a .start .0) (start .pre) in
     too-many-runs k (x .before .does-extend .ensures) (x .if1 .left) (c .before .before .count-splits .ensures) (c .before .over .ensures) (c .if2 .taken)
 
 count-held-requires : tie.Need-count-held-requires
@@ -58,9 +58,9 @@ count-held-requires c κs = search needs
 add-over-2 : tie.Need-add-over-2
 add-over-2 c =
     let y = c .before in
-    let g = c .before .before .before .before .before .before .before .args .t1 in
+    let g = c .before .before .before .before .before .before .before .before .args .t1 in
     let few = ltb-false 512 (g .«run_count» + 1 + y .before .before .count-splits .result) (sym (y .before .over .ensures) ∙ y .if2 .left) in
-    omega (arith, facts g (c .before .before .before .before .before .before .before .pre .0), few)
+    omega (arith, facts g (c .before .before .before .before .before .before .before .before .pre .0), few)
 
 over-requires-2 : tie.Need-over-requires-2
 over-requires-2 c κs = search needs
@@ -69,22 +69,22 @@ returns-3 : tie.Need-returns-3
 returns-3 c =
     let y = c .before .before .before in
     let x = y .before .before .before in
-    let start = x .before .before .before in
+    let start = x .before .before .before .before in
     let a = start .args in
-    let k = known-of (a .t1) (a .ps .now) (a .n) (a .start) (start .pre) in
+    let k = known-of (a .t1) (a .ps .now) (a .n) (a .start .0) (start .pre) in
     too-many-entries k (x .before .does-extend .ensures) (x .if1 .left) (y .before .before .count-splits .ensures) (y .before .over .ensures) (y .if2 .left) (c .before .before .count-held .ensures) (c .before .over2 .ensures) (c .if3 .taken)
 
 keep-all-requires : tie.Need-keep-all-requires
 keep-all-requires c κs =
-    let start = c .before .before .before .before .before .before .before .before .before .before .before .before in
+    let start = c .before .before .before .before .before .before .before .before .before .before .before .before .before in
     let f = facts (start .args .t1) (start .pre .0) in
     (omega (arith, f), omega (arith, f))
 
 add-if4 : tie.Need-add-if4
 add-if4 c =
-    let start = c .before .before .before .before .before .before .before .before .before .before .before .before .before .before in
+    let start = c .before .before .before .before .before .before .before .before .before .before .before .before .before .before .before in
     let a = start .args in
-    let k = known-of (a .t1) (a .ps .now) (a .n) (a .start) (start .pre) in
+    let k = known-of (a .t1) (a .ps .now) (a .n) (a .start .0) (start .pre) in
     omega (arith, left-fits k (c .before .keep-all .ensures))
 
 returns-4 : tie.Need-returns-4
@@ -92,9 +92,9 @@ returns-4 c =
     let z = c .before .before .before .before .before .before in
     let y = z .before .before .before in
     let x = y .before .before .before in
-    let start = x .before .before .before in
+    let start = x .before .before .before .before in
     let a = start .args in
-    let k = known-of (a .t1) (a .ps .now) (a .n) (a .start) (start .pre) in
+    let k = known-of (a .t1) (a .ps .now) (a .n) (a .start .0) (start .pre) in
     frontier-too-long k (x .before .does-extend .ensures) (x .if1 .left) (y .before .before .count-splits .ensures) (y .before .over .ensures) (y .if2 .left) (z .before .before .count-held .ensures) (z .before .over2 .ensures) (z .if3 .left) (c .before .before .keep-all .ensures) (c .if4 .taken)
 
 split-all-requires : tie.Need-split-all-requires
@@ -102,9 +102,9 @@ split-all-requires c κs =
     let z = c .before .before .before .before .before .before in
     let y = z .before .before .before in
     let x = y .before .before .before in
-    let start = x .before .before .before in
+    let start = x .before .before .before .before in
     let a = start .args in
-    let k = known-of (a .t1) (a .ps .now) (a .n) (a .start) (start .pre) in
+    let k = known-of (a .t1) (a .ps .now) (a .n) (a .start .0) (start .pre) in
     let r = new-run k (x .before .does-extend .ensures) (x .if1 .left) (y .before .before .count-splits .ensures) (y .before .over .ensures) (y .if2 .left) (z .before .before .count-held .ensures) (z .before .over2 .ensures) (z .if3 .left) (c .before .before .keep-all .ensures) (c .if4 .left) in
     (k .holds, (parents-fit k, room r))
 
@@ -113,9 +113,9 @@ join-requires c κs =
     let z = c .before .before .before .before .before .before .before in
     let y = z .before .before .before in
     let x = y .before .before .before in
-    let start = x .before .before .before in
+    let start = x .before .before .before .before in
     let a = start .args in
-    let k = known-of (a .t1) (a .ps .now) (a .n) (a .start) (start .pre) in
+    let k = known-of (a .t1) (a .ps .now) (a .n) (a .start .0) (start .pre) in
     let r = new-run k (x .before .does-extend .ensures) (x .if1 .left) (y .before .before .count-splits .ensures) (y .before .over .ensures) (y .if2 .left) (z .before .before .count-held .ensures) (z .before .over2 .ensures) (z .if3 .left) (c .before .before .before .keep-all .ensures) (c .before .if4 .left) in
     let h = c .split-all .result in
     let e = c .split-all .ensures in
@@ -126,9 +126,9 @@ returns-5 c =
     let z = c .before .before .before .before .before .before .before .before in
     let y = z .before .before .before in
     let x = y .before .before .before in
-    let start = x .before .before .before in
+    let start = x .before .before .before .before in
     let a = start .args in
-    let k = known-of (a .t1) (a .ps .now) (a .n) (a .start) (start .pre) in
+    let k = known-of (a .t1) (a .ps .now) (a .n) (a .start .0) (start .pre) in
     let r = new-run k (x .before .does-extend .ensures) (x .if1 .left) (y .before .before .count-splits .ensures) (y .before .over .ensures) (y .if2 .left) (z .before .before .count-held .ensures) (z .before .over2 .ensures) (z .if3 .left) (c .before .before .before .before .keep-all .ensures) (c .before .before .if4 .left) in
     joined-out r (c .before .split-all .result) (c .before .split-all .ensures) (c .join .result) (c .join .ensures)
 

@@ -19,11 +19,11 @@ abbrev μ-loop : tie.MeasureT-loop
 loop-holds : tie.Need-loop-holds Inv-loop μ-loop
 loop-holds c = (omega arith, (omega arith, omega arith))
 
-mul-needs-split : tie.Need-mul-needs-split Inv-loop μ-loop
-mul-needs-split c = search needs
+mul-t7 : tie.Need-mul-t7 Inv-loop μ-loop
+mul-t7 c = search needs
 
-shared-slice-read-needs-split : tie.Need-shared-slice-read-needs-split Inv-loop μ-loop
-shared-slice-read-needs-split c = search needs
+shared-slice-read-t9 : tie.Need-shared-slice-read-t9 Inv-loop μ-loop
+shared-slice-read-t9 c = search needs
 
 needs-split-requires : tie.Need-needs-split-requires Inv-loop μ-loop
 needs-split-requires c κs =
@@ -63,8 +63,8 @@ count-splits-spec =
     Inv-loop
     μ-loop
     loop-holds
-    mul-needs-split
-    shared-slice-read-needs-split
+    mul-t7
+    shared-slice-read-t9
     needs-split-requires
     one-requires
     add-n

@@ -13,13 +13,13 @@ element-copy-out-if1 c = search needs
 
 returns : tie.Need-returns
 returns c =
-    let g = c .before .before .args .t1 in
-    rw (first-view g (c .before .before .pre .0), lt-leb _ _ (c .if1 .taken))
+    let g = c .before .before .before .args .t1 in
+    rw (first-view g (c .before .before .before .pre .0), lt-leb _ _ (c .if1 .taken))
 
 add-is-among : tie.Need-add-is-among
 add-is-among c =
-    let a = c .before .before .before .before .before .args in
-    let p = c .before .before .before .before .before .pre in
+    let a = c .before .before .before .before .before .before .args in
+    let p = c .before .before .before .before .before .before .pre in
     omega (arith, p, facts (a .t1) (p .0) .runs)
 
 add-is-among-2 : tie.Need-add-is-among-2
@@ -27,17 +27,23 @@ add-is-among-2 c = search needs
 
 is-among-requires : tie.Need-is-among-requires
 is-among-requires c κs =
-    let k = facts (c .before .before .before .before .before .args .t1) (c .before .before .before .before .before .pre .0) in
+    let k = facts (c .before .before .before .before .before .before .before .args .t1) (c .before .before .before .before .before .before .before .pre .0) in
     omega (arith, k .runs, k .sized .starts)
 
 returns-2 : tie.Need-returns-2
 unfolding ends
 returns-2 c =
-    let a = c .before .before .before .before .before .before .args in
-    let held = c .before .before .before .before .before .before .pre .0 in
-    rw (first-view (a .t1) held, le-leb _ _ (c .before .before .before .before .if1 .left), starts-list (a .t1) held, ← add-one (a .p), c .is-among .ensures)
+    let a = c .before .before .before .before .before .before .before .before .args in
+    let held = c .before .before .before .before .before .before .before .before .pre .0 in
+    rw (first-view (a .t1) held, le-leb _ _ (c .before .before .before .before .before .if1 .left), starts-list (a .t1) held, ← add-one (a .p .0), c .is-among .ensures)
 
 pub needs-split-spec : {M : Type 1} → statement M
 needs-split-spec =
     tie.close
-    (tie.spec element-copy-out-if1 returns add-is-among add-is-among-2 is-among-requires returns-2)
+    (tie.spec
+    element-copy-out-if1
+    returns
+    add-is-among
+    add-is-among-2
+    is-among-requires
+    returns-2)

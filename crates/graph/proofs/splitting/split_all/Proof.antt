@@ -15,11 +15,11 @@ abbrev μ-loop : tie.MeasureT-loop
 loop-holds : tie.Need-loop-holds Inv-loop μ-loop
 loop-holds c = going-start _ _ (c .before .pre .0) (c .before .pre .1 .1)
 
-mul-split-after : tie.Need-mul-split-after Inv-loop μ-loop
-mul-split-after c = search needs
+mul-t5 : tie.Need-mul-t5 Inv-loop μ-loop
+mul-t5 c = search needs
 
-shared-slice-read-split-after : tie.Need-shared-slice-read-split-after Inv-loop μ-loop
-shared-slice-read-split-after c = search needs
+shared-slice-read-t8 : tie.Need-shared-slice-read-t8 Inv-loop μ-loop
+shared-slice-read-t8 c = search needs
 
 split-after-requires : tie.Need-split-after-requires Inv-loop μ-loop
 split-after-requires c κs =
@@ -45,8 +45,8 @@ split-all-spec =
     Inv-loop
     μ-loop
     loop-holds
-    mul-split-after
-    shared-slice-read-split-after
+    mul-t5
+    shared-slice-read-t8
     split-after-requires
     add-i
     loop-less

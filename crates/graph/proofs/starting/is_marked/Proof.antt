@@ -6,11 +6,6 @@ use Rattle.graph.proofs.StartWays.{marked-mem}
 use Rattle.graph.proofs.starting.is_marked.Statement.{statement}
 use Rattle.graph.proofs.starting.is_marked.Tie as tie
 
-cast-is-among : tie.Need-cast-is-among
-cast-is-among c =
-    let p = c .before .before .before .pre in
-    omega (arith, p .1, facts (c .before .before .before .args .t1) (p .0) .runs)
-
 is-among-requires : tie.Need-is-among-requires
 is-among-requires c κs =
     let f = facts (c .before .before .before .args .t1) (c .before .before .before .pre .0) in
@@ -20,7 +15,11 @@ returns : tie.Need-returns
 returns c =
     let p = c .before .before .before .before .pre in
     let a = c .before .before .before .before .args in
-    c .is-among .ensures ∙ marked-mem (a .t1) (p .0) (a .run) (p .1)
+    c .is-among .ensures ∙ marked-mem (a .t1) (p .0) (a .run .0) (p .1)
 
 pub is-marked-spec : {M : Type 1} → statement M
-is-marked-spec = tie.close (tie.spec cast-is-among is-among-requires returns)
+is-marked-spec =
+    tie.close
+    (tie.spec
+    is-among-requires
+    returns)

@@ -8,6 +8,7 @@ use Rattle.model.specs.Record.{view}
 use Rattle.model.specs.Start.{told}
 use Rattle.model.proofs.FormedReads.{containing-in}
 use Rattle.graph.proofs.Views.{facts, runs-view, first-view, len-view, containing-view}
+use Rattle.graph.proofs.Looking.{found-in}
 use Rattle.graph.proofs.StartWays.{start-before, start-past}
 use Rattle.graph.proofs.starting.start_held.Statement.{statement}
 use Rattle.graph.proofs.starting.start_held.Tie as tie
@@ -38,6 +39,13 @@ last-at-most-requires c κs =
     let f = facts (c .before .before .before .before .before .before .before .args .t1) (c .before .before .before .before .before .before .before .pre) in
     omega (arith, f .runs, f .sized .starts)
 
+cast-t9 : tie.Need-cast-t9
+cast-t9 c =
+    let a = c .before .before .before .before .before .before .before .before .args in
+    let held = c .before .before .before .before .before .before .before .before .pre in
+    let found = found-in (a .t1) held (a .at .0) (omega (arith, c .before .before .before .before .before .before .if1 .left)) (omega (arith, c .before .before .before .before .if2 .left)) in
+    omega (arith, c .last-at-most .ensures, found)
+
 start-in-requires : tie.Need-start-in-requires
 start-in-requires c κs =
     let g = c .before .before .before .before .before .before .before .before .args .t1 in
@@ -61,5 +69,6 @@ start-held-spec =
     element-copy-out-if2
     returns-2
     last-at-most-requires
+    cast-t9
     start-in-requires
     returns-3)

@@ -12,7 +12,7 @@ returns : tie.Need-returns
 returns c =
     let a = c .before .before .before .before .before .before .before .before .before .before .before .before .before .before .args in
     let p = c .before .before .before .before .before .before .before .before .before .before .before .before .before .before .pre in (
-      next-rows (a .starts .now) (a .heads .now) (a .parents .now) (a .rows .now) (a .steps .now) (a .r) (a .kind) (a .a) (a .b) (c .if1 .taken),
+      next-rows (a .starts .now) (a .heads .now) (a .parents .now) (a .rows .now) (a .steps .now) (a .r) (a .kind) (a .a .0) (a .b .0) (c .if1 .taken),
       (omega (arith, p .1 .0 .0, p .1 .0 .1), p .1 .1),
     )
 
@@ -20,7 +20,7 @@ returns-2 : tie.Need-returns-2
 returns-2 c =
     let a = c .before .before .before .before .before .before .before .before .before .before .before .before .before .before .before .before .args in
     let p = c .before .before .before .before .before .before .before .before .before .before .before .before .before .before .before .before .pre in (
-      next-short (a .starts .now) (a .heads .now) (a .parents .now) (a .rows .now) (a .steps .now) (a .r) (a .kind) (a .a) (a .b) (c .before .before .if1 .left) (c .if2 .taken),
+      next-short (a .starts .now) (a .heads .now) (a .parents .now) (a .rows .now) (a .steps .now) (a .r) (a .kind) (a .a .0) (a .b .0) (c .before .before .if1 .left) (c .if2 .taken),
       (omega (arith, p .1 .0 .0, p .1 .0 .1), p .1 .1),
     )
 
@@ -49,7 +49,7 @@ returns-3 c =
     let full = c .before .if3 .taken in
     let m = ap (λ (x : Out). x .moved) (o .ensures) in
     let n = ap (λ (x : Ranged). x .moved) (c .ranged .ensures) in (
-      next-full (a .starts .now) (a .heads .now) (a .parents .now) (a .rows .now) (a .steps .now) (a .r) (a .kind) (a .a) (a .b) e f (o .result) (s .result) _ (o .ensures) (s .ensures .0) full (c .ranged .result) (c .ranged .ensures),
+      next-full (a .starts .now) (a .heads .now) (a .parents .now) (a .rows .now) (a .steps .now) (a .r) (a .kind) (a .a .0) (a .b .0) e f (o .result) (s .result) _ (o .ensures) (s .ensures .0) full (c .ranged .result) (c .ranged .ensures),
       (omega (arith, p .1 .0 .0, p .1 .0 .1, m, n, s .ensures .1), p .1 .1),
     )
 
@@ -75,7 +75,7 @@ returns-4 c =
     let linear = c .before .before .before .before .before .if4 .taken in
     let m = ap (λ (x : Out). x .moved) (o .ensures) in
     let n = ap (λ (x : Ranged). x .moved) (c .ranged2 .ensures) in (
-      next-linear (a .starts .now) (a .heads .now) (a .parents .now) (a .rows .now) (a .steps .now) (a .r) (a .kind) (a .a) (a .b) e f (o .result) (s .result) _ (o .ensures) (s .ensures .0) fits linear (t .result) _ (t .ensures .0) (c .ranged2 .result) (c .ranged2 .ensures),
+      next-linear (a .starts .now) (a .heads .now) (a .parents .now) (a .rows .now) (a .steps .now) (a .r) (a .kind) (a .a .0) (a .b .0) e f (o .result) (s .result) _ (o .ensures) (s .ensures .0) fits linear (t .result) _ (t .ensures .0) (c .ranged2 .result) (c .ranged2 .ensures),
       (omega (arith, p .1 .0 .0, p .1 .0 .1, m, n, s .ensures .1, t .ensures .1), p .1 .1),
     )
 
@@ -123,7 +123,7 @@ returns-5 c =
     let f = c .before .before .before .before .before .before .before .before .before .before .before .before .before .before .before .before .before .before .before .before .before .before .before .before .before .before .before .before .before .before .before .before .before .before .before .before .if2 .left in
     let fits = c .before .before .before .before .before .before .before .before .before .before .before .before .before .before .before .before .before .before .before .before .before .before .before .before .before .before .before .before .before .if3 .left in
     let walked = c .before .before .before .before .before .before .before .before .before .before .before .before .before .before .before .before .before .before .before .before .before .before .before .before .before .before .before .before .if4 .left in
-    (next-walk (a .starts .now) (a .heads .now) (a .parents .now) (a .rows .now) (a .steps .now) (a .r) (a .kind) (a .a) (a .b) e f (o .result) (s .result) _ (o .ensures) (s .ensures .0) fits walked (w .result) _ _ (w .ensures .0), w .ensures .1)
+    (next-walk (a .starts .now) (a .heads .now) (a .parents .now) (a .rows .now) (a .steps .now) (a .r) (a .kind) (a .a .0) (a .b .0) e f (o .result) (s .result) _ (o .ensures) (s .ensures .0) fits walked (w .result) _ _ (w .ensures .0), w .ensures .1)
 
 pub replay-next-spec : {M : Type 1} → statement M
 replay-next-spec =

@@ -204,7 +204,7 @@ returns c =
     let get3 = c .before .before .before .before .before .before .before .get3 in
     let from = row-from (a .n) (a .run) (wide .result) (get .result) (wide2 .result) (a .tables .now) (pre .0 .3) (wide .ensures) (get .ensures) (wide2 .ensures) in
     let to = row-to (a .n) (a .run) (wide .result) (get2 .result) (wide3 .result) (a .tables .now) (pre .0 .3) (wide .ensures) (get2 .ensures) (wide3 .ensures) in (
-      put-visit .ensures .0 ∙ ap (λ (rs : List Rec). emit (a .out, a .steps .now) rs) (visit-lent (a .n) (a .chains) (a .run) (wide2 .result) (wide3 .result) (a .rows .now) (a .tables .now) (a .current .now) from to (a .starts .now) (a .base) (a .run)),
+      put-visit .ensures .0 ∙ ap (λ (rs : List Rec). emit (a .out, a .steps .now) rs) (visit-lent (a .n) (a .chains) (a .run) (wide2 .result) (wide3 .result) (a .rows .now) (a .tables .now) (a .current .now) from to (a .starts .now) (a .base .0) (a .run)),
       (
         (
           λ k lt. arrive .ensures .0 k lt ∙ arrived-lent (a .n) (a .chains) (a .run) (wide2 .result) (wide3 .result) (a .rows .now) (a .tables .now) (a .current .now) from to (wide4 .result) (get4 .result)

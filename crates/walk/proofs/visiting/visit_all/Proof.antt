@@ -13,7 +13,7 @@ use Rattle.walk.proofs.visiting.visit_next.Reads as visit-next-reads
 
 abbrev Inv-loop : tie.InvT-loop
 Inv-loop base n chains known first starts rows groups tables before sizes children steps₀ current₀ waiting₀ ready₀ s₀ most₀ steps current waiting ready s most =
-    Looped (record { starts = starts; rows = rows; groups = groups; tables = tables; before = before; sizes = sizes; children = children; base = base; runs = n; chains = chains; known = known; first = first }) (s₀, steps₀, current₀, waiting₀, ready₀) most (s, steps, current, waiting, ready) ×
+    Looped (record { starts = starts; rows = rows; groups = groups; tables = tables; before = before; sizes = sizes; children = children; base = base .0; runs = n; chains = chains; known = known; first = first }) (s₀, steps₀, current₀, waiting₀, ready₀) most (s, steps, current, waiting, ready) ×
     ((length steps ≡ length steps₀) × ((length current ≡ length current₀) × ((length waiting ≡ length waiting₀) × (length ready ≡ length ready₀))))
 
 abbrev μ-loop : tie.MeasureT-loop
@@ -22,14 +22,14 @@ abbrev μ-loop : tie.MeasureT-loop
 loop-holds : tie.Need-loop-holds Inv-loop μ-loop
 loop-holds c =
     let a = c .before .before .before .before .before .before .before .before .before .before .before .args in
-    let g : Given = record { starts = a .starts .now; rows = a .rows .now; groups = a .groups .now; tables = a .tables .now; before = a .before .now; sizes = a .sizes .now; children = a .children .now; base = a .base; runs = a .n; chains = a .chains; known = a .known; first = a .first } in
+    let g : Given = record { starts = a .starts .now; rows = a .rows .now; groups = a .groups .now; tables = a .tables .now; before = a .before .now; sizes = a .sizes .now; children = a .children .now; base = a .base .0; runs = a .n; chains = a .chains; known = a .known; first = a .first } in
     let t₀ : Turn = (a .begun, a .steps .now, a .current .now, a .waiting .now, a .ready .now) in
     (looped-start g t₀ (c .before .before .before .before .before .before .before .before .before .before .before .pre .0) (c .before .before .before .before .before .before .before .before .before .before .before .pre .1 .0) (c .before .before .before .before .before .before .before .before .before .before .before .pre .1 .1), (refl, (refl, (refl, refl))))
 
 visit-next-requires : tie.Need-visit-next-requires Inv-loop μ-loop
 visit-next-requires c κs =
     let a = c .before .before .before .before .before .before .before .before .before .before .before .before .before .before .before .before .before .before .args in
-    let g : Given = record { starts = a .starts .now; rows = a .rows .now; groups = a .groups .now; tables = a .tables .now; before = a .before .now; sizes = a .sizes .now; children = a .children .now; base = a .base; runs = a .n; chains = a .chains; known = a .known; first = a .first } in
+    let g : Given = record { starts = a .starts .now; rows = a .rows .now; groups = a .groups .now; tables = a .tables .now; before = a .before .now; sizes = a .sizes .now; children = a .children .now; base = a .base .0; runs = a .n; chains = a .chains; known = a .known; first = a .first } in
     let t₀ : Turn = (a .begun, a .steps .now, a .current .now, a .waiting .now, a .ready .now) in
     let l = c .before .before .before .before .before .before .loop in
     let t : Turn = (l .s, l .steps, l .current, l .waiting, l .ready) in
@@ -38,7 +38,7 @@ visit-next-requires c κs =
 sub-most : tie.Need-sub-most Inv-loop μ-loop
 sub-most c =
     let a = c .before .before .before .before .before .before .before .before .before .before .before .before .before .before .before .before .before .before .before .before .before .before .before .before .before .before .before .args in
-    let g : Given = record { starts = a .starts .now; rows = a .rows .now; groups = a .groups .now; tables = a .tables .now; before = a .before .now; sizes = a .sizes .now; children = a .children .now; base = a .base; runs = a .n; chains = a .chains; known = a .known; first = a .first } in
+    let g : Given = record { starts = a .starts .now; rows = a .rows .now; groups = a .groups .now; tables = a .tables .now; before = a .before .now; sizes = a .sizes .now; children = a .children .now; base = a .base .0; runs = a .n; chains = a .chains; known = a .known; first = a .first } in
     let t₀ : Turn = (a .begun, a .steps .now, a .current .now, a .waiting .now, a .ready .now) in
     let l = c .before .before .before .before .before .before .before .before .before .before .before .before .before .before .before .loop in
     let t : Turn = (l .s, l .steps, l .current, l .waiting, l .ready) in
@@ -47,7 +47,7 @@ sub-most c =
 loop-less : tie.Need-loop-less Inv-loop μ-loop
 loop-less c =
     let a = c .before .before .before .before .before .before .before .before .before .before .before .before .before .before .before .before .before .before .before .before .before .before .before .before .before .before .before .args in
-    let g : Given = record { starts = a .starts .now; rows = a .rows .now; groups = a .groups .now; tables = a .tables .now; before = a .before .now; sizes = a .sizes .now; children = a .children .now; base = a .base; runs = a .n; chains = a .chains; known = a .known; first = a .first } in
+    let g : Given = record { starts = a .starts .now; rows = a .rows .now; groups = a .groups .now; tables = a .tables .now; before = a .before .now; sizes = a .sizes .now; children = a .children .now; base = a .base .0; runs = a .n; chains = a .chains; known = a .known; first = a .first } in
     let t₀ : Turn = (a .begun, a .steps .now, a .current .now, a .waiting .now, a .ready .now) in
     let l = c .before .before .before .before .before .before .before .before .before .before .before .before .before .before .before .loop in
     let t : Turn = (l .s, l .steps, l .current, l .waiting, l .ready) in
@@ -56,7 +56,7 @@ loop-less c =
 loop-again : tie.Need-loop-again Inv-loop μ-loop
 loop-again c =
     let a = c .before .before .before .before .before .before .before .before .before .before .before .before .before .before .before .before .before .before .before .before .before .before .before .before .before .before .before .args in
-    let g : Given = record { starts = a .starts .now; rows = a .rows .now; groups = a .groups .now; tables = a .tables .now; before = a .before .now; sizes = a .sizes .now; children = a .children .now; base = a .base; runs = a .n; chains = a .chains; known = a .known; first = a .first } in
+    let g : Given = record { starts = a .starts .now; rows = a .rows .now; groups = a .groups .now; tables = a .tables .now; before = a .before .now; sizes = a .sizes .now; children = a .children .now; base = a .base .0; runs = a .n; chains = a .chains; known = a .known; first = a .first } in
     let t₀ : Turn = (a .begun, a .steps .now, a .current .now, a .waiting .now, a .ready .now) in
     let l = c .before .before .before .before .before .before .before .before .before .before .before .before .before .before .before .loop in
     let t : Turn = (l .s, l .steps, l .current, l .waiting, l .ready) in
@@ -78,7 +78,7 @@ same-length-4 c = c .before .before .loop .inv .1 .1 .1 .1
 returns : tie.Need-returns Inv-loop μ-loop
 returns c =
     let a = c .before .before .before .before .before .before .before .before .before .before .before .before .before .before .args in
-    let g : Given = record { starts = a .starts .now; rows = a .rows .now; groups = a .groups .now; tables = a .tables .now; before = a .before .now; sizes = a .sizes .now; children = a .children .now; base = a .base; runs = a .n; chains = a .chains; known = a .known; first = a .first } in
+    let g : Given = record { starts = a .starts .now; rows = a .rows .now; groups = a .groups .now; tables = a .tables .now; before = a .before .now; sizes = a .sizes .now; children = a .children .now; base = a .base .0; runs = a .n; chains = a .chains; known = a .known; first = a .first } in
     let t₀ : Turn = (a .begun, a .steps .now, a .current .now, a .waiting .now, a .ready .now) in
     let l = c .before .before .loop in
     let t : Turn = (l .s, l .steps, l .current, l .waiting, l .ready) in

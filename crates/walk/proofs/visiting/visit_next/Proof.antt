@@ -24,7 +24,7 @@ use Rattle.walk.proofs.visiting.wake.Reads as wake-reads
 choose-requires : tie.Need-choose-requires
 choose-requires c κs =
     let a = c .before .before .before .before .before .before .before .before .before .before .before .before .before .args in
-    let g : Given = record { starts = a .starts .now; rows = a .rows .now; groups = a .groups .now; tables = a .tables .now; before = a .before .now; sizes = a .sizes .now; children = a .children .now; base = a .base; runs = a .n; chains = a .chains; known = a .known; first = a .first } in
+    let g : Given = record { starts = a .starts .now; rows = a .rows .now; groups = a .groups .now; tables = a .tables .now; before = a .before .now; sizes = a .sizes .now; children = a .children .now; base = a .base .0; runs = a .n; chains = a .chains; known = a .known; first = a .first } in
     let t : Turn = (a .s, a .steps .now, a .current .now, a .waiting .now, a .ready .now) in
     choose-asks g t (c .before .before .before .before .before .before .before .before .before .before .before .before .before .pre)
 
@@ -34,14 +34,14 @@ get-requires c κs = search needs
 remove-requires : tie.Need-remove-requires
 remove-requires c κs =
     let a = c .before .before .before .before .before .before .before .before .before .before .before .before .before .before .before .before .before .args in
-    let g : Given = record { starts = a .starts .now; rows = a .rows .now; groups = a .groups .now; tables = a .tables .now; before = a .before .now; sizes = a .sizes .now; children = a .children .now; base = a .base; runs = a .n; chains = a .chains; known = a .known; first = a .first } in
+    let g : Given = record { starts = a .starts .now; rows = a .rows .now; groups = a .groups .now; tables = a .tables .now; before = a .before .now; sizes = a .sizes .now; children = a .children .now; base = a .base .0; runs = a .n; chains = a .chains; known = a .known; first = a .first } in
     let t : Turn = (a .s, a .steps .now, a .current .now, a .waiting .now, a .ready .now) in
     remove-asks g t (c .before .before .before .before .before .before .before .before .before .before .before .before .before .before .before .before .before .pre) (c .before .before .before .choose .result) (c .before .get .result) (c .before .before .before .choose .ensures) (c .before .get .ensures)
 
 visit-requires : tie.Need-visit-requires
 visit-requires c κs =
     let a = c .before .before .before .before .before .before .before .before .before .before .before .before .before .before .before .before .before .before .before .before .before .before .args in
-    let g : Given = record { starts = a .starts .now; rows = a .rows .now; groups = a .groups .now; tables = a .tables .now; before = a .before .now; sizes = a .sizes .now; children = a .children .now; base = a .base; runs = a .n; chains = a .chains; known = a .known; first = a .first } in
+    let g : Given = record { starts = a .starts .now; rows = a .rows .now; groups = a .groups .now; tables = a .tables .now; before = a .before .now; sizes = a .sizes .now; children = a .children .now; base = a .base .0; runs = a .n; chains = a .chains; known = a .known; first = a .first } in
     let t : Turn = (a .s, a .steps .now, a .current .now, a .waiting .now, a .ready .now) in
     visit-asks g t (c .before .before .before .before .before .before .before .before .before .before .before .before .before .before .before .before .before .before .before .before .before .before .pre) (c .before .before .before .before .before .before .before .before .choose .result) (c .before .before .before .before .before .before .get .result) (c .before .before .before .before .before .before .before .before .choose .ensures) (c .before .before .before .before .before .before .get .ensures) (outIn (a .s)) refl
 
@@ -51,7 +51,7 @@ sub-wake c = omega (arith, c .before .before .before .before .before .before .be
 wake-requires : tie.Need-wake-requires
 wake-requires c κs =
     let a = c .before .before .before .before .before .before .before .before .before .before .before .before .before .before .before .before .before .before .before .before .before .before .before .before .before .before .before .before .before .args in
-    let g : Given = record { starts = a .starts .now; rows = a .rows .now; groups = a .groups .now; tables = a .tables .now; before = a .before .now; sizes = a .sizes .now; children = a .children .now; base = a .base; runs = a .n; chains = a .chains; known = a .known; first = a .first } in
+    let g : Given = record { starts = a .starts .now; rows = a .rows .now; groups = a .groups .now; tables = a .tables .now; before = a .before .now; sizes = a .sizes .now; children = a .children .now; base = a .base .0; runs = a .n; chains = a .chains; known = a .known; first = a .first } in
     let t : Turn = (a .s, a .steps .now, a .current .now, a .waiting .now, a .ready .now) in
     wake-asks g t (c .before .before .before .before .before .before .before .before .before .before .before .before .before .before .before .before .before .before .before .before .before .before .before .before .before .before .before .before .before .pre) (c .before .before .before .before .before .before .before .before .before .before .before .before .before .before .before .choose .result) (c .before .before .before .before .before .before .before .before .before .before .before .before .before .get .result) (c .before .before .before .before .before .before .before .before .before .before .before .before .before .before .before .choose .ensures) (c .before .before .before .before .before .before .before .before .before .before .before .before .before .get .ensures)
 
@@ -76,7 +76,7 @@ same-length-4 c = search needs
 returns : tie.Need-returns
 returns c =
     let a = c .before .before .before .before .before .before .before .before .before .before .before .before .before .before .before .before .before .before .before .before .before .before .before .before .before .before .before .before .before .before .before .before .before .before .args in
-    let g : Given = record { starts = a .starts .now; rows = a .rows .now; groups = a .groups .now; tables = a .tables .now; before = a .before .now; sizes = a .sizes .now; children = a .children .now; base = a .base; runs = a .n; chains = a .chains; known = a .known; first = a .first } in
+    let g : Given = record { starts = a .starts .now; rows = a .rows .now; groups = a .groups .now; tables = a .tables .now; before = a .before .now; sizes = a .sizes .now; children = a .children .now; base = a .base .0; runs = a .n; chains = a .chains; known = a .known; first = a .first } in
     let t : Turn = (a .s, a .steps .now, a .current .now, a .waiting .now, a .ready .now) in
     turned g t (c .before .before .before .before .before .before .before .before .before .before .before .before .before .before .before .before .before .before .before .before .before .before .before .before .before .before .before .before .before .before .before .before .before .before .pre) (c .before .before .before .before .before .before .before .before .before .before .before .before .before .before .before .before .before .before .before .before .choose .result) (c .before .before .before .before .before .before .before .before .before .before .before .before .before .before .before .before .before .before .get .result) (c .before .before .before .before .before .before .before .before .before .before .before .before .before .before .before .before .before .before .before .before .choose .ensures) (c .before .before .before .before .before .before .before .before .before .before .before .before .before .before .before .before .before .before .get .ensures) (c .before .before .before .before .before .before .before .before .before .before .before .visit .ensures .0) (c .before .before .before .before .before .before .before .before .before .before .before .visit .ensures .1 .0 .0) (c .before .before .before .before .before .before .before .before .before .before .before .visit .ensures .1 .0 .1) (c .before .before .before .before .before .before .before .before .before .before .before .visit .ensures .1 .1)
     (c .before .before .before .before .wake .ensures .0 ∙ ap (λ (l : List ℕ). wokenOf (a .s .ready - 1, a .waiting .now, l) (part (getD (lane 6 (a .n + 1) (a .tables .now)) (c .before .before .before .before .before .before .before .before .before .before .before .before .before .before .before .before .before .before .get .result) 0) (getD (lane 6 (a .n + 1) (a .tables .now)) (c .before .before .before .before .before .before .before .before .before .before .before .before .before .before .before .before .before .before .get .result + 1) 0) (a .children .now)) (c .before .before .before .before .before .before .before .before .before .before .before .before .before .before .before .before .before .before .get .result) (a .known) (a .first) (a .n) (a .s .left)) (c .before .before .before .before .before .before .before .before .before .before .before .before .before .before .before .before .remove .ensures)) (c .before .before .before .before .wake .ensures .1)

@@ -53,7 +53,7 @@ start-version-requires : tie.Need-start-version-requires
 start-version-requires c κs =
     let a = c .before .before .before .before .before .before .before .before .before .before .before .before .before .before .before .args in
     let p = c .before .before .before .before .before .before .before .before .before .before .before .before .before .before .before .pre in
-    let g : Given = record { starts = a .starts .now; rows = a .rows .now; groups = a .groups .now; tables = a .tables .now; before = a .before .now; sizes = a .sizes .now; children = a .children .now; base = a .base; runs = a .n; chains = a .chains; known = a .known; first = a .first } in
+    let g : Given = record { starts = a .starts .now; rows = a .rows .now; groups = a .groups .now; tables = a .tables .now; before = a .before .now; sizes = a .sizes .now; children = a .children .now; base = a .base .0; runs = a .n; chains = a .chains; known = a .known; first = a .first } in
     version-asks g (p .0) (a .current .now) (c .wide .result) (p .1 .1 .0) (c .wide .ensures)
 
 sub-start-all : tie.Need-sub-start-all
@@ -81,7 +81,7 @@ start-all-requires : tie.Need-start-all-requires
 start-all-requires c κs =
     let a = c .before .before .before .before .before .before .before .before .before .before .before .before .before .before .before .before .before .before .before .before .before .before .args in
     let p = c .before .before .before .before .before .before .before .before .before .before .before .before .before .before .before .before .before .before .before .before .before .before .pre in
-    let g : Given = record { starts = a .starts .now; rows = a .rows .now; groups = a .groups .now; tables = a .tables .now; before = a .before .now; sizes = a .sizes .now; children = a .children .now; base = a .base; runs = a .n; chains = a .chains; known = a .known; first = a .first } in
+    let g : Given = record { starts = a .starts .now; rows = a .rows .now; groups = a .groups .now; tables = a .tables .now; before = a .before .now; sizes = a .sizes .now; children = a .children .now; base = a .base .0; runs = a .n; chains = a .chains; known = a .known; first = a .first } in
     ready-asks g (p .0) (a .waiting .now) (a .ready .now) (p .1 .1 .1) (p .1 .1 .2)
 
 sub-wide : tie.Need-sub-wide
@@ -94,7 +94,7 @@ visit-all-requires : tie.Need-visit-all-requires
 visit-all-requires c κs =
     let a = c .before .before .before .before .before .before .before .before .before .before .before .before .before .before .before .before .before .before .before .before .before .before .before .before .before .before .before .before .before .before .before .before .args in
     let p = c .before .before .before .before .before .before .before .before .before .before .before .before .before .before .before .before .before .before .before .before .before .before .before .before .before .before .before .before .before .before .before .before .pre in
-    let g : Given = record { starts = a .starts .now; rows = a .rows .now; groups = a .groups .now; tables = a .tables .now; before = a .before .now; sizes = a .sizes .now; children = a .children .now; base = a .base; runs = a .n; chains = a .chains; known = a .known; first = a .first } in (
+    let g : Given = record { starts = a .starts .now; rows = a .rows .now; groups = a .groups .now; tables = a .tables .now; before = a .before .now; sizes = a .sizes .now; children = a .children .now; base = a .base .0; runs = a .n; chains = a .chains; known = a .known; first = a .first } in (
       p .0,
       (
         begins g (p .0) (a .waiting .now) (a .ready .now) (c .before .before .before .before .before .before .before .before .before .before .before .before .before .before .before .before .before .wide .ensures) (c .before .before .before .before .wide2 .ensures) (c .before .before .before .before .before .before .before .before .before .before .before .before .before .before .before .before .start-version .ensures .0) (omega (arith, c .before .before .before .before .before .before .before .before .before .before .before .before .before .before .before .before .start-version .ensures .1, p .1 .1 .0)) (p .1 .1 .1) (p .1 .1 .2) (c .before .before .before .before .before .before .before .before .before .start-all .ensures),
