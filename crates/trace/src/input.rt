@@ -1,13 +1,13 @@
 // The script's words, little-endian, from standard input by way of a lent buffer, whose length is a multiple of four: a word
 // never stands half in one filling of it and half in the next.
 use crate::words;
-use libc::STDIN_FILENO;
+use stdio::Filled;
 
 // Where the reading stands: the buffer's bytes from `at` to `end` are still to be read.
 pub struct Input {
     pub at: usize,
     pub end: usize,
-    // READING, ENDED or BAD.
+    // READING, ENDED, BAD or STOPPED.
     pub state: usize,
 }
 
@@ -16,6 +16,8 @@ pub const READING: usize = 0;
 pub const ENDED: usize = 1;
 // The script is cut off, or holds what the program does not take.
 pub const BAD: usize = 2;
+// A read or a write failed, which a line on standard error tells.
+pub const STOPPED: usize = 3;
 
 fn wide(b: u8) -> u32 {
     b as u32
@@ -33,12 +35,18 @@ fn word_at(bytes: &[u8], i: usize) -> u32 {
     low | wide(bytes[i + 2]) << 16 | wide(bytes[i + 3]) << 24
 }
 
-// Fills the buffer again if nothing in it is left to read.
-fn filled(bytes: &mut [u8], r: Input) -> Input {
-    if r.at < r.end {
-        return r;
+// Nothing is left to read, since a read failed.
+fn stopped() -> Input {
+    os::fail(b"trace: read");
+    Input {
+        at: 0,
+        end: 0,
+        state: STOPPED,
     }
-    let end = io::read_full(STDIN_FILENO, bytes);
+}
+
+// So many bytes of the buffer are to be read.
+fn begun(end: usize) -> Input {
     Input {
         at: 0,
         end: end,
@@ -46,6 +54,19 @@ fn filled(bytes: &mut [u8], r: Input) -> Input {
     }
 }
 
+// Fills the buffer again if nothing in it is left to read; STOPPED if a read fails.
+fn filled(bytes: &mut [u8], r: Input) -> Input {
+    if r.at < r.end {
+        return r;
+    }
+    let f = stdio::fill(bytes);
+    match f {
+        Filled::Bytes(n) => begun(n),
+        Filled::Failed => stopped(),
+    }
+}
+
+// The script is no script from here on.
 pub fn bad(r: Input) -> Input {
     Input {
         at: r.at,
@@ -60,6 +81,9 @@ fn next(bytes: &mut [u8], list: &mut [u32], i: usize, r: Input) -> Input {
         return r;
     }
     let f = filled(bytes, r);
+    if f.state != READING {
+        return f;
+    }
     let at = f.at;
     let end = f.end;
     if end < 4 {
@@ -90,7 +114,7 @@ pub fn read(bytes: &mut [u8], list: &mut [u32], from: usize, to: usize, r: Input
 // Reads an operation word to the first place of a list; ENDED if the input has nothing left.
 pub fn read_operation(bytes: &mut [u8], list: &mut [u32], r: Input) -> Input {
     let now = next(bytes, list, 0, r);
-    if now.state == READING {
+    if now.state != BAD {
         return now;
     }
     if now.at < now.end {

@@ -6,10 +6,10 @@ use model::EventIndex;
 use model::EventRunIndex;
 
 fn parents(g: CausalGraph, run: u32, out: &mut [u8], used: usize) -> usize {
-    let listed = graph::lookups::parents(g, EventRunIndex(run));
-    let outcome = listed.outcome;
+    let found = graph::lookups::parents(g, EventRunIndex(run));
+    let outcome = found.outcome;
     let told = answers::outcome(out, used, outcome);
-    output::part(out, told, &listed.items, 0, listed.count)
+    output::part(out, told, &found.runs, 0, found.count)
 }
 
 // A run's start, events and parents.

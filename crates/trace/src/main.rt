@@ -1,4 +1,5 @@
-// Reads a script of calls from standard input, makes each on one current graph, and writes a line for each.
+// Reads a script of calls from standard input, makes each on one current graph, and writes a line for each. A failed read or write
+// ends it, and is told by a line on standard error.
 mod answers;
 mod changing;
 mod input;
@@ -24,10 +25,19 @@ struct State {
     state: usize,
 }
 
+// The same, with another state.
 fn stopped(s: State, state: usize) -> State {
     let mut t = s;
     t.state = state;
     t
+}
+
+// The state after a call: STOPPED if a write failed.
+fn going(used: usize, state: usize) -> usize {
+    if used == output::LOST {
+        return input::STOPPED;
+    }
+    state
 }
 
 // Makes the call that was read, and puts its line.
@@ -52,7 +62,7 @@ fn answered(
         used: c.used,
         at: r.at,
         end: r.end,
-        state: c.state,
+        state: going(c.used, c.state),
     }
 }
 
@@ -104,6 +114,7 @@ fn run(
     finish(s.state, out, s.used);
 }
 
+// Writes what is not written yet.
 fn finish(state: usize, out: &mut [u8], used: usize) {
     if state == input::BAD {
         let now = output::text(out, used, b"bad script\n");

@@ -1,21 +1,32 @@
 // The lines, to standard output by way of a lent buffer: `used` of its bytes are still to be written. Each function puts
-// something after them and answers how many there are then.
+// something after them and answers how many there are then; LOST if a write failed.
 use crate::words;
 use libc::STDOUT_FILENO;
 
-// Writes the buffer's used bytes.
-pub fn flush(out: &[u8], used: usize) {
-    if used <= out.len() {
-        io::write_all(STDOUT_FILENO, &out[0..used]);
+// In place of the number of used bytes: a write failed, and nothing is put or written any more.
+pub const LOST: usize = usize::MAX;
+
+// Writes the buffer's used bytes; whether all were written. A line on standard error tells of the write that failed.
+pub fn flush(out: &[u8], used: usize) -> bool {
+    if out.len() < used {
+        return false;
     }
+    if io::write_all(STDOUT_FILENO, &out[0..used]) {
+        return true;
+    }
+    os::fail(b"trace: write");
+    false
 }
 
+// A byte. Where the buffer is full, it is written first.
 pub fn byte(out: &mut [u8], used: usize, b: u8) -> usize {
     if used < out.len() {
         out[used] = b;
         return used + 1;
     }
-    flush(out, used);
+    if !flush(out, used) {
+        return LOST;
+    }
     if 0 < out.len() {
         out[0] = b;
         return 1;
@@ -23,6 +34,7 @@ pub fn byte(out: &mut [u8], used: usize, b: u8) -> usize {
     0
 }
 
+// Bytes in turn.
 pub fn text(out: &mut [u8], used: usize, s: &[u8]) -> usize {
     let mut now = used;
     let mut i = 0;
@@ -33,6 +45,7 @@ pub fn text(out: &mut [u8], used: usize, s: &[u8]) -> usize {
     now
 }
 
+// A number in decimal.
 fn number(out: &mut [u8], used: usize, n: u64) -> usize {
     let mut digits = [0u8; 20];
     let k = io::decimal(n, &mut digits);
@@ -74,10 +87,12 @@ pub fn list(out: &mut [u8], used: usize, items: &[u32], n: usize) -> usize {
     part(out, now, items, 0, n)
 }
 
+// A space and a colon.
 pub fn colon(out: &mut [u8], used: usize) -> usize {
     text(out, used, b" :")
 }
 
+// The line's end.
 pub fn end(out: &mut [u8], used: usize) -> usize {
     byte(out, used, b'\n')
 }

@@ -12,7 +12,7 @@ fn told(g: CausalGraph, out: &mut [u8], used: usize) -> usize {
     let frontier = graph::lookups::frontier(g);
     let one = output::word(out, used, first);
     let two = output::word(out, one, empty);
-    output::list(out, two, &frontier.items, frontier.count)
+    output::list(out, two, &frontier.events, frontier.count)
 }
 
 // How many starts are used: one more than the runs.

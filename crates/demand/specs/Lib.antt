@@ -1,0 +1,2 @@
+-- Demand 3 of what runs.
+pub mod Running
