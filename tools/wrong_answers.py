@@ -1,27 +1,30 @@
 #!/usr/bin/env python3
-"""Two wrong answers for each public function of crates/graph: each edit is made in a copy of the tree, and `rt dev graph` has to refuse it.
+"""Wrong answers of the public calls: each edit is made in a copy of the tree, and `rt dev` of the edited crate has to refuse it.
 
-tools/wrong_answers.py            all, about six minutes
-tools/wrong_answers.py 3 7        only these, by number
-Ends with status 1 if one is not refused, or is refused only because the proof does not fit the code's shape. LOGS=folder keeps what was said.
+tools/wrong_answers.py              all, about 20 minutes
+tools/wrong_answers.py book 3 7     only these, by crate or by number
+Ends with status 1 if one is not refused, or is refused only because the proof does not fit the code's shape.
+RT=command is run in place of rt. LOGS=folder keeps what was said.
 """
-import os, re, shutil, subprocess, sys, tempfile
+import os, re, shutil, subprocess, sys, tempfile, time
 
 TOP = os.path.dirname(os.path.dirname(os.path.abspath(__file__)))
+RT = os.environ.get("RT", "rt")
 LOGS = os.environ.get("LOGS")
 
-# function, wrong answer, file, old text, new text, and which of its places where the old text stands more than once
-TRIES = [
+# By the crate that is edited, which may be one below the call's: call, wrong answer, file, old text, new text, and which of its places
+# where the old text stands more than once. Or the name of one of the crate's must-fail edits.
+GRAPH = [
     ("broken::is_broken", "a graph whose changed_from equals its run count is broken", "broken.rt", "if g.run_count < changed.0 as usize {", "if g.run_count <= changed.0 as usize {"),
     ("broken::is_broken", "a graph with wrong marks is not broken", "broken.rt", "if bad_marks(g) {\n        return true;", "if bad_marks(g) {\n        return false;"),
     ("fresh::new", "changed_from is 1", "fresh.rt", "let from = EventRunIndex(0);", "let from = EventRunIndex(1);"),
     ("fresh::new", "the frontier holds event 0", "fresh.rt", "&nothing[0..0]", "&nothing[0..1]"),
     ("fresh::after", "refuses a rising frontier and takes one that is not", "fresh.rt", "if !lists::is_rising(frontier, frontier.len())", "if lists::is_rising(frontier, frontier.len())"),
     ("fresh::after", "refuses a frontier of exactly 512 events", "fresh.rt", "if 512 < frontier.len()", "if 512 <= frontier.len()"),
-    ("pushing::push", "refuses a push that ends at 4,294,967,295", "pushing.rt", "4294967295 - start < len", "4294967295 - start <= len"),
-    ("pushing::push", "a run that saw all before it counts as seen up to its start", "pushing.rt", "return g.starts[next];", "return g.starts[run];"),
+    ("pushing::push", "refuses a push that ends at 4,294,967,295", "pushing.rt", "4294967295 - start.0 < len", "4294967295 - start.0 <= len"),
+    ("pushing::push", "a run that saw all before it counts as seen up to its start", "pushing.rt", "return EventIndex(g.starts[next]);", "return EventIndex(g.starts[at]);"),
     ("starting::start_run_at", "splits and tells false", "starting.rt", "BoolAnswer::Told(true)", "BoolAnswer::Told(false)"),
-    ("starting::start_run_at", "splits the last run though it is marked", "starting.rt", "if run + 1 == g.run_count {\n        return true;", "if run + 1 == g.run_count {\n        return false;"),
+    ("starting::start_run_at", "splits the last run though it is marked", "starting.rt", "== g.run_count {\n        return true;", "== g.run_count {\n        return false;"),
     ("starting::take_changed_from", "does not reset", "starting.rt", "graph: h,\n        answer: RunAnswer", "graph: g,\n        answer: RunAnswer"),
     ("starting::take_changed_from", "answers the run count", "starting.rt", "RunAnswer::Run(was)", "RunAnswer::Run(none)"),
     ("lookups::start", "refuses the run count", "lookups.rt", "if g.run_count < n {", "if g.run_count <= n {"),
@@ -37,25 +40,106 @@ TRIES = [
     ("lookups::is_empty", "true where the frontier is empty", "lookups.rt", "g.run_count == 0", "g.frontier_count == 0"),
     ("lookups::is_empty", "true where no run has parents", "lookups.rt", "g.run_count == 0", "g.entry_count == 0"),
     ("lookups::frontier", "a count of 1 whatever the frontier", "lookups.rt", "count: g.frontier_count,", "count: 1,"),
-    ("lookups::frontier", "a broken graph refused with 9", "lookups.rt", "return refused(Refusal::Broken)", "return refused(Refusal::Outside)", 1),
+    ("lookups::frontier", "a broken graph refused with 9", "lookups.rt", "return no_frontier(Refusal::Broken)", "return no_frontier(Refusal::Outside)"),
     ("lookups::extends_last_event", "true on a graph with no runs", "pushing.rt", "if runs == 0 {\n        return false;", "if runs == 0 {\n        return true;"),
     ("lookups::extends_last_event", "true of a longer list whose first is the last event", "pushing.rt", "if ps.len() != 1 {", "if ps.len() == 0 {"),
     ("lookups::first_held_event", "the second run's start", "lookups.rt", "EventIndex(g.starts[0])", "EventIndex(g.starts[1])"),
     ("lookups::first_held_event", "0 where no runs are held", "lookups.rt", "EventIndex(g.starts[0])", "EventIndex(g.seen_prefix_len[0])"),
     ("ranges::range_outcome", "refuses an empty range", "ranges.rt", "if to < from {", "if to <= from {"),
     ("ranges::range_outcome", "refuses known equal to the range's length", "ranges.rt", "if to - from < known {", "if to - from <= known {"),
-    ("cut::split_at_critical_versions_from", "refuses the run count with 10 in place of 9", "cut.rt", "if runs <= from as usize {", "if runs < from as usize {"),
+    ("cut::split_at_critical_versions_from", "refuses the run count with 10 in place of 9", "cut.rt", "if runs <= from.0 as usize {", "if runs < from.0 as usize {"),
     ("cut::split_at_critical_versions_from", "a Linear ends where the Concurrent after it ends", "cut.rt", "put_linear(list, before, first, a)", "put_linear(list, before, first, b)"),
     ("cut::split_at_critical_versions", "refuses 'list too short' though the record fits", "cut.rt", "list.len() / 3 <= n", "list.len() / 3 <= n + 1"),
-    ("cut::split_at_critical_versions", "ranges of one run are Concurrent", "cut.rt", "b - a == 1", "b - a == 0"),
+    ("cut::split_at_critical_versions", "ranges of one run are Concurrent", "cut.rt", "b.0 - a.0 == 1", "b.0 - a.0 == 0"),
     ("beside::archive_points", "the first is left out", "beside.rt", "let mut i = 0;\n    while i < n {\n        p = put_one", "let mut i = 1;\n    while i < n {\n        p = put_one"),
     ("beside::archive_points", "count 0 where the list is too short", "cut.rt", "count: p.count,\n        outcome: Outcome::Refused", "count: 0,\n        outcome: Outcome::Refused"),
     ("beside::concurrent_runs", "all runs, itself too", "beside.rt", "f[at] = 1;", "f[at] = 0;"),
     ("beside::concurrent_runs", "writes the runs that fit where the list is too short", "beside.rt", "if list.len() < k {", "if list.len() < 0 {"),
 ]
 
+READER = [
+    ("reader::new", "stands at the second step", "lib.rt", "StepReader { words, at: 0 }", "StepReader { words, at: 3 }"),
+    ("reader::new", "stands one word in", "lib.rt", "StepReader { words, at: 0 }", "StepReader { words, at: 1 }"),
+    ("reader::next", "moves past a kind above 3", "moves_on_refusal"),
+    ("reader::next", "moves on by two words", "lib.rt", "let past = at + 3;", "let past = at + 2;"),
+    ("reader::step_at", "takes kind 4 as a step", "kind_four"),
+    ("reader::step_at", "the last step is the end", "lib.rt", "if n - 3 < at {", "if n - 3 <= at {"),
+    ("reader::step_at", "an advance read as a retreat", "lib.rt", "WalkStep::Advance(a, b)", "WalkStep::Retreat(a, b)"),
+    ("reader::step_from", "an apply's end as its run", "lib.rt", "WalkStep::Apply(a)", "WalkStep::Apply(b)"),
+    ("reader::step_from", "an open's end is its first run", "lib.rt", "WalkStep::Open(a, b)", "WalkStep::Open(a, a)"),
+]
+
+LENT = [
+    ("lent::push", "keeps the old graph", "push_dropped"),
+    ("lent::start_run_at", "keeps the old graph", "start_dropped"),
+    ("lent::take_changed_from", "keeps the old graph", "take_dropped"),
+]
+
+CALLS = [
+    ("calls::made_by", "a push's graph is dropped", "push_dropped"),
+    ("calls::made_by", "a run start at another event", "another_event"),
+    ("calls::made_by", "an after is made as new", "lib.rt", "if op == 0 {\n        return graph::fresh::new();", "if op == 1 {\n        return graph::fresh::new();"),
+    ("calls::made_by", "the start is read as a call too", "lib.rt", "calls(begin(words), words, start)", "calls(begin(words), words, 0)"),
+]
+
+MOVES = [
+    ("replaying::replay", "opens and applies without moves", "no_moves"),
+    ("replaying::replay", "writes no steps", "writing.rt", "if out.short != 0 {", "if out.short == 0 {"),
+    ("replaying::replay", "moved is 0", "writing.rt", "moved: out.moved + events,", "moved: out.moved + 0,"),
+    ("walking::walk", "moved forgets the advances", "advances_not_moved"),
+    ("walking::walk", "moved counts an event for each Apply", "moving.rt", "put_step(steps, b, 2, at, at + 1, 0)", "put_step(steps, b, 2, at, at + 1, 1)"),
+    ("walking::walk", "retreats fall along a chain", "retreats_falling"),
+    ("walking::walk", "11 though a step more fits", "writing.rt", "steps.len() / 3", "steps.len() / 4"),
+]
+
+TABLES = [
+    ("walking::walk", "no row is written", "rows.rt", "store(rows, used, row, width);", "store(rows, used, row, 0);"),
+    ("walking::walk", "13 though the rows just fit", "rows.rt", "if rows.len() < used + width {", "if rows.len() <= used + width {"),
+    ("walking::walk", "a cover is not joined with its children's", "covers.rt", "&children[s..e]", "&children[s..s]"),
+    ("walking::walk", "a cover's last bit rounded down", "covers.rt", "(x + (y - 1)) / y", "(x + (y - y)) / y"),
+    ("walking::walk", "128 bits to a cover", "covers.rt", "div_up(events, 127)", "div_up(events, 128)"),
+    ("walking::walk", "the range's first run is nobody's parent", "groups.rt", "if p < a {", "if p <= a {"),
+]
+
+WALK = [
+    ("walking::walk", "weighs all ready runs", "choice.rt", "if n < 64 { n } else { 64 }", "if n < 64 { n } else { n }"),
+    ("walking::walk", "weighs the last 65", "choice.rt", "if n < 64 { n } else { 64 }", "if n < 65 { n } else { 65 }"),
+    ("walking::walk", "weighs the oldest first", "oldest_first"),
+    ("walking::walk", "measures on after cost 0", "measured_on"),
+    ("walking::walk", "a tie goes to the older", "choice.rt", "if weight < b.weight {", "if weight <= b.weight {"),
+    ("walking::walk", "first is ignored", "walking.rt", "clamped(known, first, n)", "clamped(known, known, n)"),
+    ("walking::walk", "first below known is taken as it is", "walking.rt", "lists::larger(known, first)", "lists::larger(0, first)"),
+    ("walking::walk", "13 in place of 11", "walking.rt", "Outcome::Refused(Refusal::ListTooShort)", "Outcome::Refused(Refusal::RowsTooLong)"),
+    ("walking::walk", "writes no steps", "visiting.rt", "ready: got,", "ready: 0,"),
+    ("replaying::replay", "opens and applies without moves", "replaying.rt", "if kind == 0 {", "if kind == 1 {"),
+    ("replaying::replay", "writes no steps", "replaying.rt", "        w.count,\n", "        0,\n"),
+    ("replaying::replay", "works in the first range only", "replaying.rt", "if r.rows != 0 {", "if r.count != 0 {"),
+    ("replaying::replay", "moved is the step count", "replaying.rt", "moved: o.moved,", "moved: o.count,"),
+    ("replaying::replay", "opens no run", "replaying.rt", "out_of(r), 3, a.0, b.0, 0)", "out_of(r), 3, a.0, a.0, 0)"),
+    ("replaying::replay", "count 0 under 13", "walking.rt", "count: out.count,", "count: 0,"),
+    ("replaying::replay", "takes a range's first run as known", "replaying.rt", "        o,\n        a,\n        b,\n        0,\n        0,", "        o,\n        a,\n        b,\n        1,\n        0,"),
+]
+
+BOOK = [
+    ("reading::read", "takes bytes left over", "left_over_taken"),
+    ("reading::read", "pushes counted from 1", "pushes_from_one"),
+    ("reading::read", "a book of 65,537 bytes is taken", "reading.rt", "if 65536 < bytes.len() {", "if 65537 < bytes.len() {"),
+    ("reading::read", "the header's frontier is not tried, and pushes are made under a header that is refused", "reading.rt", "&words[2..end]", "&words[2..2]"),
+    ("reading::read", "a refused header is told as push 0", "reading.rt", "answered(g, BookAnswer::Refused(r))", "answered(g, BookAnswer::PushRefused(r, 0))"),
+    ("reading::read", "a refused push does not end it", "reading.rt", "            is_refused: true,\n            answer: BookAnswer::PushRefused(r, k),", "            is_refused: false,\n            answer: BookAnswer::PushRefused(r, k),"),
+    ("replaying::replayed", "prints no steps", "replaying.rt", "&steps[0..n]", "&steps[0..0]"),
+    ("replaying::replayed", "leaves out a line that just fits", "full_buffer"),
+    ("replaying::replayed", "prints 11 for 13", "printing.rt", "Refusal::RowsTooLong => 13", "Refusal::RowsTooLong => 11"),
+    ("replaying::replayed", "moved 0", "replaying.rt", "last_line(outcome, walked.moved)", "last_line(outcome, 0)"),
+]
+
+TRIES = {"graph": GRAPH, "reader": READER, "lent": LENT, "calls": CALLS, "moves": MOVES, "tables": TABLES, "walk": WALK, "book": BOOK}
+
+# Each with its crate, numbered through
+ALL = [(crate, t) for crate, tries in TRIES.items() for t in tries]
+
 # A proof that does not fit the code says nothing of a fact
-SHAPE = re.compile(r"can be named from here|has no field|expected type `tie\.|not in scope|syntax|cannot find|mismatched")
+SHAPE = re.compile(r"can be named from here|has no field|expected type `tie\.|not in scope|syntax|cannot find|mismatched|mir\.MapTy|types\.Kit\.allocs")
 
 
 def edited(text, old, new, which=None):
@@ -66,34 +150,65 @@ def edited(text, old, new, which=None):
     return old.join(parts[: which + 1]) + new + old.join(parts[which + 1 :])
 
 
-def check(tree):
-    return subprocess.run(["rt", "dev", "graph"], cwd=tree, stdout=subprocess.PIPE, stderr=subprocess.STDOUT, text=True)
+def edits(crate, name, *texts):
+    """Files of the crate, each with the old and the new text."""
+    if texts:
+        return [("src/" + name, *texts)]
+    found = []
+    for line in open(os.path.join(TOP, "crates", crate, "must-fail", name + ".edit")):
+        key, _, text = line.rstrip("\n").partition(": ")
+        if key == "file":
+            path = text
+        elif key == "old":
+            old = text
+        elif key == "new":
+            found.append((path, old, text))
+    return found
+
+
+def check(tree, crate):
+    return subprocess.run([RT, "dev", crate], cwd=tree, stdout=subprocess.PIPE, stderr=subprocess.STDOUT, text=True)
 
 
 def refused(tree, i):
-    function, words, name, *edit = TRIES[i]
-    path = os.path.join(tree, "crates/graph/src", name)
-    kept = open(path).read()
-    with open(path, "w") as f:
-        f.write(edited(kept, *edit))
-    said = check(tree)
-    with open(path, "w") as f:
-        f.write(kept)
+    crate, (call, words, *edit) = ALL[i]
+    kept = {}
+    for name, *texts in edits(crate, *edit):
+        path = os.path.join(tree, "crates", crate, name)
+        text = open(path).read()
+        kept.setdefault(path, text)
+        with open(path, "w") as f:
+            f.write(edited(text, *texts))
+    said = check(tree, crate)
+    for path, text in kept.items():
+        with open(path, "w") as f:
+            f.write(text)
     if LOGS:
         with open(os.path.join(LOGS, "%d.log" % i), "w") as f:
-            f.write("%s: %s\n%s\n%s" % (function, words, edit, said.stdout))
+            f.write("%s: %s: %s\n%s\n%s" % (crate, call, words, edit, said.stdout))
     ok = said.returncode != 0 and " error: " in said.stdout and not SHAPE.search(said.stdout)
-    print("%2d %s: %s: %s" % (i, function, words, "refused" if ok else "NOT REFUSED AT A FACT"), flush=True)
+    print("%2d %s: %s: %s: %s" % (i, crate, call, words, "refused" if ok else "NOT REFUSED AT A FACT"), flush=True)
     return ok
 
 
+def wanted(words):
+    """The numbers of the entries that the words name, by crate."""
+    for crate in TRIES:
+        yield crate, [i for i, (c, _) in enumerate(ALL) if c == crate and (not words or crate in words or str(i) in words)]
+
+
 if __name__ == "__main__":
+    done = []
     with tempfile.TemporaryDirectory() as folder:
         tree = os.path.join(folder, "tree")
         shutil.copytree(TOP, tree, ignore=shutil.ignore_patterns(".git"))
-        if check(tree).returncode != 0:
-            sys.exit("without an edit crates/graph is not proved")
-        numbers = [int(a) for a in sys.argv[1:]] or range(len(TRIES))
-        done = [refused(tree, i) for i in numbers]
+        for crate, numbers in wanted(sys.argv[1:]):
+            if not numbers:
+                continue
+            began = time.time()
+            if check(tree, crate).returncode != 0:
+                sys.exit("without an edit crates/%s is not proved" % crate)
+            done += [refused(tree, i) for i in numbers]
+            print("%s: %d s" % (crate, time.time() - began), flush=True)
     print("%d tried, %d refused" % (len(done), sum(done)))
     sys.exit(0 if all(done) else 1)
