@@ -1,17 +1,18 @@
 //! Holds the replay program against document 01's account of the book: makes books, gives each to the program, and compares what it
-//! prints. A book that is taken whole is replayed from the Rust's cuts and walks too. At the first difference it prints the book and ends
-//! with status 1.
+//! prints. A book that is taken whole is replayed from the Rust's cuts and walks too. Then failed reads and writes (failing.rs). At the
+//! first difference it prints the book and ends with status 1.
 //!
 //! books REPLAY [RANDOM [SEED]]   REPLAY: the program; RANDOM: how many random books; SEED: a number
 
 #[allow(dead_code)]
 mod calls;
+mod failing;
 #[allow(dead_code)]
 mod model;
 
 use model::{Graph, Triple, APPLY, LINEAR, OPEN};
 use std::collections::BTreeMap;
-use std::io::{Read, Write};
+use std::io::{ErrorKind, Write};
 use std::process::{exit, Command, Stdio};
 use std::sync::mpsc::channel;
 use std::sync::{Arc, Mutex};
@@ -362,14 +363,18 @@ fn limits(random: &mut Random, give: &mut dyn FnMut(Vec<u8>)) {
 // Runs.
 
 fn printed(program: &str, book: &[u8]) -> Result<String, String> {
-    let mut child = Command::new(program).stdin(Stdio::piped()).stdout(Stdio::piped()).spawn().map_err(|e| e.to_string())?;
+    let mut command = Command::new(program);
+    let mut child = command.stdin(Stdio::piped()).stdout(Stdio::piped()).stderr(Stdio::piped()).spawn().map_err(|e| e.to_string())?;
     let wrote = child.stdin.take().unwrap().write_all(book);
-    let mut text = String::new();
-    let read = child.stdout.take().unwrap().read_to_string(&mut text);
-    let status = child.wait().map_err(|e| e.to_string())?;
-    wrote.map_err(|e| format!("the program did not read the book to its end: {e}"))?;
-    read.map_err(|e| e.to_string())?;
-    if status.success() { Ok(text) } else { Err(format!("the program ended with {status}, after:\n{text}")) }
+    let ended = child.wait_with_output().map_err(|e| e.to_string())?;
+    let text = String::from_utf8_lossy(&ended.stdout).into_owned();
+    let told = String::from_utf8_lossy(&ended.stderr);
+    match wrote {
+        // One byte too many is enough: the rest of a longer book is not read.
+        Err(e) if book.len() <= LONGEST + 1 || e.kind() != ErrorKind::BrokenPipe => Err(format!("the program did not read the book to its end: {e}")),
+        _ if !ended.status.success() || !told.is_empty() => Err(format!("the program ended with {}, after:\n{text}{told}", ended.status)),
+        _ => Ok(text),
+    }
 }
 
 fn report(book: &[u8], wanted: &str, got: &str) -> ! {
@@ -444,4 +449,12 @@ fn main() {
         println!("{n:9}  {what}");
     }
     println!("{given} books, {} lines, no difference", lines.lock().unwrap());
+    let some = book(0, &[], &vec![(1, vec![]); 80]);
+    match failing::trials("replay", &program, &some, &expected(&some).unwrap(), true) {
+        Ok(runs) => println!("failed reads and writes, and endless inputs: {runs} runs, no difference"),
+        Err(why) => {
+            println!("DIFFERENCE at a failed read or write, or an endless input: {why}");
+            exit(1)
+        }
+    }
 }

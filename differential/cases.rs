@@ -1,4 +1,4 @@
-//! The cases C1 to C11 of 01 as calls, each with the line that 01's words ask for.
+//! The cases C1 to C11 of 01 as calls, each with the line that 01's words ask for; and the walks of `Beyond` in crates/model/specs/Cases.antt.
 
 use crate::scripts::{after, new, push, LAST};
 use crate::Feed;
@@ -76,4 +76,32 @@ pub fn feed_all(feed: &mut Feed) -> Vec<(&'static str, usize, usize)> {
         lines.push((name, first, at - 1));
     }
     lines
+}
+
+/// The graphs and walks of `Beyond`: the pushes, the walk, its line up to the rows, its first steps.
+fn beyond() -> Vec<(Vec<Vec<u32>>, [u32; 4], &'static str, &'static str)> {
+    let branches = || vec![push(&[], 1), push(&[0], 1), push(&[0], 1), push(&[1], 1), push(&[2], 1)];
+    let mut crowd = vec![push(&[], 1), push(&[], 1), push(&[0, 1], 1), push(&[0], 1)];
+    crowd.extend((0..63).map(|_| push(&[], 1)));
+    let lengths = |n: u32| vec![push(&[], 1), push(&[], n), push(&[], 1), push(&[], 3), push(&[], 4), push(&[n + 1], 1)];
+    vec![
+        (branches(), [1, 5, 1, 0], "walk 0 5 2", "2 3 4 0 1 2 0 3 4 2 2 3 2 4 5"),
+        (branches(), [1, 5, 1, 2], "walk 0 7 4", "0 1 2 2 2 3 2 4 5 0 2 3 0 4 5 1 1 2 2 3 4"),
+        (crowd, [0, 67, 2, 0], "walk 0 133 68", "0 1 2 2 3 4"),
+        (lengths(119), [1, 6, 1, 0], "walk 0 8 124", "0 1 2 2 3 4 0 3 4 2 2 3 2 5 6 0 2 3 0 5 6 2 4 5"),
+        (lengths(118), [1, 6, 1, 0], "walk 0 8 123", "0 1 2 2 2 3 2 5 6 0 2 3 0 5 6 2 3 4 0 3 4 2 4 5"),
+    ]
+}
+
+/// Feeds them; panics where the Rust's line is another.
+pub fn feed_beyond(feed: &mut Feed) {
+    for (pushes, walk, answer, steps) in beyond() {
+        feed.call(new());
+        for call in pushes {
+            feed.call(call);
+        }
+        feed.call([&[6][..], &walk, &[2400, 600]].concat());
+        let parts: Vec<&str> = feed.last_line().split(" : ").collect();
+        assert!(parts[0] == answer && parts[2].starts_with(steps), "{walk:?}: {parts:?}");
+    }
 }

@@ -9,6 +9,7 @@ mod answers;
 #[allow(dead_code)]
 mod calls;
 mod cases;
+mod failing;
 #[allow(dead_code)]
 mod model;
 mod record;
@@ -442,6 +443,7 @@ fn main() {
         }
     };
     part("the cases C1 to C11 of 01", &|feed| drop(cases::feed_all(feed)));
+    part("walks beyond them: `first` above `known`, 65 ready runs, per_bit 2", &|feed| cases::feed_beyond(feed));
     part("records, one for each clause by which 01 calls a graph broken, and near misses", &|feed| records::by_clause(feed, true));
     part("random records, most with one word changed", &|feed| records::random(feed, (count / 4).max(1), seed));
     part("all lists of four calls from `new`, of three from each `after` of up to 2 events", &|feed| scripts::small(feed, 4));
@@ -462,6 +464,15 @@ fn main() {
         }
     }
     println!("scripts that end badly: {}, all the same", bad.len());
+
+    let script = bytes(&[vec![vec![0], vec![2, 1, 0]], vec![vec![13]; 2000]].concat());
+    match failing::trials("trace", trace, &script, &(answer_script(&script).join("\n") + "\n"), false) {
+        Ok(runs) => println!("failed reads and writes: {runs} runs, no difference"),
+        Err(why) => {
+            println!("DIFFERENCE at a failed read or write: {why}");
+            exit(1);
+        }
+    }
 
     let (calls, lines) = totals(&all);
     println!("\nin all {scripts} scripts, {calls} calls, {lines} lines with the graphs; by call and what it returned:");
