@@ -25,7 +25,8 @@ fn put_chain<'a>(
     c: usize,
 ) -> Out
     requires { ⌜ (out .moved + 2 ^ 42 < 2 ^ 63) × (base < 2 ^ 31) × (length (now members) ≤ 513) × Below 512 (now members) × Inside (now members) (now begins) (now from) c ⌝ }
-    ensures { λ r. ⌜ (r, now (steps .exit)) ≡ emit (out, now (steps .entry)) (stretches (now (starts .entry)) kind base (runsOf (now (members .entry)) (now (begins .entry)) (now (from .entry)) (now (to .entry)) c)) ⌝ }
+    ensures { λ r. ⌜ (r, now (steps .exit)) ≡ emit (out, now (steps .entry))
+        (stretches (now (starts .entry)) kind base (runsOf (now (members .entry)) (now (begins .entry)) (now (from .entry)) (now (to .entry)) c)) ⌝ }
     ensures { λ r. ⌜ r .moved ≤ out .moved + 2 ^ 42 ⌝ }
 {
     let lo = wide(get(to, c));
@@ -52,8 +53,10 @@ fn put_moves<'a>(
     to: &[u32],
     n: usize,
 ) -> Out
-    requires { ⌜ (out .moved + 2 ^ 51 < 2 ^ 63) × (base < 2 ^ 31) × (length (now members) ≤ 513) × Below 512 (now members) × (n ≤ 512) × ((c : ℕ) → c < n → Inside (now members) (now begins) (now from) c) ⌝ }
-    ensures { λ r. ⌜ (r, now (steps .exit)) ≡ emit (out, now (steps .entry)) (movesFrom (now (starts .entry)) kind base (now (members .entry)) (now (begins .entry)) (now (from .entry)) (now (to .entry)) 0 n) ⌝ }
+    requires { ⌜ (out .moved + 2 ^ 51 < 2 ^ 63) × (base < 2 ^ 31) × (length (now members) ≤ 513) × Below 512 (now members) × (n ≤ 512) ×
+        ((c : ℕ) → c < n → Inside (now members) (now begins) (now from) c) ⌝ }
+    ensures { λ r. ⌜ (r, now (steps .exit)) ≡ emit (out, now (steps .entry))
+        (movesFrom (now (starts .entry)) kind base (now (members .entry)) (now (begins .entry)) (now (from .entry)) (now (to .entry)) 0 n) ⌝ }
     ensures { λ r. ⌜ r .moved ≤ out .moved + 2 ^ 51 ⌝ }
 {
     let mut o = out;
@@ -78,8 +81,10 @@ pub fn put_visit<'a>(
     n: usize,
     run: u32,
 ) -> Out
-    requires { ⌜ (out .moved + 2 ^ 52 < 2 ^ 63) × (base < 2 ^ 31) × (run < 512) × (length (now members) ≤ 513) × Below 512 (now members) × (n ≤ 512) × ((c : ℕ) → c < n → Inside (now members) (now begins) (now current) c × Inside (now members) (now begins) (now row) c) ⌝ }
-    ensures { λ r. ⌜ (r, now (steps .exit)) ≡ emit (out, now (steps .entry)) (visitOf (now (starts .entry)) base (now (members .entry)) (now (begins .entry)) (now (current .entry)) (now (row .entry)) n run) ⌝ }
+    requires { ⌜ (out .moved + 2 ^ 52 < 2 ^ 63) × (base < 2 ^ 31) × (run < 512) × (length (now members) ≤ 513) × Below 512 (now members) × (n ≤ 512) ×
+        ((c : ℕ) → c < n → Inside (now members) (now begins) (now current) c × Inside (now members) (now begins) (now row) c) ⌝ }
+    ensures { λ r. ⌜ (r, now (steps .exit)) ≡ emit (out, now (steps .entry))
+        (visitOf (now (starts .entry)) base (now (members .entry)) (now (begins .entry)) (now (current .entry)) (now (row .entry)) n run) ⌝ }
     ensures { λ r. ⌜ r .moved ≤ out .moved + 2 ^ 52 ⌝ }
 {
     let a = put_moves(

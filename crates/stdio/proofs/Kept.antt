@@ -14,7 +14,7 @@ use Rattle.stdio.specs.declared.Got.{Got}
 use Rattle.stdio.specs.declared.Got.the-variants.{Bytes, End, Failed}
 use Rattle.stdio.specs.declared.Filled.{Filled}
 use Rattle.stdio.specs.declared.Filled.the-variants.{Bytes as Full}
-use Rattle.stdio.specs.Reads.{counted, gotOf, Room, Held}
+use Rattle.stdio.specs.Reads.{counted, gotOf, Room, InBuffer}
 
 -- What an answer says: it is below 0, it counts nothing, it counts something
 pub told-failed : (z : ℤ) (n : ℕ) → ltZ z (pos 0) ≡ true → Failed ≡ gotOf z n
@@ -59,5 +59,5 @@ before-kept at xs zs h = ap (λ n. take n (take at xs ++ zs)) (sym (length-take-
 pub counts : (n : ℕ) (xs : List ℕ) → n ≤ length xs → Counts n xs
 counts n xs h = (h, sym (length-take-le n xs h))
 
-pub held-of : (xs : List ℕ) (n : ℕ) (filled : Filled) → filled ≡ Full n → Held xs filled → Counts n xs
-held-of xs n filled e h = subst (Held xs) e h
+pub held-of : (xs : List ℕ) (n : ℕ) (filled : Filled) → filled ≡ Full n → InBuffer xs filled → Counts n xs
+held-of xs n filled e h = subst (InBuffer xs) e h

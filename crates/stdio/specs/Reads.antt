@@ -31,6 +31,6 @@ abbrev pub Came : ℕ → List ℕ → List ℕ → Got → Type 0
 Came at xs ys got = (take at ys ≡ take at xs) × Room at (length xs) got
 
 -- so many bytes stand at the start of the buffer
-abbrev pub Held : List ℕ → Filled → Type 0
-Held xs (Bytes n) = Counts n xs
-Held xs Failed = Unit
+abbrev pub InBuffer : List ℕ → Filled → Type 0
+InBuffer xs (Bytes n) = Counts n xs
+InBuffer xs Failed = Unit

@@ -2,7 +2,7 @@
 ghost use Prim.Native.Nat.{_≤_};
 ghost use lib.ListN.{length};
 ghost use mathlib.Core.Path.{_≡_};
-ghost use Rattle.stdio.specs.Reads.{gotOf, Came, Held};
+ghost use Rattle.stdio.specs.Reads.{gotOf, Came, InBuffer};
 use libc::STDIN_FILENO;
 
 // What one read gave: so many bytes, at least one; the end of the input; a failure.
@@ -45,7 +45,7 @@ fn read_at(buf: &mut [u8], at: usize) -> Got
 
 // Reads until the buffer is full, the input ends or a read fails. After a failed read errno says why.
 pub fn fill(buf: &mut [u8]) -> Filled
-    ensures { λ r. ⌜ Held (now (buf .exit)) r ⌝ }
+    ensures { λ r. ⌜ InBuffer (now (buf .exit)) r ⌝ }
 {
     let mut at = 0;
     while at < buf.len() {

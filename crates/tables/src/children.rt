@@ -26,7 +26,9 @@ fn count_parents(starts: &mut [u32], ps: &[u32])
 // How many children each run has, one place on.
 fn count_all<'a>(starts: &mut [u32], heads: &'a [u32], items: &'a [u32], n: usize)
     requires { ⌜ Sound (now heads) (now items) n × (length (now starts) ≡ n + 1) × (getD (now heads) n 0 ≤ 2 ^ 20) ⌝ }
-    ensures { λ _. ⌜ (getD (now (starts .exit)) 0 0 ≡ 0) × ((r : ℕ) → r < n → getD (now (starts .exit)) (r + 1) 0 ≡ tally (grouped (now (heads .entry)) (now (items .entry)) n) r n) × (length (now (starts .exit)) ≡ length (now (starts .entry))) × ((k : ℕ) → getD (now (starts .exit)) k 0 ≤ 2 ^ 20) ⌝ }
+    ensures { λ _. ⌜ (getD (now (starts .exit)) 0 0 ≡ 0) ×
+        ((r : ℕ) → r < n → getD (now (starts .exit)) (r + 1) 0 ≡ tally (grouped (now (heads .entry)) (now (items .entry)) n) r n) ×
+        (length (now (starts .exit)) ≡ length (now (starts .entry))) × ((k : ℕ) → getD (now (starts .exit)) k 0 ≤ 2 ^ 20) ⌝ }
 {
     clear(starts);
     let mut r = 0;

@@ -139,8 +139,10 @@ fn weigh<'a>(
     n: usize,
     r: usize,
 )
-    requires { ⌜ (r < n) × (n ≤ length (now weights)) × (n * 16 ≤ length (now covers)) × (per ≡ perBit (offset (now starts) n)) × (per < 2 ^ 32) × Weighable (now starts) (now begins) (now children) n ⌝ }
-    ensures { λ _. ⌜ now (weights .exit) ≡ set (now (weights .entry)) r (count (λ b. b) (runBits (now (starts .entry)) per (now (begins .entry)) (now (children .entry)) (now (covers .entry)) r)) ⌝ }
+    requires { ⌜ (r < n) × (n ≤ length (now weights)) × (n * 16 ≤ length (now covers)) × (per ≡ perBit (offset (now starts) n)) × (per < 2 ^ 32) × Weighable
+        (now starts) (now begins) (now children) n ⌝ }
+    ensures { λ _. ⌜ now (weights .exit) ≡ set (now (weights .entry)) r
+        (count (λ b. b) (runBits (now (starts .entry)) per (now (begins .entry)) (now (children .entry)) (now (covers .entry)) r)) ⌝ }
     ensures { λ _. ⌜ Covered r (runBits (now (starts .entry)) per (now (begins .entry)) (now (children .entry)) (now (covers .entry)) r) (now (covers .exit)) (now (covers .entry)) ⌝ }
 {
     let low = offset_of(starts, r) / per;

@@ -93,7 +93,8 @@ pub fn sizes_of<'a>(
     chains: usize,
 )
     requires { ⌜ (n ≤ 512) × (chains ≤ 512) × (n ≤ length (now sizes)) × Bounded (2 ^ 41) (now before) × Inside (now starts) (now rows) n ⌝ }
-    ensures { λ _. ⌜ (length (now (sizes .exit)) ≡ length (now (sizes .entry))) × Sized (now (before .entry)) (now (begins .entry)) (now (starts .entry)) (now (rows .entry)) chains n (now (sizes .exit)) ⌝ }
+    ensures { λ _. ⌜ (length (now (sizes .exit)) ≡ length (now (sizes .entry))) × Sized (now (before .entry)) (now (begins .entry)) (now (starts .entry)) (now (rows .entry))
+        chains n (now (sizes .exit)) ⌝ }
 {
     let mut r = 0;
     while r < n {

@@ -54,7 +54,8 @@ pub fn lay<'a>(
 // Where each chain's members begin.
 fn list_begins(n: usize, chains: usize, tables: &mut [u32], scratch: &mut [u32])
     requires { ⌜ (n ≤ 512) × (chains ≤ n) × (6 * (n + 1) ≤ length (now tables)) × (n + 1 ≤ length (now scratch)) × Bounded 512 (lane 3 (n + 1) (now tables)) ⌝ }
-    ensures { λ _. ⌜ Summed (λ i. getD (lane 3 (n + 1) (now (tables .entry))) i 0) chains (lane 4 (n + 1) (now (tables .exit))) × Bounded (2 ^ 18) (lane 4 (n + 1) (now (tables .exit))) × Kept 4 (n + 1) (now (tables .exit)) (now (tables .entry)) × (length (now (scratch .exit)) ≡ length (now (scratch .entry))) ⌝ }
+    ensures { λ _. ⌜ Summed (λ i. getD (lane 3 (n + 1) (now (tables .entry))) i 0) chains (lane 4 (n + 1) (now (tables .exit))) × Bounded (2 ^ 18)
+        (lane 4 (n + 1) (now (tables .exit))) × Kept 4 (n + 1) (now (tables .exit)) (now (tables .entry)) × (length (now (scratch .exit)) ≡ length (now (scratch .entry))) ⌝ }
 {
     let w = n + 1;
     let c = 3 * w;
@@ -65,8 +66,11 @@ fn list_begins(n: usize, chains: usize, tables: &mut [u32], scratch: &mut [u32])
 
 // The members.
 fn list_members(n: usize, tables: &mut [u32], scratch: &mut [u32])
-    requires { ⌜ (n ≤ 512) × (6 * (n + 1) ≤ length (now tables)) × (n + 1 ≤ length (now scratch)) × Scattered (lane 4 (n + 1) (now tables)) (lane 1 (n + 1) (now tables)) (lane 2 (n + 1) (now tables)) n ⌝ }
-    ensures { λ _. ⌜ Placed (pos (lane 4 (n + 1) (now (tables .entry))) (lane 1 (n + 1) (now (tables .entry))) (lane 2 (n + 1) (now (tables .entry)))) n (lane 5 (n + 1) (now (tables .exit))) × Bounded 511 (lane 5 (n + 1) (now (tables .exit))) × Kept 5 (n + 1) (now (tables .exit)) (now (tables .entry)) × (length (now (scratch .exit)) ≡ length (now (scratch .entry))) ⌝ }
+    requires { ⌜ (n ≤ 512) × (6 * (n + 1) ≤ length (now tables)) × (n + 1 ≤ length (now scratch)) × Scattered (lane 4 (n + 1) (now tables)) (lane 1 (n + 1) (now tables))
+        (lane 2 (n + 1) (now tables)) n ⌝ }
+    ensures { λ _. ⌜ Placed (pos (lane 4 (n + 1) (now (tables .entry))) (lane 1 (n + 1) (now (tables .entry))) (lane 2 (n + 1) (now (tables .entry)))) n
+        (lane 5 (n + 1) (now (tables .exit))) × Bounded 511 (lane 5 (n + 1) (now (tables .exit))) × Kept 5 (n + 1) (now (tables .exit)) (now (tables .entry)) ×
+        (length (now (scratch .exit)) ≡ length (now (scratch .entry))) ⌝ }
 {
     let w = n + 1;
     let b = 2 * w;
@@ -86,7 +90,8 @@ fn list_members(n: usize, tables: &mut [u32], scratch: &mut [u32])
 // The events of the first members.
 fn sum_events(starts: &[u32], n: usize, tables: &[u32], before: &mut [u64])
     requires { ⌜ (n ≤ 512) × (6 * (n + 1) ≤ length (now tables)) × (n + 1 ≤ length (now before)) ⌝ }
-    ensures { λ _. ⌜ Summed (λ i. sizeIn (now (starts .entry)) (getD (lane 5 (n + 1) (now (tables .entry))) i 0)) n (now (before .exit)) × BoundedTo n (2 ^ 41) (now (before .exit)) × (Bounded (2 ^ 41) (now (before .entry)) → Bounded (2 ^ 41) (now (before .exit))) × (length (now (before .exit)) ≡ length (now (before .entry))) ⌝ }
+    ensures { λ _. ⌜ Summed (λ i. sizeIn (now (starts .entry)) (getD (lane 5 (n + 1) (now (tables .entry))) i 0)) n (now (before .exit)) × BoundedTo n (2 ^ 41)
+        (now (before .exit)) × (Bounded (2 ^ 41) (now (before .entry)) → Bounded (2 ^ 41) (now (before .exit))) × (length (now (before .exit)) ≡ length (now (before .entry))) ⌝ }
 {
     let w = n + 1;
     let e = 5 * w;
@@ -103,8 +108,12 @@ pub fn index(
     before: &mut [u64],
     scratch: &mut [u32],
 )
-    requires { ⌜ Indexable n chains (lane 3 (n + 1) (now tables)) (lane 1 (n + 1) (now tables)) (lane 2 (n + 1) (now tables)) × (6 * (n + 1) ≤ length (now tables)) × (n + 1 ≤ length (now before)) × (n + 1 ≤ length (now scratch)) ⌝ }
-    ensures { λ _. ⌜ IndexOf (now (starts .entry)) n chains (lane 3 (n + 1) (now (tables .entry))) (lane 1 (n + 1) (now (tables .entry))) (lane 2 (n + 1) (now (tables .entry))) (lane 4 (n + 1) (now (tables .exit))) (lane 5 (n + 1) (now (tables .exit))) (now (before .exit)) × Kept 4 (n + 1) (now (tables .exit)) (now (tables .entry)) × (Bounded (2 ^ 41) (now (before .entry)) → Bounded (2 ^ 41) (now (before .exit))) × (length (now (before .exit)) ≡ length (now (before .entry))) × (length (now (scratch .exit)) ≡ length (now (scratch .entry))) ⌝ }
+    requires { ⌜ Indexable n chains (lane 3 (n + 1) (now tables)) (lane 1 (n + 1) (now tables)) (lane 2 (n + 1) (now tables)) × (6 * (n + 1) ≤ length (now tables)) ×
+        (n + 1 ≤ length (now before)) × (n + 1 ≤ length (now scratch)) ⌝ }
+    ensures { λ _. ⌜ IndexOf (now (starts .entry)) n chains (lane 3 (n + 1) (now (tables .entry))) (lane 1 (n + 1) (now (tables .entry))) (lane 2 (n + 1) (now (tables .entry)))
+        (lane 4 (n + 1) (now (tables .exit))) (lane 5 (n + 1) (now (tables .exit))) (now (before .exit)) × Kept 4 (n + 1) (now (tables .exit)) (now (tables .entry)) ×
+        (Bounded (2 ^ 41) (now (before .entry)) → Bounded (2 ^ 41) (now (before .exit))) × (length (now (before .exit)) ≡ length (now (before .entry))) ×
+        (length (now (scratch .exit)) ≡ length (now (scratch .entry))) ⌝ }
 {
     list_begins(n, chains, tables, scratch);
     list_members(n, tables, scratch);
@@ -119,7 +128,8 @@ pub fn children(
     children: &mut [u32],
     scratch: &mut [u32],
 )
-    requires { ⌜ Sound (headsIn n (now groups)) (itemsIn n (now groups)) n × (7 * (n + 1) ≤ length (now tables)) × (n + 1 ≤ length (now scratch)) × (getD (headsIn n (now groups)) n 0 ≤ length (now children)) × (length (now children) ≤ 2 ^ 20) ⌝ }
+    requires { ⌜ Sound (headsIn n (now groups)) (itemsIn n (now groups)) n × (7 * (n + 1) ≤ length (now tables)) × (n + 1 ≤ length (now scratch)) ×
+        (getD (headsIn n (now groups)) n 0 ≤ length (now children)) × (length (now children) ≤ 2 ^ 20) ⌝ }
     ensures { λ _. ⌜ KidsTabled (grouped (headsIn n (now (groups .entry))) (itemsIn n (now (groups .entry))) n) n (lane 6 (n + 1) (now (tables .exit))) (now (children .exit)) ⌝ }
     ensures { λ _. ⌜ Kept 6 (n + 1) (now (tables .exit)) (now (tables .entry)) ⌝ }
     ensures { λ _. ⌜ (length (now (children .exit)) ≡ length (now (children .entry))) × (length (now (scratch .exit)) ≡ length (now (scratch .entry))) ⌝ }
@@ -140,7 +150,8 @@ pub fn weights(
     covers: &mut [u8],
     scratch: &mut [u32],
 )
-    requires { ⌜ (8 * (n + 1) ≤ length (now tables)) × (n + 1 ≤ length (now scratch)) × (n * 16 ≤ length (now covers)) × Weighable (now starts) (lane 6 (n + 1) (now tables)) (now children) n ⌝ }
+    requires { ⌜ (8 * (n + 1) ≤ length (now tables)) × (n + 1 ≤ length (now scratch)) × (n * 16 ≤ length (now covers)) × Weighable (now starts)
+        (lane 6 (n + 1) (now tables)) (now children) n ⌝ }
     ensures { λ _. ⌜ Weighted (now (starts .entry)) (lane 6 (n + 1) (now (tables .entry))) (now (children .entry)) n (lane 7 (n + 1) (now (tables .exit))) ⌝ }
     ensures { λ _. ⌜ Kept 7 (n + 1) (now (tables .exit)) (now (tables .entry)) ⌝ }
 {
@@ -167,8 +178,10 @@ pub fn sizes(
     before: &[u64],
     sizes: &mut [u64],
 )
-    requires { ⌜ (n ≤ 512) × (chains ≤ 512) × (n ≤ length (now sizes)) × (n + 1 ≤ length (now before)) × (5 * (n + 1) ≤ length (now tables)) × Bounded (2 ^ 41) (take (n + 1) (now before)) × Inside (lane 0 (n + 1) (now tables)) (now rows) n ⌝ }
-    ensures { λ _. ⌜ (length (now (sizes .exit)) ≡ length (now (sizes .entry))) × Sized (take (n + 1) (now (before .entry))) (lane 4 (n + 1) (now (tables .entry))) (lane 0 (n + 1) (now (tables .entry))) (now (rows .entry)) chains n (now (sizes .exit)) ⌝ }
+    requires { ⌜ (n ≤ 512) × (chains ≤ 512) × (n ≤ length (now sizes)) × (n + 1 ≤ length (now before)) × (5 * (n + 1) ≤ length (now tables)) × Bounded (2 ^ 41)
+        (take (n + 1) (now before)) × Inside (lane 0 (n + 1) (now tables)) (now rows) n ⌝ }
+    ensures { λ _. ⌜ (length (now (sizes .exit)) ≡ length (now (sizes .entry))) × Sized (take (n + 1) (now (before .entry))) (lane 4 (n + 1) (now (tables .entry)))
+        (lane 0 (n + 1) (now (tables .entry))) (now (rows .entry)) chains n (now (sizes .exit)) ⌝ }
 {
     let w = n + 1;
     let d = 4 * w;

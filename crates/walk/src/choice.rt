@@ -111,7 +111,8 @@ fn cost_of<'a>(
     n: usize,
     run: usize,
 ) -> u64
-    requires { ⌜ (n ≤ 512) × Bounded (2 ^ 41) (now before) × (run < 512) × (getD (now starts) run 0 ≤ getD (now starts) (run + 1) 0) × (getD (now starts) (run + 1) 0 ≤ length (now rows)) ⌝ }
+    requires { ⌜ (n ≤ 512) × Bounded (2 ^ 41) (now before) × (run < 512) × (getD (now starts) run 0 ≤ getD (now starts) (run + 1) 0) ×
+        (getD (now starts) (run + 1) 0 ≤ length (now rows)) ⌝ }
     ensures { λ r. ⌜ Within (limitC b) (costC (now (before .entry)) (now (begins .entry)) (now (current .entry)) (now (rows .entry)) (now (starts .entry)) n run) r × (r ≤ 2 ^ 50) ⌝ }
 {
     let s = wide(get(starts, run));
@@ -139,8 +140,10 @@ fn weigh<'a>(
     run: usize,
     at: usize,
 ) -> Best
-    requires { ⌜ (n ≤ 512) × Bounded (2 ^ 41) (now before) × (here ≡ eventsFrom (now before) (now begins) (now current) 0 n) × Tabled (now before) (now begins) (now rows) (now starts) n (now heads) (now items) (now sizes) run ⌝ }
-    ensures { λ r. ⌜ r ≡ weighC (onlyC (now (heads .entry)) (now (items .entry)) any last run) (costC (now (before .entry)) (now (begins .entry)) (now (current .entry)) (now (rows .entry)) (now (starts .entry)) n run) (weightC (now (weights .entry)) run) at best ⌝ }
+    requires { ⌜ (n ≤ 512) × Bounded (2 ^ 41) (now before) × (here ≡ eventsFrom (now before) (now begins) (now current) 0 n) × Tabled (now before) (now begins) (now rows)
+        (now starts) n (now heads) (now items) (now sizes) run ⌝ }
+    ensures { λ r. ⌜ r ≡ weighC (onlyC (now (heads .entry)) (now (items .entry)) any last run)
+        (costC (now (before .entry)) (now (begins .entry)) (now (current .entry)) (now (rows .entry)) (now (starts .entry)) n run) (weightC (now (weights .entry)) run) at best ⌝ }
 {
     let weight = long(get(weights, run));
     if only_parent(heads, items, run, any, last) {
@@ -180,7 +183,9 @@ pub(crate) fn nearest<'a>(
     last: u32,
 ) -> Best
     requires { ⌜ (n ≤ 512) × Bounded (2 ^ 41) (now before) × AllTabled (now ready) m (now before) (now begins) (now rows) (now starts) n (now heads) (now items) (now sizes) ⌝ }
-    ensures { λ r. ⌜ r ≡ scanC (onlyC (now (heads .entry)) (now (items .entry)) any last) (costC (now (before .entry)) (now (begins .entry)) (now (current .entry)) (now (rows .entry)) (now (starts .entry)) n) (weightC (now (weights .entry))) (now (ready .entry)) m 0 (min 64 m) start ⌝ }
+    ensures { λ r. ⌜ r ≡ scanC (onlyC (now (heads .entry)) (now (items .entry)) any last)
+        (costC (now (before .entry)) (now (begins .entry)) (now (current .entry)) (now (rows .entry)) (now (starts .entry)) n) (weightC (now (weights .entry))) (now (ready .entry))
+        m 0 (min 64 m) start ⌝ }
 {
     let here = events_of(before, begins, current, n);
     let k = fewer(m);

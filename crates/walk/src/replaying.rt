@@ -61,7 +61,8 @@ fn replay_next<'a>(
     requires { ⌜ Arrays (now starts) (now heads) (now parents) (b .0) ⌝ }
     requires { ⌜ (a .0 ≤ b .0) × (r .moved ≤ a .0 * 2 ^ 52) ⌝ }
     requires { ⌜ Room (now groups) (now tables) (now before) (now sizes) (now children) (now covers) (now scratch) ⌝ }
-    ensures { λ s. ⌜ (s, now (rows .exit), now (steps .exit)) ≡ replayOn (now (starts .entry)) (runsOf (now (starts .entry)) (now (heads .entry)) (now (parents .entry))) (r, now (rows .entry), now (steps .entry)) (rangeBy kind (a .0) (b .0)) ⌝ }
+    ensures { λ s. ⌜ (s, now (rows .exit), now (steps .exit)) ≡ replayOn (now (starts .entry)) (runsOf (now (starts .entry)) (now (heads .entry)) (now (parents .entry)))
+        (r, now (rows .entry), now (steps .entry)) (rangeBy kind (a .0) (b .0)) ⌝ }
     ensures { λ s. ⌜ s .moved ≤ b .0 * 2 ^ 52 ⌝ }
     ensures { λ _. ⌜ Room (now (groups .exit)) (now (tables .exit)) (now (before .exit)) (now (sizes .exit)) (now (children .exit)) (now (covers .exit)) (now (scratch .exit)) ⌝ }
 {
@@ -119,7 +120,8 @@ fn replay_all<'a>(
     requires { ⌜ Tiled (now starts) (now heads) (now parents) (now cut) n ⌝ }
     requires { ⌜ 3 * n ≤ length (now cut) ⌝ }
     requires { ⌜ Room (now groups) (now tables) (now before) (now sizes) (now children) (now covers) (now scratch) ⌝ }
-    ensures { λ r. ⌜ (r, now (rows .exit), now (steps .exit)) ≡ replayAll (now (starts .entry)) (runsOf (now (starts .entry)) (now (heads .entry)) (now (parents .entry))) (Walked·ranged unwritten 0, now (rows .entry), now (steps .entry)) (rangesIn (now (cut .entry)) 0 n) ⌝ }
+    ensures { λ r. ⌜ (r, now (rows .exit), now (steps .exit)) ≡ replayAll (now (starts .entry)) (runsOf (now (starts .entry)) (now (heads .entry)) (now (parents .entry)))
+        (Walked·ranged unwritten 0, now (rows .entry), now (steps .entry)) (rangesIn (now (cut .entry)) 0 n) ⌝ }
 {
     let mut r = Ranged {
         count: 0,
@@ -168,7 +170,8 @@ fn replay_fresh<'a>(
 ) -> Ranged
     requires { ⌜ Tiled (now starts) (now heads) (now parents) (now cut) n ⌝ }
     requires { ⌜ 3 * n ≤ length (now cut) ⌝ }
-    ensures { λ r. ⌜ (r, now (rows .exit), now (steps .exit)) ≡ replayAll (now (starts .entry)) (runsOf (now (starts .entry)) (now (heads .entry)) (now (parents .entry))) (Walked·ranged unwritten 0, now (rows .entry), now (steps .entry)) (rangesIn (now (cut .entry)) 0 n) ⌝ }
+    ensures { λ r. ⌜ (r, now (rows .exit), now (steps .exit)) ≡ replayAll (now (starts .entry)) (runsOf (now (starts .entry)) (now (heads .entry)) (now (parents .entry)))
+        (Walked·ranged unwritten 0, now (rows .entry), now (steps .entry)) (rangesIn (now (cut .entry)) 0 n) ⌝ }
 {
     let mut groups = walking::zeros_2561();
     let mut tables = walking::zeros_4104();

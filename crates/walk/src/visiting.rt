@@ -66,7 +66,8 @@ fn choose<'a>(
 ) -> usize
     requires { ⌜ (n ≤ 512) × (chains ≤ 512) × (last ≤ 512) × (8 * (n + 1) ≤ length (now tables)) × (n + 1 ≤ length (now groups)) × (n + 1 ≤ length (now before)) ⌝ }
     requires { ⌜ Bounded (2 ^ 41) (take (n + 1) (now before)) ⌝ }
-    requires { ⌜ AllTabled (now ready) m (take (n + 1) (now before)) (lane 4 (n + 1) (now tables)) (now rows) (lane 0 (n + 1) (now tables)) chains (headsIn n (now groups)) (itemsIn n (now groups)) (now sizes) ⌝ }
+    requires { ⌜ AllTabled (now ready) m (take (n + 1) (now before)) (lane 4 (n + 1) (now tables)) (now rows) (lane 0 (n + 1) (now tables)) chains (headsIn n (now groups))
+        (itemsIn n (now groups)) (now sizes) ⌝ }
     ensures { λ r. ⌜ r ≡ bestBy n chains (now (rows .entry)) (now (groups .entry)) (now (tables .entry)) (now (before .entry)) (now (current .entry)) (now (ready .entry)) m last .at ⌝ }
 {
     let w = n + 1;
@@ -107,14 +108,18 @@ fn visit(
     steps: &mut [u32],
     current: &mut [u32],
 ) -> Out
-    requires { ⌜ (n ≤ 512) × (chains ≤ 512) × (base .0 < 2 ^ 31) × (run < n) × (8 * (n + 1) ≤ length (now tables)) × (out .moved + 2 ^ 52 < 2 ^ 63) × (chains ≤ length (now current)) ⌝ }
+    requires { ⌜ (n ≤ 512) × (chains ≤ 512) × (base .0 < 2 ^ 31) × (run < n) × (8 * (n + 1) ≤ length (now tables)) × (out .moved + 2 ^ 52 < 2 ^ 63) ×
+        (chains ≤ length (now current)) ⌝ }
     requires { ⌜ (getD (lane 0 (n + 1) (now tables)) run 0 ≤ getD (lane 0 (n + 1) (now tables)) (run + 1) 0) × (getD (lane 0 (n + 1) (now tables)) (run + 1) 0 ≤ length (now rows)) ⌝ }
     requires { ⌜ (getD (lane 1 (n + 1) (now tables)) run 0 < chains) × (getD (lane 2 (n + 1) (now tables)) run 0 < 512) ⌝ }
     requires { ⌜ AllSmall (lane 5 (n + 1) (now tables)) ⌝ }
     requires { ⌜ AllInside (lane 5 (n + 1) (now tables)) (lane 4 (n + 1) (now tables)) (now current) chains ⌝ }
     requires { ⌜ AllInside (lane 5 (n + 1) (now tables)) (lane 4 (n + 1) (now tables)) (rowIn (lane 0 (n + 1) (now tables)) (now rows) run) chains ⌝ }
-    ensures { λ r. ⌜ (r, now (steps .exit)) ≡ emit (out, now (steps .entry)) (visitOf (now (starts .entry)) (base .0) (lane 5 (n + 1) (now (tables .entry))) (lane 4 (n + 1) (now (tables .entry))) (now (current .entry)) (rowIn (lane 0 (n + 1) (now (tables .entry))) (now (rows .entry)) run) chains run) ⌝ }
-    ensures { λ r. ⌜ Holds (arrived (rowIn (lane 0 (n + 1) (now (tables .entry))) (now (rows .entry)) run) (getD (lane 1 (n + 1) (now (tables .entry))) run 0) (getD (lane 2 (n + 1) (now (tables .entry))) run 0)) chains (now (current .exit)) × (length (now (current .exit)) ≡ length (now (current .entry))) ⌝ }
+    ensures { λ r. ⌜ (r, now (steps .exit)) ≡ emit (out, now (steps .entry))
+        (visitOf (now (starts .entry)) (base .0) (lane 5 (n + 1) (now (tables .entry))) (lane 4 (n + 1) (now (tables .entry))) (now (current .entry))
+        (rowIn (lane 0 (n + 1) (now (tables .entry))) (now (rows .entry)) run) chains run) ⌝ }
+    ensures { λ r. ⌜ Holds (arrived (rowIn (lane 0 (n + 1) (now (tables .entry))) (now (rows .entry)) run) (getD (lane 1 (n + 1) (now (tables .entry))) run 0)
+        (getD (lane 2 (n + 1) (now (tables .entry))) run 0)) chains (now (current .exit)) × (length (now (current .exit)) ≡ length (now (current .entry))) ⌝ }
     ensures { λ r. ⌜ r .moved ≤ out .moved + 2 ^ 52 ⌝ }
 {
     let w = n + 1;
@@ -157,7 +162,8 @@ fn wake(
 ) -> Woken
     requires { ⌜ (n ≤ 512) × (run < n) × (8 * (n + 1) ≤ length (now tables)) ⌝ }
     requires { ⌜ (getD (lane 6 (n + 1) (now tables)) run 0 ≤ getD (lane 6 (n + 1) (now tables)) (run + 1) 0) × (getD (lane 6 (n + 1) (now tables)) (run + 1) 0 ≤ length (now children)) ⌝ }
-    ensures { λ r. ⌜ (r .ready, now (waiting .exit), now (ready .exit)) ≡ wokenOf (m, now (waiting .entry), now (ready .entry)) (part (getD (lane 6 (n + 1) (now (tables .entry))) run 0) (getD (lane 6 (n + 1) (now (tables .entry))) (run + 1) 0) (now (children .entry))) run known first n left ⌝ }
+    ensures { λ r. ⌜ (r .ready, now (waiting .exit), now (ready .exit)) ≡ wokenOf (m, now (waiting .entry), now (ready .entry))
+        (part (getD (lane 6 (n + 1) (now (tables .entry))) run 0) (getD (lane 6 (n + 1) (now (tables .entry))) (run + 1) 0) (now (children .entry))) run known first n left ⌝ }
     ensures { λ r. ⌜ r .left ≡ leftAfter run known first left ⌝ }
 {
     let f = 6 * (n + 1);
@@ -196,8 +202,35 @@ fn visit_next<'a>(
     waiting: &mut [u32],
     ready: &mut [u32],
 ) -> Progress
-    requires { ⌜ Fit (record { starts = now starts; rows = now rows; groups = now groups; tables = now tables; before = now before; sizes = now sizes; children = now children; base = base .0; runs = n; chains = chains; known = known; first = first }) (s, now steps, now current, now waiting, now ready) ⌝ }
-    ensures { λ r. ⌜ Turned (record { starts = now (starts .entry); rows = now (rows .entry); groups = now (groups .entry); tables = now (tables .entry); before = now (before .entry); sizes = now (sizes .entry); children = now (children .entry); base = base .0; runs = n; chains = chains; known = known; first = first }) (s, now (steps .entry), now (current .entry), now (waiting .entry), now (ready .entry)) (r, now (steps .exit), now (current .exit), now (waiting .exit), now (ready .exit)) ⌝ }
+    requires { ⌜ Fit (record {
+      starts = now starts;
+      rows = now rows;
+      groups = now groups;
+      tables = now tables;
+      before = now before;
+      sizes = now sizes;
+      children = now children;
+      base = base .0;
+      runs = n;
+      chains = chains;
+      known = known;
+      first = first;
+    }) (s, now steps, now current, now waiting, now ready) ⌝ }
+    ensures { λ r. ⌜ Turned (record {
+      starts = now (starts .entry);
+      rows = now (rows .entry);
+      groups = now (groups .entry);
+      tables = now (tables .entry);
+      before = now (before .entry);
+      sizes = now (sizes .entry);
+      children = now (children .entry);
+      base = base .0;
+      runs = n;
+      chains = chains;
+      known = known;
+      first = first;
+    })
+        (s, now (steps .entry), now (current .entry), now (waiting .entry), now (ready .entry)) (r, now (steps .exit), now (current .exit), now (waiting .exit), now (ready .exit)) ⌝ }
 {
     let m = s.ready;
     let at = choose(
@@ -274,10 +307,51 @@ fn visit_all<'a>(
     waiting: &mut [u32],
     ready: &mut [u32],
 ) -> Progress
-    requires { ⌜ Prepared (record { starts = now starts; rows = now rows; groups = now groups; tables = now tables; before = now before; sizes = now sizes; children = now children; base = base .0; runs = n; chains = chains; known = known; first = first }) ⌝ }
-    requires { ⌜ Begun (record { starts = now starts; rows = now rows; groups = now groups; tables = now tables; before = now before; sizes = now sizes; children = now children; base = base .0; runs = n; chains = chains; known = known; first = first }) (begun, now steps, now current, now waiting, now ready) ⌝ }
+    requires { ⌜ Prepared (record {
+      starts = now starts;
+      rows = now rows;
+      groups = now groups;
+      tables = now tables;
+      before = now before;
+      sizes = now sizes;
+      children = now
+          children;
+      base = base .0;
+      runs = n;
+      chains = chains;
+      known = known;
+      first = first;
+    }) ⌝ }
+    requires { ⌜ Begun (record {
+      starts = now starts;
+      rows = now rows;
+      groups = now groups;
+      tables = now tables;
+      before = now before;
+      sizes = now sizes;
+      children = now children;
+      base = base .0;
+      runs = n;
+      chains = chains;
+      known = known;
+      first = first;
+    }) (begun, now steps, now current, now waiting, now ready) ⌝ }
     requires { ⌜ begun .moved + (n + 1) * 2 ^ 52 < 2 ^ 63 ⌝ }
-    ensures { λ r. ⌜ (outIn r, now (steps .exit)) ≡ emit (outIn begun, now (steps .entry)) (recs (now (starts .entry)) (stepsOf (rangeFor (record { starts = now (starts .entry); rows = now (rows .entry); groups = now (groups .entry); tables = now (tables .entry); before = now (before .entry); sizes = now (sizes .entry); children = now (children .entry); base = base .0; runs = n; chains = chains; known = known; first = first })) (base .0) known first)) ⌝ }
+    ensures { λ r. ⌜ (outIn r, now (steps .exit)) ≡ emit (outIn begun, now (steps .entry))
+        (recs (now (starts .entry)) (stepsOf (rangeFor (record {
+          starts = now (starts .entry);
+          rows = now (rows .entry);
+          groups = now (groups .entry);
+          tables = now (tables .entry);
+          before = now (before .entry);
+          sizes = now (sizes .entry);
+          children = now (children .entry);
+          base = base .0;
+          runs = n;
+          chains = chains;
+          known = known;
+          first = first;
+        })) (base .0) known first)) ⌝ }
     ensures { λ r. ⌜ r .moved ≤ begun .moved + n * 2 ^ 52 ⌝ }
 {
     let mut s = begun;
@@ -327,10 +401,38 @@ fn visits_in<'a>(
     waiting: &mut [u32],
     ready: &mut [u32],
 ) -> Out
-    requires { ⌜ Prepared (record { starts = now starts; rows = now rows; groups = now groups; tables = now tables; before = now before; sizes = now sizes; children = now children; base = base .0; runs = n; chains = chains; known = known; first = first }) ⌝ }
+    requires { ⌜ Prepared (record {
+      starts = now starts;
+      rows = now rows;
+      groups = now groups;
+      tables = now tables;
+      before = now before;
+      sizes = now sizes;
+      children = now
+          children;
+      base = base .0;
+      runs = n;
+      chains = chains;
+      known = known;
+      first = first;
+    }) ⌝ }
     requires { ⌜ out .moved + (n + 1) * 2 ^ 52 < 2 ^ 63 ⌝ }
     requires { ⌜ (512 ≤ length (now current)) × (length (now waiting) ≡ n) × (512 ≤ length (now ready)) ⌝ }
-    ensures { λ r. ⌜ (r, now (steps .exit)) ≡ emit (out, now (steps .entry)) (recs (now (starts .entry)) (stepsOf (rangeFor (record { starts = now (starts .entry); rows = now (rows .entry); groups = now (groups .entry); tables = now (tables .entry); before = now (before .entry); sizes = now (sizes .entry); children = now (children .entry); base = base .0; runs = n; chains = chains; known = known; first = first })) (base .0) known first)) ⌝ }
+    ensures { λ r. ⌜ (r, now (steps .exit)) ≡ emit (out, now (steps .entry))
+        (recs (now (starts .entry)) (stepsOf (rangeFor (record {
+          starts = now (starts .entry);
+          rows = now (rows .entry);
+          groups = now (groups .entry);
+          tables = now (tables .entry);
+          before = now (before .entry);
+          sizes = now (sizes .entry);
+          children = now (children .entry);
+          base = base .0;
+          runs = n;
+          chains = chains;
+          known = known;
+          first = first;
+        })) (base .0) known first)) ⌝ }
     ensures { λ r. ⌜ r .moved ≤ out .moved + n * 2 ^ 52 ⌝ }
 {
     let w = n + 1;
@@ -389,9 +491,37 @@ pub(crate) fn visits<'a>(
     children: &[u32],
     steps: &mut [u32],
 ) -> Out
-    requires { ⌜ Prepared (record { starts = now starts; rows = now rows; groups = now groups; tables = now tables; before = now before; sizes = now sizes; children = now children; base = base .0; runs = n; chains = chains; known = known; first = first }) ⌝ }
+    requires { ⌜ Prepared (record {
+      starts = now starts;
+      rows = now rows;
+      groups = now groups;
+      tables = now tables;
+      before = now before;
+      sizes = now sizes;
+      children = now
+          children;
+      base = base .0;
+      runs = n;
+      chains = chains;
+      known = known;
+      first = first;
+    }) ⌝ }
     requires { ⌜ out .moved + (n + 1) * 2 ^ 52 < 2 ^ 63 ⌝ }
-    ensures { λ r. ⌜ (r, now (steps .exit)) ≡ emit (out, now (steps .entry)) (recs (now (starts .entry)) (stepsOf (rangeFor (record { starts = now (starts .entry); rows = now (rows .entry); groups = now (groups .entry); tables = now (tables .entry); before = now (before .entry); sizes = now (sizes .entry); children = now (children .entry); base = base .0; runs = n; chains = chains; known = known; first = first })) (base .0) known first)) ⌝ }
+    ensures { λ r. ⌜ (r, now (steps .exit)) ≡ emit (out, now (steps .entry))
+        (recs (now (starts .entry)) (stepsOf (rangeFor (record {
+          starts = now (starts .entry);
+          rows = now (rows .entry);
+          groups = now (groups .entry);
+          tables = now (tables .entry);
+          before = now (before .entry);
+          sizes = now (sizes .entry);
+          children = now (children .entry);
+          base = base .0;
+          runs = n;
+          chains = chains;
+          known = known;
+          first = first;
+        })) (base .0) known first)) ⌝ }
     ensures { λ r. ⌜ r .moved ≤ out .moved + n * 2 ^ 52 ⌝ }
 {
     let mut current = zeros();

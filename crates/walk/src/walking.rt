@@ -125,7 +125,8 @@ pub(crate) fn walk_range<'a>(
     requires { ⌜ Arrays (now starts) (now heads) (now parents) (b .0) ⌝ }
     requires { ⌜ (a .0 ≤ b .0) × (known ≤ b .0 - a .0) × (out .moved ≤ a .0 * 2 ^ 52) ⌝ }
     requires { ⌜ Room (now groups) (now tables) (now before) (now sizes) (now children) (now covers) (now scratch) ⌝ }
-    ensures { λ r. ⌜ (r, now (rows .exit), now (steps .exit)) ≡ walkedIn (now (starts .entry)) (rangeIn (now (starts .entry)) (now (heads .entry)) (now (parents .entry)) (a .0) (b .0 - a .0)) (a .0) known first out (now (rows .entry)) (now (steps .entry)) ⌝ }
+    ensures { λ r. ⌜ (r, now (rows .exit), now (steps .exit)) ≡ walkedIn (now (starts .entry))
+        (rangeIn (now (starts .entry)) (now (heads .entry)) (now (parents .entry)) (a .0) (b .0 - a .0)) (a .0) known first out (now (rows .entry)) (now (steps .entry)) ⌝ }
     ensures { λ r. ⌜ r .moved ≤ b .0 * 2 ^ 52 ⌝ }
     ensures { λ _. ⌜ Room (now (groups .exit)) (now (tables .exit)) (now (before .exit)) (now (sizes .exit)) (now (children .exit)) (now (covers .exit)) (now (scratch .exit)) ⌝ }
 {
@@ -261,7 +262,8 @@ fn walk_fresh<'a>(
 ) -> Ranged
     requires { ⌜ Arrays (now starts) (now heads) (now parents) (b .0) ⌝ }
     requires { ⌜ (a .0 ≤ b .0) × (known ≤ b .0 - a .0) ⌝ }
-    ensures { λ r. ⌜ (r, now (rows .exit), now (steps .exit)) ≡ walkedIn (now (starts .entry)) (rangeIn (now (starts .entry)) (now (heads .entry)) (now (parents .entry)) (a .0) (b .0 - a .0)) (a .0) known first unwritten (now (rows .entry)) (now (steps .entry)) ⌝ }
+    ensures { λ r. ⌜ (r, now (rows .exit), now (steps .exit)) ≡ walkedIn (now (starts .entry))
+        (rangeIn (now (starts .entry)) (now (heads .entry)) (now (parents .entry)) (a .0) (b .0 - a .0)) (a .0) known first unwritten (now (rows .entry)) (now (steps .entry)) ⌝ }
 {
     let mut groups = zeros_2561();
     let mut tables = zeros_4104();
