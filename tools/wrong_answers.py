@@ -13,16 +13,38 @@ RT = os.environ.get("RT", "rt")
 LOGS = os.environ.get("LOGS")
 
 # By the crate that is edited, which may be one below the call's: call, wrong answer, file, old text, new text, and which of its places
-# where the old text stands more than once. Or the name of one of the crate's must-fail edits.
+# where the old text stands more than once. Or the name of an edit: one of the crate's must-fail edits, which the gate tries too, or one
+# beside this file, in wrong_answers/CRATE/.
+MODEL = [
+    ("pushing::push", "takes a parent that is no known event: C6", "unknown_parent"),
+    ("pushing::push", "leaves later parents on a split run's first part: demand 3", "later_parents"),
+    ("replaying::replay", "opens and applies without moves: demand 3", "no_moves"),
+    ("replaying::replay", "works in the first range only: demand 3", "first_range_only"),
+    ("replaying::replay", "Opens that do not lie side by side: demand 3", "opens_elsewhere"),
+    ("replaying::replay", "moved is not the events in the moves: demand 3", "moved_from_nowhere"),
+    ("walking::walk", "writes no steps: demand 3", "no_steps"),
+    ("walking::walk", "weighs the oldest first: C1", "oldest_first"),
+    ("walking::walk", "covers by event numbers in place of offsets: the cases", "offsets_from_0"),
+    ("answers::number", "11 for 13", "answers.rt", "Refusal::RowsTooLong => 13", "Refusal::RowsTooLong => 11"),
+    ("answers::number", "1 and 2 exchanged", "answers.rt", "Refusal::Broken => 1,\n        Refusal::NoEvents => 2,", "Refusal::Broken => 2,\n        Refusal::NoEvents => 1,"),
+]
+
 GRAPH = [
-    ("broken::is_broken", "a graph whose changed_from equals its run count is broken", "broken.rt", "if g.run_count < changed.0 as usize {", "if g.run_count <= changed.0 as usize {"),
-    ("broken::is_broken", "a graph with wrong marks is not broken", "broken.rt", "if bad_marks(g) {\n        return true;", "if bad_marks(g) {\n        return false;"),
+    ("broken::is_broken", "a graph whose changed_from equals its run count is broken", "broken.rt", "if runs < changed.0 as usize {", "if runs <= changed.0 as usize {"),
+    ("broken::is_broken", "a graph with wrong marks is not broken", "broken.rt", "        g.mark_count,\n    ) {\n        return true;", "        g.mark_count,\n    ) {\n        return false;"),
     ("fresh::new", "changed_from is 1", "fresh.rt", "let from = EventRunIndex(0);", "let from = EventRunIndex(1);"),
     ("fresh::new", "the frontier holds event 0", "fresh.rt", "&nothing[0..0]", "&nothing[0..1]"),
     ("fresh::after", "refuses a rising frontier and takes one that is not", "fresh.rt", "if !lists::is_rising(frontier, frontier.len())", "if lists::is_rising(frontier, frontier.len())"),
-    ("fresh::after", "refuses a frontier of exactly 512 events", "fresh.rt", "if 512 < frontier.len()", "if 512 <= frontier.len()"),
-    ("pushing::push", "refuses a push that ends at 4,294,967,295", "pushing.rt", "4294967295 - start.0 < len", "4294967295 - start.0 <= len"),
-    ("pushing::push", "a run that saw all before it counts as seen up to its start", "pushing.rt", "return EventIndex(g.starts[next]);", "return EventIndex(g.starts[at]);"),
+    ("fresh::after", "refuses a frontier of exactly 512 events", "fresh.rt", "if MAX_FRONTIER < frontier.len()", "if MAX_FRONTIER <= frontier.len()"),
+    ("pushing::push", "refuses a push that ends at 4,294,967,295", "pushing.rt", "MAX_LEN - start.0 < len", "MAX_LEN - start.0 <= len"),
+    ("pushing::push", "a run that saw all before it counts as seen up to its start", "pushing.rt", "return end;", "return start;"),
+    ("pushing::push", "the run of a parent at the first held event is no parent", "pushing.rt", "if p.0 < starts[0] {", "if p.0 <= starts[0] {"),
+    ("pushing::push", "a split forgets that later runs' entries stand a place later", "splitting.rt", "insert_and_grow(heads, runs + 1, next, later, 0, 1)", "insert_and_grow(heads, runs + 1, next, later, 0, 0)"),
+    ("pushing::push", "a split does not lower changed_from", "splitting.rt", "changed: least(place, c.changed),", "changed: least(c.changed, c.changed),"),
+    ("pushing::push", "takes a parent that the graph does not hold", "push_unknown_parent"),
+    ("pushing::push", "leaves the graph as it was", "push_changes_nothing"),
+    ("pushing::push", "refuses every push whose parents are as they should be", "pushing.rt", "if !lists::is_rising(parents, parents.len()) {", "if lists::is_rising(parents, parents.len()) {"),
+    ("starting::start_run_at", "always told false", "start_constant"),
     ("starting::start_run_at", "splits and tells false", "starting.rt", "BoolAnswer::Told(true)", "BoolAnswer::Told(false)"),
     ("starting::start_run_at", "splits the last run though it is marked", "starting.rt", "== g.run_count {\n        return true;", "== g.run_count {\n        return false;"),
     ("starting::take_changed_from", "does not reset", "starting.rt", "graph: h,\n        answer: RunAnswer", "graph: g,\n        answer: RunAnswer"),
@@ -93,17 +115,18 @@ MOVES = [
 ]
 
 TABLES = [
+    ("walking::walk", "a chain for each run", "each_run_a_chain"),
     ("walking::walk", "no row is written", "rows.rt", "store(rows, used, row, width);", "store(rows, used, row, 0);"),
     ("walking::walk", "13 though the rows just fit", "rows.rt", "if rows.len() < used + width {", "if rows.len() <= used + width {"),
     ("walking::walk", "a cover is not joined with its children's", "covers.rt", "&children[s..e]", "&children[s..s]"),
     ("walking::walk", "a cover's last bit rounded down", "covers.rt", "(x + (y - 1)) / y", "(x + (y - y)) / y"),
-    ("walking::walk", "128 bits to a cover", "covers.rt", "div_up(events, 127)", "div_up(events, 128)"),
+    ("walking::walk", "128 bits to a cover", "covers.rt", "div_up(events, COVER_BITS)", "div_up(events, 128)"),
     ("walking::walk", "the range's first run is nobody's parent", "groups.rt", "if p < a {", "if p <= a {"),
 ]
 
 WALK = [
-    ("walking::walk", "weighs all ready runs", "choice.rt", "if n < 64 { n } else { 64 }", "if n < 64 { n } else { n }"),
-    ("walking::walk", "weighs the last 65", "choice.rt", "if n < 64 { n } else { 64 }", "if n < 65 { n } else { 65 }"),
+    ("walking::walk", "weighs all ready runs", "choice.rt", "if n < MAX_WEIGHED { n } else { MAX_WEIGHED }", "if n < MAX_WEIGHED { n } else { n }"),
+    ("walking::walk", "weighs the last 65", "choice.rt", "if n < MAX_WEIGHED { n } else { MAX_WEIGHED }", "if n < 65 { n } else { 65 }"),
     ("walking::walk", "weighs the oldest first", "oldest_first"),
     ("walking::walk", "measures on after cost 0", "measured_on"),
     ("walking::walk", "a tie goes to the older", "choice.rt", "if weight < b.weight {", "if weight <= b.weight {"),
@@ -123,17 +146,16 @@ WALK = [
 BOOK = [
     ("reading::read", "takes bytes left over", "left_over_taken"),
     ("reading::read", "pushes counted from 1", "pushes_from_one"),
-    ("reading::read", "a book of 65,537 bytes is taken", "reading.rt", "if 65536 < bytes.len() {", "if 65537 < bytes.len() {"),
+    ("reading::read", "a book of 65,537 bytes is taken", "reading.rt", "if MAX_BOOK < bytes.len() {", "if 65537 < bytes.len() {"),
     ("reading::read", "the header's frontier is not tried, and pushes are made under a header that is refused", "reading.rt", "&words[2..end]", "&words[2..2]"),
     ("reading::read", "a refused header is told as push 0", "reading.rt", "answered(g, BookAnswer::Refused(r))", "answered(g, BookAnswer::PushRefused(r, 0))"),
     ("reading::read", "a refused push does not end it", "reading.rt", "            is_refused: true,\n            answer: BookAnswer::PushRefused(r, k),", "            is_refused: false,\n            answer: BookAnswer::PushRefused(r, k),"),
     ("replaying::replayed", "prints no steps", "replaying.rt", "&steps[0..n]", "&steps[0..0]"),
     ("replaying::replayed", "leaves out a line that just fits", "full_buffer"),
-    ("replaying::replayed", "prints 11 for 13", "printing.rt", "Refusal::RowsTooLong => 13", "Refusal::RowsTooLong => 11"),
     ("replaying::replayed", "moved 0", "replaying.rt", "last_line(outcome, walked.moved)", "last_line(outcome, 0)"),
 ]
 
-TRIES = {"graph": GRAPH, "reader": READER, "lent": LENT, "calls": CALLS, "moves": MOVES, "tables": TABLES, "walk": WALK, "book": BOOK}
+TRIES = {"model": MODEL, "graph": GRAPH, "reader": READER, "lent": LENT, "calls": CALLS, "moves": MOVES, "tables": TABLES, "walk": WALK, "book": BOOK}
 
 # Each with its crate, numbered through
 ALL = [(crate, t) for crate, tries in TRIES.items() for t in tries]
@@ -155,7 +177,8 @@ def edits(crate, name, *texts):
     if texts:
         return [("src/" + name, *texts)]
     found = []
-    for line in open(os.path.join(TOP, "crates", crate, "must-fail", name + ".edit")):
+    places = [os.path.join(TOP, "crates", crate, "must-fail"), os.path.join(TOP, "tools", "wrong_answers", crate)]
+    for line in open(next(p for p in [os.path.join(d, name + ".edit") for d in places] if os.path.exists(p))):
         key, _, text = line.rstrip("\n").partition(": ")
         if key == "file":
             path = text
