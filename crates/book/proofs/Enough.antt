@@ -15,7 +15,7 @@ use Rattle.model.specs.Steps.{Step, retreat, advance, opened, apply}
 use Rattle.model.specs.Refusals.{number}
 use Rattle.model.specs.Book.{bookOf}
 use Rattle.model.specs.Print.{Line, stepLine, movedLine, refusedLine, pushRefusedLine, ascii, say, sayRange, stepText, lineText, text, printed, replayText}
-use Rattle.book.specs.Output.{ended, printing}
+use Rattle.book.specs.Output.{maxText, ended, printing}
 use Rattle.book.proofs.Decimals.{decimal-length, decimal-three}
 use Rattle.book.proofs.Fits.{printing-all}
 use Rattle.book.proofs.HeldBooks.{book-held}
@@ -62,11 +62,11 @@ answer-length g H (Refused r) = omega (arith, one-length (refusedLine (number r)
 answer-length g H (PushRefused r k) = omega (arith, one-length (pushRefusedLine (number r) k))
 
 -- A buffer of 131,072 bytes is long enough for every book
-pub text-fits : (bytes : List ℕ) → length (replayText bytes) ≤ 131072
+pub text-fits : (bytes : List ℕ) → length (replayText bytes) ≤ maxText
 unfolding replayText printed by-answer
 text-fits bytes = omega (arith, answer-length (bookOf bytes .graph) (book-held bytes) (bookOf bytes .answer))
 
-pub printed-whole : (bytes out : List ℕ) → 131072 ≤ length out →
+pub printed-whole : (bytes out : List ℕ) → maxText ≤ length out →
     printing (printed bytes) out ≡ (record { used = length (replayText bytes); short = false }, over (replayText bytes) out)
 unfolding replayText
 printed-whole bytes out h = printing-all (printed bytes) out (omega (arith, text-fits bytes))

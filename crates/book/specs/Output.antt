@@ -17,6 +17,14 @@ use Rattle.model.specs.Print.{Line as PrintLine, stepLine, refusedLine, pushRef
 use Rattle.book.specs.declared.printing.Line.{Line}
 use Rattle.book.specs.declared.printing.Printed.{Printed}
 
+-- how many bytes a line has room for
+abbrev pub maxLine : ℕ
+maxLine = 64
+
+-- how many bytes the lines of any book take at most
+abbrev pub maxText : ℕ
+maxText = 131072
+
 -- a line's text
 unfoldable pub shown : Line → List ℕ
 shown l = take (l .count) (l .bytes)
@@ -25,7 +33,7 @@ shown l = take (l .count) (l .bytes)
 pub record Shows (l : Line) (xs : List ℕ) : Type 0 where
   pub text : shown l ≡ xs
   pub count : l .count ≡ length xs
-  pub fits : l .count ≤ 64
+  pub fits : l .count ≤ maxLine
 
 -- a line is another with a text after it
 pub record Adds (l : Line) (xs : List ℕ) (r : Line) : Type 0 where

@@ -5,16 +5,19 @@ ghost use mathlib.Core.List.{[], _++_};
 ghost use Prim.Native.Nat.{_+_, _<_, _≤_};
 ghost use lib.ListN.{length, drop, take, replicate};
 ghost use Rattle.model.specs.Refusals.{number as Refusals·number};
-ghost use Rattle.model.specs.Print.{ascii, decimal as Print·decimal, lineText, lastLine, refusedLine, pushRefusedLine};
+ghost use Rattle.model.specs.Print.{ascii, decimal as Print·decimal, lastLine, refusedLine, pushRefusedLine};
 ghost use Rattle.model.specs.Reader.{decoded};
-ghost use Rattle.book.specs.Output.{shown, Shows, Adds, ended as Output·ended, stepBytes, wordLines, putLine, putLines};
+ghost use Rattle.book.specs.Output.{maxLine, shown, Shows, Adds, ended as Output·ended, stepBytes, wordLines, putLine, putLines};
 use model::EventRunIndex;
 use model::Outcome;
 use model::Refusal;
 
-// A line: `count` of its bytes are used. No line of 01's is longer.
+// How many bytes a line has room for: no line of 01's is longer.
+pub(crate) const MAX_LINE: usize = 64;
+
+// A line: `count` of its bytes are used.
 pub(crate) struct Line {
-    pub(crate) bytes: [u8; 64],
+    pub(crate) bytes: [u8; MAX_LINE],
     pub(crate) count: usize,
 }
 
@@ -75,10 +78,10 @@ fn copy(list: &mut [u8], at: usize, s: &[u8])
     }
 }
 
-fn no_line() -> [u8; 64]
-    ensures { λ r. ⌜ r ≡ replicate 64 0 ⌝ }
+fn no_line() -> [u8; MAX_LINE]
+    ensures { λ r. ⌜ r ≡ replicate maxLine 0 ⌝ }
 {
-    [0; 64]
+    [0; MAX_LINE]
 }
 
 fn empty() -> Line
@@ -92,7 +95,7 @@ fn empty() -> Line
 
 // The line with a text after it.
 fn text(l: Line, s: &[u8]) -> Line
-    requires { ⌜ l .count + length (now s) ≤ 64 ⌝ }
+    requires { ⌜ l .count + length (now s) ≤ maxLine ⌝ }
     ensures { λ r. ⌜ Adds l (now (s .entry)) r ⌝ }
 {
     let n = l.count;
@@ -106,7 +109,7 @@ fn text(l: Line, s: &[u8]) -> Line
 
 // The line with a number after it.
 fn number(l: Line, n: u64) -> Line
-    requires { ⌜ l .count + 20 ≤ 64 ⌝ }
+    requires { ⌜ l .count + 20 ≤ maxLine ⌝ }
     ensures { λ r. ⌜ Adds l (Print·decimal n) r ⌝ }
 {
     let d = decimal(n);
@@ -154,28 +157,11 @@ fn step_line(kind: u32, a: EventRunIndex, b: EventRunIndex) -> Line
     }
 }
 
-// 01's number of a refusal.
+// A refusal's number, as wide as a line takes it.
 fn number_of(r: Refusal) -> u64
     ensures { λ n. ⌜ n ≡ Refusals·number r ⌝ }
 {
-    match r {
-        Refusal::Broken => 1,
-        Refusal::NoEvents => 2,
-        Refusal::NotRising => 3,
-        Refusal::UnknownEvent => 4,
-        Refusal::TooManyEvents => 5,
-        Refusal::TooManyRuns => 6,
-        Refusal::TooManyEntries => 7,
-        Refusal::FrontierTooLong => 8,
-        Refusal::Outside => 9,
-        Refusal::Unmarked => 10,
-        Refusal::ListTooShort => 11,
-        Refusal::KnownTooLong => 12,
-        Refusal::RowsTooLong => 13,
-        Refusal::BookTooShort => 14,
-        Refusal::BookTooLong => 15,
-        Refusal::UnknownKind => 16,
-    }
+    wide(model::number(r))
 }
 
 pub(crate) fn refused_line(r: Refusal) -> Line
@@ -214,7 +200,7 @@ pub(crate) fn blank() -> Printed
 
 // Puts a line after the used bytes, if it fits and all before it did.
 pub(crate) fn put_line(out: &mut [u8], p: Printed, l: Line) -> Printed
-    requires { ⌜ l .count ≤ 64 ⌝ }
+    requires { ⌜ l .count ≤ maxLine ⌝ }
     ensures { λ r. ⌜ (r, now (out .exit)) ≡ putLine (p, now (out .entry)) (shown l) ⌝ }
 {
     let n = l.count;

@@ -3,6 +3,7 @@ ghost use mathlib.Core.Path.{_≡_};
 ghost use Prim.Native.Nat.{_+_, _*_, _/_, _<_, _≤_};
 ghost use lib.ListN.{length, drop, replicate};
 ghost use Rattle.lists.specs.Areas.{over};
+ghost use Rattle.model.specs.Limits.{maxBook};
 ghost use Rattle.model.specs.Broken.{Held};
 ghost use Rattle.model.specs.Book.{word, wordsOf, readPushes, readHeader, bookOf};
 ghost use Rattle.model.specs.Fresh.{newOf};
@@ -12,6 +13,7 @@ use model::BookRead;
 use model::CausalGraph;
 use model::EventIndex;
 use model::EventsAnswer;
+use model::MAX_BOOK;
 use model::Made;
 use model::Outcome;
 use model::Pushed;
@@ -40,11 +42,13 @@ fn word_at(bytes: &[u8], at: usize) -> u32
     low + wide(bytes[at + 2]) * 65536 + wide(bytes[at + 3]) * 16777216
 }
 
-// As many words as a book can have.
-fn no_words() -> [u32; 16384]
-    ensures { λ r. ⌜ r ≡ replicate 16384 0 ⌝ }
+// How many whole words a book can have.
+const MAX_WORDS: usize = MAX_BOOK / 4;
+
+fn no_words() -> [u32; MAX_WORDS]
+    ensures { λ r. ⌜ r ≡ replicate (maxBook / 4) 0 ⌝ }
 {
-    [0; 16384]
+    [0; MAX_WORDS]
 }
 
 // The first `n` words of a book, into a lent list.
@@ -206,7 +210,7 @@ fn read_words(bytes: &[u8], words: &[u32]) -> BookRead
 pub fn read(bytes: &[u8]) -> BookRead
     ensures { λ r. ⌜ r ≡ bookOf (now (bytes .entry)) ⌝ }
 {
-    if 65536 < bytes.len() {
+    if MAX_BOOK < bytes.len() {
         return refused(Refusal::BookTooLong);
     }
     let n = bytes.len() / 4;

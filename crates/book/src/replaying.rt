@@ -1,6 +1,8 @@
 // A whole book: read, replayed, and what `replay` prints of it written into a lent buffer.
 ghost use mathlib.Core.Path.{_≡_};
 ghost use lib.ListN.{replicate};
+ghost use Prim.Native.Nat.{_*_};
+ghost use Rattle.model.specs.Limits.{lentRows, lentSteps};
 ghost use Rattle.model.specs.Broken.{Held};
 ghost use Rattle.model.specs.Print.{replayLines, printed};
 ghost use Rattle.book.specs.Output.{printing, linesOf};
@@ -8,18 +10,23 @@ use crate::printing::Printed;
 use model::BookAnswer;
 use model::BookRead;
 use model::CausalGraph;
+use model::LENT_ROWS;
+use model::LENT_STEPS;
 
-// 8,192 row words and 4,096 steps.
-fn no_rows() -> [u32; 8192]
-    ensures { λ r. ⌜ r ≡ replicate 8192 0 ⌝ }
+// How many bytes the lines of any book take at most.
+pub const MAX_TEXT: usize = 131072;
+
+// What `replay` lends: row words, and three words a step.
+fn no_rows() -> [u32; LENT_ROWS]
+    ensures { λ r. ⌜ r ≡ replicate lentRows 0 ⌝ }
 {
-    [0; 8192]
+    [0; LENT_ROWS]
 }
 
-fn no_steps() -> [u32; 12288]
-    ensures { λ r. ⌜ r ≡ replicate 12288 0 ⌝ }
+fn no_steps() -> [u32; 3 * LENT_STEPS]
+    ensures { λ r. ⌜ r ≡ replicate (3 * lentSteps) 0 ⌝ }
 {
-    [0; 12288]
+    [0; 3 * LENT_STEPS]
 }
 
 // The lines of a replay: its steps, and the last one.

@@ -16,7 +16,7 @@ use Rattle.model.specs.Claim.{RowRoom, StepRoom}
 use Rattle.model.specs.BookCalls.{bookLog, LinesFollow}
 use Rattle.calls.specs.Words.{freshIn, callsIn, startWords, mixedWords}
 use Rattle.book.specs.declared.printing.Printed.{Printed}
-use Rattle.book.specs.Output.{printing}
+use Rattle.book.specs.Output.{maxText, printing}
 
 -- The graph that the calls of a list of words left, and the plain log that was fed these calls and their answers
 abbrev pub calledBy : List ℕ → CausalGraph × Log
@@ -48,5 +48,5 @@ pub record WalkedOver (made : CausalGraph × Log) (a b known first : ℕ) (rows 
 -- the steps of a full replay that follows on the plain log of the book's calls
 pub record BookPrinted (bytes out : List ℕ) (result : Printed × List ℕ) : Type 0 where
   pub is : result ≡ printing (printed bytes) out
-  pub whole : 131072 ≤ length out → (result .0 .short ≡ false) × (take (result .0 .used) (result .1) ≡ replayText bytes)
+  pub whole : maxText ≤ length out → (result .0 .short ≡ false) × (take (result .0 .used) (result .1) ≡ replayText bytes)
   pub follows : (lines : List Line) (n : ℕ) → printed bytes ≡ lines ++ movedLine n ∷ [] → LinesFollow (bookLog bytes) lines n

@@ -14,7 +14,7 @@ use Rattle.model.specs.declared.answers.Outcome.the-variants.{Done, Refu
 use Rattle.model.specs.Graph.{runs, start, firstHeld, len, entries}
 use Rattle.model.specs.Record.{store}
 use Rattle.lists.specs.Scans.{groupsFit, between}
-use Rattle.model.specs.Broken.{frontierFits, broken, WellFormed, Limits, Held}
+use Rattle.model.specs.Broken.{frontierFits, broken, WellFormed, WithinLimits, Held}
 use Rattle.model.specs.Fresh.{fresh, newOf, afterOutcome, afterOf}
 use Rattle.model.proofs.Stored.{held-store, not-broken}
 use Rattle.model.proofs.Tests.{passed}
@@ -33,7 +33,7 @@ fresh-formed events frontier r b = record {
 }
 
 -- and within the limits if its frontier is
-pub fresh-limits : (events : ℕ) (frontier : List ℕ) → length frontier ≤ 512 → Limits (fresh events frontier)
+pub fresh-limits : (events : ℕ) (frontier : List ℕ) → length frontier ≤ 512 → WithinLimits (fresh events frontier)
 unfolding fresh runs entries sum
 fresh-limits events frontier h = record { runs = omega arith; entries = omega arith; frontier = h }
 

@@ -17,7 +17,7 @@ use Rattle.model.specs.declared.answers.Outcome.the-variants.{Done, Refu
 use Rattle.model.specs.Refusals.{firstOf}
 use Rattle.model.specs.Graph.{Graph, containing}
 use Rattle.model.specs.Record.{view, store}
-use Rattle.model.specs.Broken.{broken, WellFormed, Limits, Held}
+use Rattle.model.specs.Broken.{broken, WellFormed, WithinLimits, Held}
 use Rattle.model.specs.Fresh.{fresh, newOf, afterOutcome, afterOf}
 use Rattle.model.specs.Split.{split}
 use Rattle.model.specs.Push.{push as pushGraph, pushOutcome, pushed, pushRefused, pushHeldOf, pushOf}
@@ -29,7 +29,7 @@ use Rattle.model.proofs.Stored.{view-store, held-store}
 -- A fact of a plain graph and its log that calls keep, takes apart; it holds of well-formed graphs within the limits alone
 pub record Keeps (P : Graph → Log → Type 0) : Type 0 where
   pub formed : (g : Graph) (l : Log) → P g l → WellFormed g
-  pub limits : (g : Graph) (l : Log) → P g l → Limits g
+  pub limits : (g : Graph) (l : Log) → P g l → WithinLimits g
   pub pushes : (g : Graph) (l : Log) → P g l → (ps : List ℕ) (n : ℕ) → pushOutcome g ps n ≡ Done → P (pushGraph g ps n) (logPush l ps n)
   pub splits : (g : Graph) (l : Log) → P g l → (at : ℕ) → starting g at ≡ splitting → splitOutcome g ≡ Done → P (split g (containing g at) at) (logStart l at)
   pub tells : (g : Graph) (l : Log) → P g l → (at : ℕ) → starting g at ≡ answers true → P g (logStart l at)

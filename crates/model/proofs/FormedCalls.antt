@@ -8,7 +8,7 @@ use borrow.Author.Tests.{ltb-false, leb-false, eqb-true, eqb-false}
 use Rattle.lists.proofs.Truth.{lt-of-ne, false-true, or-first, or-last}
 use Rattle.model.specs.declared.answers.Outcome.the-variants.{Done}
 use Rattle.model.specs.Graph.{Graph, runs, start, firstHeld, len, entries, containing, marked}
-use Rattle.model.specs.Broken.{WellFormed, Limits}
+use Rattle.model.specs.Broken.{WellFormed, WithinLimits}
 use Rattle.model.specs.Split.{split}
 use Rattle.model.specs.Start.{Starting, answers, splitting, alone, starting, splitOutcome, taken}
 use Rattle.model.proofs.Tests.{passed}
@@ -85,8 +85,8 @@ start-formed g formed at e =
     split-formed g formed (containing g at) at (c .0) (c .1) (c .2)
 
 -- and within the limits
-pub start-limits : (g : Graph) → WellFormed g → Limits g → (at : ℕ) → starting g at ≡ splitting → splitOutcome g ≡ Done →
-    Limits (split g (containing g at) at)
+pub start-limits : (g : Graph) → WellFormed g → WithinLimits g → (at : ℕ) → starting g at ≡ splitting → splitOutcome g ≡ Done →
+    WithinLimits (split g (containing g at) at)
 unfolding splitOutcome
 start-limits g formed l at e d =
     let t₁ = passed _ _ d in
@@ -111,6 +111,6 @@ taken-formed g f = record {
   changed = omega arith;
 }
 
-pub taken-limits : (g : Graph) → Limits g → Limits (taken g)
+pub taken-limits : (g : Graph) → WithinLimits g → WithinLimits (taken g)
 unfolding taken runs entries
 taken-limits g l = record { runs = l .runs; entries = l .entries; frontier = l .frontier }

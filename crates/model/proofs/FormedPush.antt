@@ -15,7 +15,7 @@ use Rattle.lists.proofs.Rising.{rising-filter}
 use Rattle.lists.proofs.Bounds.{below-at}
 use Rattle.model.specs.declared.answers.Outcome.the-variants.{Done}
 use Rattle.model.specs.Graph.{Graph, runs, firstHeld, len, entries, held, extends}
-use Rattle.model.specs.Broken.{WellFormed, Limits}
+use Rattle.model.specs.Broken.{WellFormed, WithinLimits}
 use Rattle.model.specs.Split.{ends, splitAfter, splits}
 use Rattle.model.specs.Push.{staying, grown, joined, lowered, push, pushOutcome}
 use Rattle.model.proofs.Tests.{passed}
@@ -96,7 +96,7 @@ module _ (g : Graph) (ps : List ℕ) (e : extends g ps ≡ true) where
       named : mem (len g - 1) ps ≡ true
       named = rw extends-parents (unfold mem in or-left false (eq-eqb (len g - 1) (len g - 1) refl))
 
-  grown-limits : (n : ℕ) → WellFormed g → Limits g → Limits (grown g ps n)
+  grown-limits : (n : ℕ) → WellFormed g → WithinLimits g → WithinLimits (grown g ps n)
   grown-limits n f l = record {
     runs = unfold grown runs in l .runs;
     entries = unfold grown entries in l .entries;
@@ -137,7 +137,7 @@ module _ (g : Graph) (formed : WellFormed g) (ps : List ℕ) (n : ℕ) (ok : Acc
   pub run-formed : WellFormed (joined (splitAfter g (held g ps)) ps n)
   run-formed = joined-formed (splitAfter g (held g ps)) (pushed-splits .formed) ps n (ok .some) inside-after ended-after
 
-  run-limits : extends g ps ≡ false → Limits (joined (splitAfter g (held g ps)) ps n)
+  run-limits : extends g ps ≡ false → WithinLimits (joined (splitAfter g (held g ps)) ps n)
   run-limits e =
       let s = splitAfter g (held g ps) in
       record {
@@ -156,7 +156,7 @@ module _ (g : Graph) (formed : WellFormed g) (ps : List ℕ) (n : ℕ) (ok : Acc
       splits-are : splits g ps ≡ count (λ p. not (ends g p)) (held g ps)
       splits-are = unfold splits in refl
 
-lowered-limits : (g h : Graph) → Limits h → Limits (lowered g h)
+lowered-limits : (g h : Graph) → WithinLimits h → WithinLimits (lowered g h)
 unfolding lowered runs entries
 lowered-limits g h l = record { runs = l .runs; entries = l .entries; frontier = l .frontier }
 
@@ -171,10 +171,10 @@ push-formed g formed ps n e = go (extends g ps) refl (accepted g ps n e)
         rw (push-joins g ps n q) (lowered-formed s (joined s ps n) (run-formed g formed ps n ok))
 
 -- and within the limits
-pub push-limits : (g : Graph) → WellFormed g → Limits g → (ps : List ℕ) (n : ℕ) → pushOutcome g ps n ≡ Done → Limits (push g ps n)
+pub push-limits : (g : Graph) → WellFormed g → WithinLimits g → (ps : List ℕ) (n : ℕ) → pushOutcome g ps n ≡ Done → WithinLimits (push g ps n)
 push-limits g formed l ps n e = go (extends g ps) refl (accepted g ps n e)
   where
-    go : (t : Bool) → extends g ps ≡ t → Accepted g ps n → Limits (push g ps n)
+    go : (t : Bool) → extends g ps ≡ t → Accepted g ps n → WithinLimits (push g ps n)
     go true q ok = rw (push-grows g ps n q) (grown-limits g ps q n formed l)
     go false q ok =
         let s = splitAfter g (held g ps) in

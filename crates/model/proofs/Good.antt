@@ -9,7 +9,7 @@ use Rattle.model.specs.declared.record.CausalGraph.{CausalGraph}
 use Rattle.model.specs.declared.answers.Outcome.the-variants.{Done}
 use Rattle.model.specs.Graph.{Graph, start, firstHeld, containing, held}
 use Rattle.model.specs.Record.{view}
-use Rattle.model.specs.Broken.{WellFormed, Limits}
+use Rattle.model.specs.Broken.{WellFormed, WithinLimits}
 use Rattle.model.specs.Fresh.{fresh, afterOutcome}
 use Rattle.model.specs.Split.{split}
 use Rattle.model.specs.Push.{push, pushOutcome}
@@ -30,7 +30,7 @@ use Rattle.model.proofs.Calls.{Keeps, Kept, calls-keep, takeless-keep, 
 -- What every list of calls keeps
 pub record Good (g : Graph) (l : Log) : Type 0 where
   pub formed : WellFormed g
-  pub limits : Limits g
+  pub limits : WithinLimits g
   pub inv : Inv g l
   pub front : Childless g l
 

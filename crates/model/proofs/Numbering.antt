@@ -1,13 +1,12 @@
 -- 01's numbers tell all refusals and answers apart: from its numbers each can be made again. Assumes nothing.
 use mathlib.Core.Path.{_≡_, refl, sym, ap, _∙_}
-use mathlib.Core.Bool.{Bool, true, false}
+use mathlib.Core.Bool.{true, false}
 use mathlib.Core.List.{List, [], _∷_}
 use mathlib.Core.Option.{none, some}
 use Prim.Native.Nat.{ℕ, zero, suc, _+_, _-_, _≤_, _<_}
 use native.Mathlib.Omega.{arith}
 use lib.ListN.{length, getD, drop}
 use lib.Dec.{eqb}
-use Rattle.lists.specs.Lists.{bit}
 use Rattle.model.specs.declared.answers.Refusal.{Refusal}
 use Rattle.model.specs.declared.answers.Refusal.the-variants.{Broken, NoEvents, NotRising, UnknownEvent, TooManyEvents, TooManyRuns, TooManyEntries, FrontierTooLong, Outside, Unmarked, ListTooShort, KnownTooLong, RowsTooLong, BookTooShort, BookTooLong, UnknownKind}
 use Rattle.model.specs.declared.answers.Outcome.{Outcome}
@@ -67,7 +66,7 @@ unfolding Ordered number
 table-ordered =
     (refl, (refl, (refl, (refl, (refl, (refl, (refl, (refl, (refl, (refl, (refl, (refl, (refl, (refl, (refl, (refl, tt))))))))))))))))
 
-number-refusal : (n : ℕ) → 1 ≤ n → n ≤ 16 → number (refusal n) ≡ n
+number-refusal : (n : ℕ) → 1 ≤ n → n ≤ length table → number (refusal n) ≡ n
 number-refusal n p q = case-number table 1 (n - 1) table-ordered (omega arith) ∙ omega arith
 
 first-number : number Broken ≡ 1

@@ -20,7 +20,7 @@ use Rattle.model.specs.declared.record.CausalGraph.{CausalGraph}
 use Rattle.model.specs.Graph.{Graph, runs, start, firstHeld, len, entries, marked, marks}
 use Rattle.model.specs.Record.{view, store, Sized}
 use Rattle.lists.specs.Scans.{groupsFit, between}
-use Rattle.model.specs.Broken.{frontierFits, overLimit, badStarts, badGroups, badParents, badFrontier, badSeen, badMarks, badChanged, badPadding, broken, WellFormed, Limits, Held}
+use Rattle.model.specs.Broken.{frontierFits, overLimit, badStarts, badGroups, badParents, badFrontier, badSeen, badMarks, badChanged, badPadding, broken, WellFormed, WithinLimits, Held}
 
 -- The marks are no more than the runs
 pub marks-length : (g : Graph) → length (marks g) ≤ runs g
@@ -55,7 +55,7 @@ view-store g formed =
     }
 
 -- A stored graph within the limits has arrays of their lengths
-pub sized-store : (g : Graph) → WellFormed g → Limits g → Sized (store g)
+pub sized-store : (g : Graph) → WellFormed g → WithinLimits g → Sized (store g)
 unfolding store
 sized-store g formed limits = record {
   starts = length-pad 513 (g .starts) (omega (arith, starts-whole g formed, limits .runs));
@@ -67,7 +67,7 @@ sized-store g formed limits = record {
 }
 
 -- A stored graph within the limits is held
-pub held-store : (g : Graph) → WellFormed g → Limits g → Held (store g)
+pub held-store : (g : Graph) → WellFormed g → WithinLimits g → Held (store g)
 held-store g formed limits =
     let v = view-store g formed in
     record { stored = rw v; formed = rw v formed; limits = rw v limits }
@@ -218,7 +218,7 @@ held-of g sized e =
     }
 
 -- A stored graph within the limits passes each clause
-clauses-store : (g : Graph) → WellFormed g → Limits g → Clauses (store g)
+clauses-store : (g : Graph) → WellFormed g → WithinLimits g → Clauses (store g)
 unfolding store len firstHeld start
 clauses-store g formed limits =
     let v = view-store g formed in
@@ -252,13 +252,13 @@ pub unbroken-iff : (g : CausalGraph) → Sized g → (broken g ≡ false) ↔ He
 unbroken-iff g sized = (held-of g sized, not-broken g)
 
 -- Just the stored graphs that are well-formed and within the limits are not broken
-pub unbroken-stored : (g : CausalGraph) → Sized g → (broken g ≡ false) ↔ ((a : Graph) × WellFormed a × Limits a × (g ≡ store a))
+pub unbroken-stored : (g : CausalGraph) → Sized g → (broken g ≡ false) ↔ ((a : Graph) × WellFormed a × WithinLimits a × (g ≡ store a))
 unbroken-stored g sized = (there, back)
   where
-    there : broken g ≡ false → (a : Graph) × WellFormed a × Limits a × (g ≡ store a)
+    there : broken g ≡ false → (a : Graph) × WellFormed a × WithinLimits a × (g ≡ store a)
     there e =
         let held = held-of g sized e in
         (view g, held .formed, held .limits, held .stored)
 
-    back : (a : Graph) × WellFormed a × Limits a × (g ≡ store a) → broken g ≡ false
+    back : (a : Graph) × WellFormed a × WithinLimits a × (g ≡ store a) → broken g ≡ false
     back s = ap broken (s .3) ∙ not-broken (store (s .0)) (held-store (s .0) (s .1) (s .2))

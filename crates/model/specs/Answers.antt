@@ -26,6 +26,7 @@ use Rattle.model.specs.declared.steps.WalkStep.{WalkStep}
 use Rattle.model.specs.declared.steps.WalkStep.the-variants.{Retreat, Advance, Apply, Open}
 use Rattle.model.specs.declared.steps.NextStep.{NextStep}
 use Rattle.model.specs.declared.steps.NextStep.the-variants.{Step as Given, End, Refused as RefusedStep}
+use Rattle.model.specs.Limits.{maxRuns, maxFrontier}
 use Rattle.model.specs.Refusals.{number}
 
 -- an event
@@ -55,11 +56,11 @@ listed (Refused r) l = []
 
 -- a run's parents, which are runs
 unfoldable pub parentRunsOr : Outcome → List ℕ → ParentRuns
-parentRunsOr o l = record { runs = pad 512 (listed o l); count = length (listed o l); outcome = o }
+parentRunsOr o l = record { runs = pad maxRuns (listed o l); count = length (listed o l); outcome = o }
 
 -- the frontier, which is events
 unfoldable pub frontierOr : Outcome → List ℕ → FrontierEvents
-frontierOr o l = record { events = pad 512 (listed o l); count = length (listed o l); outcome = o }
+frontierOr o l = record { events = pad maxFrontier (listed o l); count = length (listed o l); outcome = o }
 
 -- done, or refused
 unfoldable pub outcomeNumber : Outcome → ℕ

@@ -9,6 +9,7 @@ use Rattle.model.specs.declared.record.CausalGraph.{CausalGraph}
 use Rattle.model.specs.declared.answers.BookRead.{BookRead}
 use Rattle.model.specs.declared.answers.BookAnswer.{BookAnswer}
 use Rattle.model.specs.declared.answers.BookAnswer.the-variants.{Whole, Refused as RefusedBook, PushRefused}
+use Rattle.model.specs.Limits.{maxBook}
 use Rattle.model.specs.Refusals.{refusal}
 use Rattle.model.specs.declared.answers.Outcome.the-variants.{Done, Refused}
 use Rattle.model.specs.declared.answers.EventsAnswer.the-variants.{Events, Refused as RefusedEvents}
@@ -77,4 +78,4 @@ readHeader bs = elim (takeWords 1 bs) [
 
 -- A book. 15: "book over 65,536 bytes (tested first)"
 unfoldable pub bookOf : List ℕ → BookRead
-bookOf bs = elim (ltb 65536 (length bs)) [ true ↦ bookRead newOf (RefusedBook (refusal 15)) | false ↦ readHeader bs ]
+bookOf bs = elim (ltb maxBook (length bs)) [ true ↦ bookRead newOf (RefusedBook (refusal 15)) | false ↦ readHeader bs ]

@@ -12,6 +12,7 @@ use Rattle.model.specs.declared.answers.Outcome.the-variants.{Done, Refu
 use Rattle.model.specs.declared.answers.EventsAnswer.the-variants.{Events, Refused as RefusedEvents}
 use Rattle.model.specs.declared.answers.BoolAnswer.the-variants.{Told, Refused as RefusedBool}
 use Rattle.model.specs.declared.answers.RunAnswer.the-variants.{Run, Refused as RefusedRun}
+use Rattle.model.specs.Limits.{maxBook}
 use Rattle.model.specs.Fresh.{afterOf}
 use Rattle.model.specs.Walk.{WalkResult}
 use Rattle.model.specs.Book.{takeWords, takeCounted, bookOf}
@@ -54,7 +55,7 @@ header bs = elim (takeWords 1 bs) [
 
 -- the header of a book; none of one "over 65,536 bytes"
 unfoldable pub bookHeader : List ℕ → Option (ℕ × List ℕ × ℕ × List ℕ)
-bookHeader bs = elim (ltb 65536 (length bs)) [ true ↦ none | false ↦ header bs ]
+bookHeader bs = elim (ltb maxBook (length bs)) [ true ↦ none | false ↦ header bs ]
 
 -- The start that a book makes: the header's `after`, refused or not; "`new` before the header is in"
 unfoldable pub bookStart : List ℕ → Fresh

@@ -1,15 +1,16 @@
 -- 01, "The graph record": when a graph is broken, clause by clause of its sentence; and what a graph that is not broken is, as plain
 -- lists. Assumes nothing.
 use mathlib.Core.Path.{_≡_}
-use mathlib.Core.Bool.{Bool, true, false, not, _&&_, _||_}
-use mathlib.Core.List.{List, [], _∷_}
+use mathlib.Core.Bool.{Bool, true, not, _&&_, _||_}
+use mathlib.Core.List.{List}
 use Prim.Native.Nat.{ℕ, suc, _+_, _-_, _≤_}
 use lib.ListN.{length, take, drop, getD}
-use lib.Dec.{leb, ltb, eqb}
+use lib.Dec.{ltb, eqb}
 use Rattle.lists.specs.Lists.{rising, below, same}
 use Rattle.lists.specs.Areas.{zeros, climbs}
 use Rattle.lists.specs.Scans.{groupsFit, between}
 use Rattle.model.specs.declared.record.CausalGraph.{CausalGraph}
+use Rattle.model.specs.Limits.{maxRuns, maxEntries, maxFrontier}
 use Rattle.model.specs.Graph.{Graph, runs, entries, firstHeld, len, marks}
 use Rattle.model.specs.Record.{view, store}
 
@@ -20,7 +21,7 @@ frontierFits runs len f =
 
 -- "a count passes its limit"
 unfoldable pub overLimit : CausalGraph → Bool
-overLimit g = ltb 512 (g .«run_count») || ltb 2048 (g .«entry_count») || ltb 512 (g .«frontier_count») || ltb 512 (g .«mark_count»)
+overLimit g = ltb maxRuns (g .«run_count») || ltb maxEntries (g .«entry_count») || ltb maxFrontier (g .«frontier_count») || ltb maxRuns (g .«mark_count»)
 
 -- "starts are not rising"
 unfoldable pub badStarts : CausalGraph → Bool
@@ -86,13 +87,13 @@ pub record WellFormed (g : Graph) : Type 0 where
   pub changed : g .changed ≤ runs g
 
 -- "At most 512 runs, 2,048 parent entries, 512 frontier events"
-pub record Limits (g : Graph) : Type 0 where
-  pub runs : runs g ≤ 512
-  pub entries : entries g ≤ 2048
-  pub frontier : length (g .frontier) ≤ 512
+pub record WithinLimits (g : Graph) : Type 0 where
+  pub runs : runs g ≤ maxRuns
+  pub entries : entries g ≤ maxEntries
+  pub frontier : length (g .frontier) ≤ maxFrontier
 
 -- A record that holds a well-formed graph within the limits. Just those are not broken: `unbroken` of `Meaning`
 pub record Held (g : CausalGraph) : Type 0 where
   pub stored : g ≡ store (view g)
   pub formed : WellFormed (view g)
-  pub limits : Limits (view g)
+  pub limits : WithinLimits (view g)

@@ -6,6 +6,7 @@ use Prim.Native.Nat.{ℕ, _+_, _-_}
 use lib.ListN.{length, getD, take}
 use lib.Dec.{ltb, eqb}
 use Rattle.lists.specs.Lists.{all, filter, sum, reverse, from, upto, mem, same}
+use Rattle.model.specs.Limits.{maxWeighed}
 use Rattle.model.specs.EventGraph.{available}
 use Rattle.model.specs.Graph.{Graph}
 use Rattle.model.specs.History.{at, histories}
@@ -88,4 +89,4 @@ chosen (some b) = some (b .2)
 
 -- "the last 64 ready runs, newest first", given the current version and the last run visited
 unfoldable pub choice : Range → List ℕ → Option ℕ → List ℕ → Option ℕ
-choice w now last ready = chosen (weighAll w now last (take 64 (reverse [] ready)) none)
+choice w now last ready = chosen (weighAll w now last (take maxWeighed (reverse [] ready)) none)

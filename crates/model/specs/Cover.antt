@@ -5,14 +5,15 @@ use Prim.Native.Nat.{ℕ, suc, _/_, max}
 use lib.ListN.{length, getD}
 use lib.Dec.{leb, ltb}
 use Rattle.lists.specs.Lists.{count, upto, mem, ceil}
+use Rattle.model.specs.Limits.{coverBits}
 
 -- "per_bit = max(1, ceil(events/127))"
 unfoldable pub perBit : ℕ → ℕ
-perBit events = max 1 (ceil events 127)
+perBit events = max 1 (ceil events coverBits)
 
 -- "a run covers bits floor(first/per_bit) up to, not including, ceil(end/per_bit), offsets within the range"
 unfoldable pub ownBits : ℕ → ℕ → ℕ → List Bool
-ownBits per first end = map (λ k. leb (first / per) k && ltb k (ceil end per)) (upto 127)
+ownBits per first end = map (λ k. leb (first / per) k && ltb k (ceil end per)) (upto coverBits)
 
 -- the bits of either
 unfoldable pub either : List Bool → List Bool → List Bool

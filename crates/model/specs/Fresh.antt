@@ -9,6 +9,7 @@ use Rattle.model.specs.declared.record.CausalGraph.{CausalGraph}
 use Rattle.model.specs.declared.answers.Made.{Made}
 use Rattle.model.specs.declared.answers.Outcome.{Outcome}
 use Rattle.model.specs.declared.answers.Outcome.the-variants.{Done, Refused}
+use Rattle.model.specs.Limits.{maxFrontier}
 use Rattle.model.specs.Refusals.{firstOf}
 use Rattle.model.specs.Graph.{Graph}
 use Rattle.model.specs.Record.{store}
@@ -24,7 +25,7 @@ newOf = store (fresh 0 [])
 -- "frontier rising and below `events`": refusals 3, 4, 8
 unfoldable pub afterOutcome : ℕ → List ℕ → Outcome
 afterOutcome events frontier =
-    firstOf ((not (rising frontier), 3) ∷ (not (below events frontier), 4) ∷ (ltb 512 (length frontier), 8) ∷ [])
+    firstOf ((not (rising frontier), 3) ∷ (not (below events frontier), 4) ∷ (ltb maxFrontier (length frontier), 8) ∷ [])
 
 -- `after(events, frontier)`; "a refused `after` gives `new`"
 unfoldable pub afterOf : ℕ → List ℕ → Made

@@ -1,4 +1,5 @@
 -- Document 01's definitions. Each says what is right, by the section of 01 or of a paper that its comment names.
+pub mod Limits
 pub mod EventGraph
 pub mod Refusals
 pub mod Answers

@@ -2,8 +2,9 @@
 use mathlib.Core.Path.{_≡_}
 use mathlib.Core.List.{List, [], _∷_}
 use Prim.Native.Nat.{ℕ, _≤_}
+use lib.ListN.{length}
 use Rattle.model.specs.declared.answers.Refusal.{Refusal}
-use Rattle.model.specs.Refusals.{number, refusal}
+use Rattle.model.specs.Refusals.{number, table, refusal}
 use Rattle.model.specs.Answers.{outcomeNumber, eventNumbers, eventsNumbers, runNumbers, boolNumbers, bookNumbers, stepNumbers, nextNumbers}
 use Rattle.model.specs.Steps.{Step, stepWords}
 use Rattle.model.specs.Reader.{asStep}
@@ -16,7 +17,7 @@ ToldApart {A} numbers = (a b : A) → numbers a ≡ numbers b → a ≡ b
 pub record Numbered : Type 0 where
   -- `refusal` and `number` are each other's inverse
   pub refusals : (r : Refusal) → refusal (number r) ≡ r
-  pub numbers : (n : ℕ) → 1 ≤ n → n ≤ 16 → number (refusal n) ≡ n
+  pub numbers : (n : ℕ) → 1 ≤ n → n ≤ length table → number (refusal n) ≡ n
   -- the answers
   pub outcomes : ToldApart (λ o. outcomeNumber o ∷ [])
   pub event : ToldApart eventNumbers

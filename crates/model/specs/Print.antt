@@ -12,6 +12,7 @@ use Rattle.model.specs.declared.record.CausalGraph.{CausalGraph}
 use Rattle.model.specs.declared.answers.Outcome.{Outcome}
 use Rattle.model.specs.declared.answers.Outcome.the-variants.{Done, Refused}
 use Rattle.model.specs.declared.answers.BookAnswer.the-variants.{Whole, Refused as RefusedBook, PushRefused}
+use Rattle.model.specs.Limits.{lentRows, lentSteps}
 use Rattle.model.specs.Refusals.{number}
 use Rattle.model.specs.Steps.{Step, retreat, advance, opened, apply}
 use Rattle.model.specs.Reader.{said}
@@ -37,7 +38,7 @@ lastLine (Refused r) moved = refusedLine (number r)
 -- `replay` "lends 4,096 steps and 8,192 row words" and "prints a line per step"
 unfoldable pub replayLines : CausalGraph → List Line
 replayLines g =
-    let r = replayOf g (replicate 8192 0) (replicate 12288 0) in
+    let r = replayOf g (replicate lentRows 0) (replicate (3 * lentSteps) 0) in
     map stepLine (saidSteps (take (3 * r .0 .count) (r .2))) ++ lastLine (r .0 .outcome) (r .0 .moved) ∷ []
 
 -- What is printed of a book: "`refused n` is printed, with ` push k`, k from 0, where a push gave 2 to 8"

@@ -10,6 +10,7 @@ use Rattle.model.specs.declared.answers.Pushed.{Pushed}
 use Rattle.model.specs.declared.answers.Refusal.{Refusal}
 use Rattle.model.specs.declared.answers.Outcome.{Outcome}
 use Rattle.model.specs.declared.answers.Outcome.the-variants.{Done, Refused}
+use Rattle.model.specs.Limits.{maxLen, maxRuns, maxEntries, maxFrontier}
 use Rattle.model.specs.Refusals.{refusal, firstOf}
 use Rattle.model.specs.Answers.{eventsOr}
 use Rattle.model.specs.Graph.{Graph, runs, start, firstHeld, len, entries, containing, marks, held, extends}
@@ -79,10 +80,10 @@ pushOutcome g ps n =
     (eqb n 0, 2) ∷
     (not (rising ps), 3) ∷
     (not (below (len g) ps), 4) ∷
-    (ltb 4294967295 (len g + n), 5) ∷
-    (new && ltb 512 (runs g + splits g ps + 1), 6) ∷
-    (new && ltb 2048 (entries g + splits g ps + length (held g ps)), 7) ∷
-    (new && ltb 512 (length (staying g ps) + 1), 8) ∷ [])
+    (ltb maxLen (len g + n), 5) ∷
+    (new && ltb maxRuns (runs g + splits g ps + 1), 6) ∷
+    (new && ltb maxEntries (entries g + splits g ps + length (held g ps)), 7) ∷
+    (new && ltb maxFrontier (length (staying g ps) + 1), 8) ∷ [])
 
 -- "takes events from `len`() on": the first new event and the end
 unfoldable pub pushed : Graph → List ℕ → ℕ → Pushed

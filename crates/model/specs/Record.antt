@@ -5,6 +5,7 @@ use lib.ListN.{length, take}
 use Rattle.lists.specs.Lists.{concat}
 use Rattle.lists.specs.Areas.{pad, groupStarts, groups}
 use Rattle.model.specs.declared.record.CausalGraph.{CausalGraph}
+use Rattle.model.specs.Limits.{maxStarts, maxEntries, maxRuns, maxFrontier}
 use Rattle.model.specs.Graph.{Graph, runs, entries, marks}
 
 -- The used parts of the arrays
@@ -20,12 +21,12 @@ view g = record {
 -- The arrays of a graph, "every place past a count holds 0"
 unfoldable pub store : Graph → CausalGraph
 store g = record {
-  starts = pad 513 (g .starts);
-  «parent_starts» = pad 513 (groupStarts 0 (g .parents));
-  parents = pad 2048 (concat (g .parents));
-  frontier = pad 512 (g .frontier);
-  «seen_prefix_len» = pad 512 (g .seen);
-  «critical_versions» = pad 512 (marks g);
+  starts = pad maxStarts (g .starts);
+  «parent_starts» = pad maxStarts (groupStarts 0 (g .parents));
+  parents = pad maxEntries (concat (g .parents));
+  frontier = pad maxFrontier (g .frontier);
+  «seen_prefix_len» = pad maxRuns (g .seen);
+  «critical_versions» = pad maxRuns (marks g);
   «run_count» = runs g;
   «entry_count» = entries g;
   «frontier_count» = length (g .frontier);
@@ -35,9 +36,9 @@ store g = record {
 
 -- What every value of the type has: its arrays have their lengths
 pub record Sized (g : CausalGraph) : Type 0 where
-  pub starts : length (g .starts) ≡ 513
-  pub «parent_starts» : length (g .«parent_starts») ≡ 513
-  pub parents : length (g .parents) ≡ 2048
-  pub frontier : length (g .frontier) ≡ 512
-  pub «seen_prefix_len» : length (g .«seen_prefix_len») ≡ 512
-  pub «critical_versions» : length (g .«critical_versions») ≡ 512
+  pub starts : length (g .starts) ≡ maxStarts
+  pub «parent_starts» : length (g .«parent_starts») ≡ maxStarts
+  pub parents : length (g .parents) ≡ maxEntries
+  pub frontier : length (g .frontier) ≡ maxFrontier
+  pub «seen_prefix_len» : length (g .«seen_prefix_len») ≡ maxRuns
+  pub «critical_versions» : length (g .«critical_versions») ≡ maxRuns

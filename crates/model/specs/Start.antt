@@ -9,6 +9,7 @@ use Rattle.model.specs.declared.answers.Taken.{Taken}
 use Rattle.model.specs.declared.answers.Refusal.{Refusal}
 use Rattle.model.specs.declared.answers.Outcome.{Outcome}
 use Rattle.model.specs.declared.answers.Outcome.the-variants.{Done, Refused}
+use Rattle.model.specs.Limits.{maxRuns, maxEntries}
 use Rattle.model.specs.Refusals.{refusal, firstOf}
 use Rattle.model.specs.Answers.{boolOr, runOr}
 use Rattle.model.specs.Graph.{Graph, runs, start, firstHeld, len, entries, containing, marked}
@@ -37,7 +38,7 @@ starting g at =
 
 -- A split takes one run and one entry: refusals 6 and 7
 unfoldable pub splitOutcome : Graph → Outcome
-splitOutcome g = firstOf ((ltb 512 (runs g + 1), 6) ∷ (ltb 2048 (entries g + 1), 7) ∷ [])
+splitOutcome g = firstOf ((ltb maxRuns (runs g + 1), 6) ∷ (ltb maxEntries (entries g + 1), 7) ∷ [])
 
 unfoldable pub told : CausalGraph → Bool → Started
 told g b = record { graph = g; answer = boolOr Done b }

@@ -1,4 +1,8 @@
-// What the calls of 01 answer. `specs/Refusals.antt` gives 01's number of each refusal.
+// What the calls of 01 answer, and 01's number of each refusal.
+ghost use mathlib.Core.Path.{_≡_};
+ghost use Rattle.model.specs.Refusals.{number as Refusals·number};
+use crate::limits::MAX_FRONTIER;
+use crate::limits::MAX_RUNS;
 use crate::record::CausalGraph;
 use crate::record::EventIndex;
 use crate::record::EventRunIndex;
@@ -21,6 +25,30 @@ pub enum Refusal {
     BookTooShort,
     BookTooLong,
     UnknownKind,
+}
+
+// 01's number of a refusal: the one place in code that knows it.
+pub fn number(r: Refusal) -> u32
+    ensures { λ n. ⌜ n ≡ Refusals·number r ⌝ }
+{
+    match r {
+        Refusal::Broken => 1,
+        Refusal::NoEvents => 2,
+        Refusal::NotRising => 3,
+        Refusal::UnknownEvent => 4,
+        Refusal::TooManyEvents => 5,
+        Refusal::TooManyRuns => 6,
+        Refusal::TooManyEntries => 7,
+        Refusal::FrontierTooLong => 8,
+        Refusal::Outside => 9,
+        Refusal::Unmarked => 10,
+        Refusal::ListTooShort => 11,
+        Refusal::KnownTooLong => 12,
+        Refusal::RowsTooLong => 13,
+        Refusal::BookTooShort => 14,
+        Refusal::BookTooLong => 15,
+        Refusal::UnknownKind => 16,
+    }
 }
 
 // Done, or refused.
@@ -76,14 +104,14 @@ pub struct Taken {
 
 // A run's parents, which are runs: `count` of them, then zeros.
 pub struct ParentRuns {
-    pub runs: [u32; 512],
+    pub runs: [u32; MAX_RUNS],
     pub count: usize,
     pub outcome: Outcome,
 }
 
 // The frontier, which is events: `count` of them, then zeros.
 pub struct FrontierEvents {
-    pub events: [u32; 512],
+    pub events: [u32; MAX_FRONTIER],
     pub count: usize,
     pub outcome: Outcome,
 }

@@ -2,6 +2,7 @@
 // every input is defined in specs/; that the definitions are right is claimed in specs/ and proved in proofs/.
 pub mod answers;
 pub mod claims;
+pub mod limits;
 pub mod record;
 pub mod steps;
 
@@ -21,6 +22,17 @@ pub use answers::Started;
 pub use answers::Taken;
 pub use answers::Walked;
 pub use answers::Written;
+pub use answers::number;
+pub use limits::COVER_BITS;
+pub use limits::LENT_ROWS;
+pub use limits::LENT_STEPS;
+pub use limits::MAX_BOOK;
+pub use limits::MAX_ENTRIES;
+pub use limits::MAX_FRONTIER;
+pub use limits::MAX_LEN;
+pub use limits::MAX_RUNS;
+pub use limits::MAX_STARTS;
+pub use limits::MAX_WEIGHED;
 pub use record::CausalGraph;
 pub use record::EventIndex;
 pub use record::EventRunIndex;

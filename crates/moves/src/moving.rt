@@ -2,6 +2,7 @@
 ghost use mathlib.Core.Path.{_≡_};
 ghost use Prim.Native.Nat.{ℕ, _+_, _<_, _≤_, _^_};
 ghost use lib.ListN.{length};
+ghost use Rattle.model.specs.Limits.{maxRuns, maxStarts};
 ghost use Rattle.moves.specs.Emit.{emit};
 ghost use Rattle.moves.specs.Stretches.{Below, stretches};
 ghost use Rattle.moves.specs.Moves.{Inside, runsOf, movesFrom, visitOf};
@@ -24,7 +25,7 @@ fn put_chain<'a>(
     to: &[u32],
     c: usize,
 ) -> Out
-    requires { ⌜ (out .moved + 2 ^ 42 < 2 ^ 63) × (base < 2 ^ 31) × (length (now members) ≤ 513) × Below 512 (now members) × Inside (now members) (now begins) (now from) c ⌝ }
+    requires { ⌜ (out .moved + 2 ^ 42 < 2 ^ 63) × (base < 2 ^ 31) × (length (now members) ≤ maxStarts) × Below maxRuns (now members) × Inside (now members) (now begins) (now from) c ⌝ }
     ensures { λ r. ⌜ (r, now (steps .exit)) ≡ emit (out, now (steps .entry))
         (stretches (now (starts .entry)) kind base (runsOf (now (members .entry)) (now (begins .entry)) (now (from .entry)) (now (to .entry)) c)) ⌝ }
     ensures { λ r. ⌜ r .moved ≤ out .moved + 2 ^ 42 ⌝ }
@@ -53,7 +54,7 @@ fn put_moves<'a>(
     to: &[u32],
     n: usize,
 ) -> Out
-    requires { ⌜ (out .moved + 2 ^ 51 < 2 ^ 63) × (base < 2 ^ 31) × (length (now members) ≤ 513) × Below 512 (now members) × (n ≤ 512) ×
+    requires { ⌜ (out .moved + 2 ^ 51 < 2 ^ 63) × (base < 2 ^ 31) × (length (now members) ≤ maxStarts) × Below maxRuns (now members) × (n ≤ maxRuns) ×
         ((c : ℕ) → c < n → Inside (now members) (now begins) (now from) c) ⌝ }
     ensures { λ r. ⌜ (r, now (steps .exit)) ≡ emit (out, now (steps .entry))
         (movesFrom (now (starts .entry)) kind base (now (members .entry)) (now (begins .entry)) (now (from .entry)) (now (to .entry)) 0 n) ⌝ }
@@ -81,7 +82,7 @@ pub fn put_visit<'a>(
     n: usize,
     run: u32,
 ) -> Out
-    requires { ⌜ (out .moved + 2 ^ 52 < 2 ^ 63) × (base < 2 ^ 31) × (run < 512) × (length (now members) ≤ 513) × Below 512 (now members) × (n ≤ 512) ×
+    requires { ⌜ (out .moved + 2 ^ 52 < 2 ^ 63) × (base < 2 ^ 31) × (run < maxRuns) × (length (now members) ≤ maxStarts) × Below maxRuns (now members) × (n ≤ maxRuns) ×
         ((c : ℕ) → c < n → Inside (now members) (now begins) (now current) c × Inside (now members) (now begins) (now row) c) ⌝ }
     ensures { λ r. ⌜ (r, now (steps .exit)) ≡ emit (out, now (steps .entry))
         (visitOf (now (starts .entry)) base (now (members .entry)) (now (begins .entry)) (now (current .entry)) (now (row .entry)) n run) ⌝ }

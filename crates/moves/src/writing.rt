@@ -2,6 +2,7 @@
 ghost use mathlib.Core.Path.{_≡_};
 ghost use Prim.Native.Nat.{_+_, _*_, _<_, _^_, _≤_, _-_};
 ghost use lib.ListN.{length, getD};
+ghost use Rattle.model.specs.Limits.{maxRuns};
 ghost use Rattle.moves.specs.Emit.{emitOne, emit, stepOf, applies};
 ghost use Rattle.moves.specs.Stretches.{Below, spanOf, stretchOn, stretches};
 use tables::words::get;
@@ -74,7 +75,7 @@ fn put_span(
     first: u32,
     last: u32,
 ) -> Out
-    requires { ⌜ (out .moved + 2 ^ 32 < 2 ^ 64) × (base < 2 ^ 31) × (first < 512) × (last < 512) ⌝ }
+    requires { ⌜ (out .moved + 2 ^ 32 < 2 ^ 64) × (base < 2 ^ 31) × (first < maxRuns) × (last < maxRuns) ⌝ }
     ensures { λ r. ⌜ (r, now (steps .exit)) ≡ emitOne (out, now (steps .entry)) (spanOf (now (starts .entry)) kind base first last) ⌝ }
     ensures { λ r. ⌜ r .moved ≤ out .moved + 2 ^ 32 ⌝ }
 {
@@ -107,9 +108,9 @@ fn stretch_on(
     base: u32,
     run: u32,
 ) -> Stretch
-    requires { ⌜ (s .out .moved + 2 ^ 32 < 2 ^ 64) × (base < 2 ^ 31) × (s .first < 512) × (s .last < 512) × (run < 512) ⌝ }
+    requires { ⌜ (s .out .moved + 2 ^ 32 < 2 ^ 64) × (base < 2 ^ 31) × (s .first < maxRuns) × (s .last < maxRuns) × (run < maxRuns) ⌝ }
     ensures { λ r. ⌜ (r, now (steps .exit)) ≡ stretchOn (now (starts .entry)) kind base (s, now (steps .entry)) run ⌝ }
-    ensures { λ r. ⌜ (r .out .moved ≤ s .out .moved + 2 ^ 32) × (r .first < 512) × (r .last < 512) ⌝ }
+    ensures { λ r. ⌜ (r .out .moved ≤ s .out .moved + 2 ^ 32) × (r .first < maxRuns) × (r .last < maxRuns) ⌝ }
 {
     let o = s.out;
     let f = s.first;
@@ -139,7 +140,7 @@ pub fn put_stretches(
     base: u32,
     runs: &[u32],
 ) -> Out
-    requires { ⌜ (out .moved + (length (now runs) + 1) * 2 ^ 32 < 2 ^ 64) × (base < 2 ^ 31) × Below 512 (now runs) ⌝ }
+    requires { ⌜ (out .moved + (length (now runs) + 1) * 2 ^ 32 < 2 ^ 64) × (base < 2 ^ 31) × Below maxRuns (now runs) ⌝ }
     ensures { λ r. ⌜ (r, now (steps .exit)) ≡ emit (out, now (steps .entry)) (stretches (now (starts .entry)) kind base (now (runs .entry))) ⌝ }
     ensures { λ r. ⌜ r .moved ≤ out .moved + length (now (runs .entry)) * 2 ^ 32 ⌝ }
 {

@@ -1,16 +1,18 @@
 // Reads a book from standard input and prints its replay, or the refusal that it met: 01, "The book and its program". Where a read
 // fails, nothing is printed; that, or a failed write, is told by a line on standard error.
+use book::replaying::MAX_TEXT;
 use libc::STDOUT_FILENO;
+use model::MAX_BOOK;
 use stdio::Filled;
 
 // One byte more than a book may have: a longer one is refused by its length alone, and the rest of it is not read.
-fn no_bytes() -> [u8; 65537] {
-    [0; 65537]
+fn no_bytes() -> [u8; MAX_BOOK + 1] {
+    [0; MAX_BOOK + 1]
 }
 
 // As many bytes as the lines of any book.
-fn no_text() -> [u8; 131072] {
-    [0; 131072]
+fn no_text() -> [u8; MAX_TEXT] {
+    [0; MAX_TEXT]
 }
 
 // Prints the replay of a book: demand 3 is the contract of what is printed.
