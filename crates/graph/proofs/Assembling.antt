@@ -20,11 +20,10 @@ use Rattle.model.specs.Record.{view, store}
 use Rattle.model.specs.Broken.{Held}
 use Rattle.model.specs.Push.{staying, parentRuns, newSeen, joined, lowered}
 use Rattle.model.proofs.Stored.{entries-flat}
-use Rattle.graph.specs.declared.pushing.Own.{Own}
 use Rattle.graph.specs.Loops.{marksOf, Joins, ownIn, ownAll, lowerAll, assembled}
 use Rattle.graph.proofs.Views.{runs-view, starts-count, seen-count, starts-pad, heads-pad, seen-pad, changed-view, frontier-list}
 use Rattle.graph.proofs.Marking.{marks-of}
-use Rattle.graph.proofs.Owning.{own-items, own-seen}
+use Rattle.graph.proofs.Owning.{Owned, ownRuns, all-view, own-items, own-seen}
 use Rattle.graph.proofs.Lowering.{lower-lost}
 
 -- One more number in an area
@@ -52,14 +51,14 @@ module _
     (b : Graph)
     (end s changed : ℕ)
     (own : List ℕ)
-    (t : Own)
+    (t : Owned)
     (tips : Kept)
     (room : g .«run_count» < 512)
     (starts : b .starts ≡ view g .starts ++ end ∷ [])
     (parents : b .parents ≡ view g .parents ++ own ∷ [])
     (seen : b .seen ≡ view g .seen ++ s ∷ [])
-    (items : t .items ≡ pad 2048 (concat (view g .parents) ++ own))
-    (count : t .count ≡ length (concat (view g .parents) ++ own))
+    (items : t .0 ≡ pad 2048 (concat (view g .parents) ++ own))
+    (count : t .1 .count ≡ length (concat (view g .parents) ++ own))
     (frontier : tips ≡ keptIn (b .frontier))
     (lowest : changed ≡ b .changed) where
   new-starts : set (g .starts) (g .«run_count» + 1) end ≡ pad 513 (b .starts)
@@ -75,12 +74,12 @@ module _
   unfolding runs
   runs-more = omega (arith, runs-view g holds, length-snoc (view g .parents) own, ap length parents)
 
-  new-heads : set (g .«parent_starts») (g .«run_count» + 1) (t .count) ≡ pad 513 (groupStarts 0 (b .parents))
+  new-heads : set (g .«parent_starts») (g .«run_count» + 1) (t .1 .count) ≡ pad 513 (groupStarts 0 (b .parents))
   unfolding runs
   new-heads =
       let l : g .«run_count» + 1 ≡ length (groupStarts 0 (view g .parents)) = omega (arith, runs-view g holds, length-group-starts 0 (view g .parents)) in
-      let k : t .count ≡ 0 + length (concat (view g .parents) ++ own) = omega arith in
-      add-area 513 (g .«run_count» + 1) (g .«parent_starts») (groupStarts 0 (view g .parents)) (t .count) (heads-pad g holds) l (omega arith)
+      let k : t .1 .count ≡ 0 + length (concat (view g .parents) ++ own) = omega arith in
+      add-area 513 (g .«run_count» + 1) (g .«parent_starts») (groupStarts 0 (view g .parents)) (t .1 .count) (heads-pad g holds) l (omega arith)
       ∙ ap (pad 513) (ap (λ (m : ℕ). groupStarts 0 (view g .parents) ++ m ∷ []) k ∙ sym (starts-snoc 0 (view g .parents) own) ∙ ap (groupStarts 0) (sym parents))
 
   new-items : concat (view g .parents) ++ own ≡ concat (b .parents)
@@ -102,8 +101,8 @@ module _
   pub assembled-stored : assembled g end t tips s changed ≡ store b
   unfolding assembled store keptIn runs
   assembled-stored =
-      let n : t .count ≡ entries b = count ∙ ap length new-items ∙ sym (entries-flat b) in
-      let i₂ : t .items ≡ pad 2048 (concat (b .parents)) = items ∙ ap (pad 2048) new-items in
+      let n : t .1 .count ≡ entries b = count ∙ ap length new-items ∙ sym (entries-flat b) in
+      let i₂ : t .0 ≡ pad 2048 (concat (b .parents)) = items ∙ ap (pad 2048) new-items in
       λ i.
       record {
         starts = new-starts i;
@@ -124,24 +123,24 @@ module _
     {g : CausalGraph}
     {ps : List ℕ}
     {n start : ℕ}
-    {first t : Own}
+    {first t : Owned}
     (holds : Held g)
     (at-end : start ≡ len (view g))
     (j : Joins (view g) ps n)
     (begun : first ≡ ownIn (concat (view g .parents)) (firstHeld (view g)))
-    (done : t ≡ ownAll (view g) first ps) where
-  own-all : t ≡ ownAll (view g) (ownIn (concat (view g .parents)) (firstHeld (view g))) ps
-  own-all = done ∙ ap (λ (x : Own). ownAll (view g) x ps) begun
+    (done : t ≡ ownAll (g .starts) (g .«seen_prefix_len») (g .«run_count») first ps) where
+  own-all : t ≡ ownRuns (view g) (ownIn (concat (view g .parents)) (firstHeld (view g))) ps
+  own-all = done ∙ all-view g holds first ps (j .known) ∙ ap (λ (x : Owned). ownRuns (view g) x ps) begun
 
-  own-count : t .count ≡ length (concat (view g .parents) ++ parentRuns (view g) ps)
-  own-count = ap (λ (x : Own). x .count) own-all ∙ own-items (view g) ps (j .for-entries) .1
+  own-count : t .1 .count ≡ length (concat (view g .parents) ++ parentRuns (view g) ps)
+  own-count = ap (λ (x : Owned). x .1 .count) own-all ∙ own-items (view g) ps (j .for-entries) .1
 
-  pub own-fits : t .count ≤ 2048
+  pub own-fits : t .1 .count ≤ 2048
   unfolding parentRuns
   own-fits =
       omega (arith, simp (length-append, length-map) at own-count, entries-flat (view g), j .for-entries)
 
-  seen-is : {s : ℕ} → s ≡ cond (same ps (view g .frontier)) start (t .seen .0) → s ≡ newSeen (view g) ps
+  seen-is : {s : ℕ} → s ≡ cond (same ps (view g .frontier)) start (t .1 .seen .0) → s ≡ newSeen (view g) ps
   unfolding newSeen
   seen-is e = e ∙ rw (at-end, own-all, own-seen (view g) (holds .formed) ps (j .known))
 
@@ -162,7 +161,7 @@ module _
 
     -- The record with the new run
     pub joined-stored : {tips : Kept} {s from changed : ℕ} {h : CausalGraph} → tips ≡ addIn left (start + n - 1) →
-        s ≡ cond (same ps (view g .frontier)) start (t .seen .0) →
+        s ≡ cond (same ps (view g .frontier)) start (t .1 .seen .0) →
         from ≡ min (g .«run_count») (g .«changed_from» .0) →
         changed ≡ lowerAll (view g .starts) s from (marks (view g)) →
         h ≡ assembled g (start + n) t tips s changed →
@@ -191,7 +190,7 @@ module _
         (ap (λ (x : ℕ). view g .starts ++ (x + n) ∷ []) (sym at-end))
         refl
         (ap (λ (x : ℕ). view g .seen ++ x ∷ []) (sym seen))
-        (ap (λ (x : Own). x .items) own-all ∙ own-items (view g) ps (j .for-entries) .0)
+        (ap (λ (x : Owned). x .0) own-all ∙ own-items (view g) ps (j .for-entries) .0)
         own-count
         (tips-are e)
         lost

@@ -9,7 +9,7 @@ use lib.ListN.{length, drop, getD, drop-of-length-le}
 use lib.Seq.{drop-cons, drop-append-le}
 use lib.Dec.{leb, ltb}
 use Rattle.lists.specs.Lists.{all, filter, mem, least, from, upto}
-use Rattle.lists.proofs.Truth.{lt-not}
+use Rattle.lists.proofs.Truth.{lt-not, and-true}
 use Rattle.lists.proofs.Members.{mem-filter, getD-mem}
 use Rattle.lists.proofs.Counts.{mem-from}
 use Rattle.lists.proofs.Members.{all-both}
@@ -67,10 +67,6 @@ joined-mark a formed ps n r m =
         ∙ all-both (λ s. leb (start a r) s) (drop r (a .seen)) (newSeen a ps ∷ [])
         ∙ ap (λ (t : Bool). t && all (λ s. leb (start a r) s) (newSeen a ps ∷ [])) k
         ∙ (unfold all in and-true (leb (start a r) (newSeen a ps)))
-      where
-        and-true : (b : Bool) → b && true ≡ b
-        and-true true = refl
-        and-true false = refl
 
 -- The loop finds the lowest run that loses its mark
 pub lower-lost : (a : Graph) → WellFormed a → (ps : List ℕ) (n : ℕ) →

@@ -1,15 +1,17 @@
 -- The loop over a new run's parents: the run of each held one joins the entries, and what it has seen is kept if it is the most. Assumes
 -- nothing.
 use mathlib.Core.Path.{_≡_, refl, sym, ap, _∙_}
+use mathlib.Core.Logic.{_⊎_, inl, inr}
 use mathlib.Core.Bool.{Bool, true, false, cond}
 use mathlib.Core.List.{List, [], _∷_, _++_, map, append-assoc, append-nil}
 use Prim.Native.Nat.{ℕ, suc, _+_, _<_, _≤_, max}
 use native.Mathlib.Omega.{arith}
 use native.Mathlib.Numerals.{add-one}
-use lib.ListN.{length, drop, getD, set, length-append, drop-of-length-le}
+use lib.ListN.{length, drop, getD, set, length-append, length-set, drop-of-length-le}
 use lib.Seq.{drop-cons}
-use lib.Dec.{leb}
-use borrow.Author.Tests.{le-leb, lt-leb, leb-true, eq-eqb, ne-eqb}
+use lib.Dec.{leb, eqb}
+use borrow.Author.Tests.{le-leb, lt-leb, leb-true}
+use Rattle.lists.proofs.Truth.{lt-or-le}
 use Rattle.lists.specs.Lists.{filter, mem, below, largest, concat}
 use Rattle.lists.specs.Areas.{pad}
 use Rattle.lists.specs.Scans.{lastAtMost}
@@ -18,6 +20,7 @@ use Rattle.lists.proofs.Members.{map-mem, mem-filter}
 use Rattle.lists.proofs.Bounds.{below-at}
 use Rattle.lists.proofs.Bounds.{largest-least}
 use Rattle.model.specs.declared.record.CausalGraph.{CausalGraph}
+use Rattle.model.specs.declared.record.EventIndex.{EventIndex}
 use Rattle.model.specs.Graph.{Graph, runs, firstHeld, len, entries, containing, held}
 use Rattle.model.specs.Record.{view}
 use Rattle.model.specs.Broken.{WellFormed, Held}
@@ -26,91 +29,133 @@ use Rattle.model.proofs.FormedReads.{containing-in, seenAfter-within}
 use Rattle.model.proofs.Stored.{entries-flat}
 use Rattle.graph.specs.declared.pushing.Own.{Own}
 use Rattle.graph.specs.Loops.{ownIn, addOwn, ownAll}
-use Rattle.graph.proofs.Views.{runs-view, first-view, start-view, seen-view, containing-view}
-use Rattle.graph.proofs.Extending.{held-step}
+use Rattle.graph.proofs.Views.{runs-view, entries-view, first-view, start-view, seen-view, containing-view, parents-pad}
+use Rattle.graph.proofs.PartingAll.{known-first}
+use Rattle.graph.proofs.Extending.{from-step}
+
+-- entries in their array, and what is known of them
+abbrev pub Owned : Type 0
+Owned = List ℕ × Own
+
+-- A parent in the graph's words: its run joins the entries if it is held
+unfoldable pub addRun : Graph → Owned → ℕ → Owned
+addRun g t p =
+    cond (leb (firstHeld g) p)
+    (set (t .0) (t .1 .count) (containing g p), record { count = t .1 .count + 1; seen = record { 0 = max (t .1 .seen .0) (seenAfter g (containing g p)) } }) t
+
+unfoldable pub ownRuns : Graph → Owned → List ℕ → Owned
+ownRuns g t [] = t
+ownRuns g t (p ∷ ps) = ownRuns g (addRun g t p) ps
 
 -- Turns
 
-own-skip : (a : Graph) (t : Own) (p : ℕ) → leb (firstHeld a) p ≡ false → addOwn a t p ≡ t
-unfolding addOwn
+own-skip : (a : Graph) (t : Owned) (p : ℕ) → leb (firstHeld a) p ≡ false → addRun a t p ≡ t
+unfolding addRun
 own-skip a t p e = rw e
 
+own-held : (a : Graph) (t : Owned) (p : ℕ) → leb (firstHeld a) p ≡ true →
+    addRun a t p ≡ (set (t .0) (t .1 .count) (containing a p), record { count = t .1 .count + 1; seen = record { 0 = max (t .1 .seen .0) (seenAfter a (containing a p)) } })
+unfolding addRun
+own-held a t p e = rw e
+
 own-add : (a : Graph) (l : List ℕ) (s p : ℕ) → leb (firstHeld a) p ≡ true → length l < 2048 →
-    addOwn a (ownIn l s) p ≡ ownIn (l ++ containing a p ∷ []) (max s (seenAfter a (containing a p)))
-unfolding addOwn
+    addRun a (ownIn l s) p ≡ ownIn (l ++ containing a p ∷ []) (max s (seenAfter a (containing a p)))
+unfolding addRun
 own-add a l s p e h =
     let q : length l + 1 ≡ length (l ++ containing a p ∷ []) = simp length-append (omega arith) in
-    rw e (λ i. record { items = add-pad 2048 l (containing a p) h i; count = q i; seen = record { 0 = max s (seenAfter a (containing a p)) } })
+    rw e (λ i. (add-pad 2048 l (containing a p) h i, record { count = q i; seen = record { 0 = max s (seenAfter a (containing a p)) } }))
 
--- the count grows by one for a held parent
-pub own-count : (a : Graph) (t : Own) (p : ℕ) → addOwn a t p .count ≡ t .count + cond (leb (firstHeld a) p) 1 0
+-- in the code's words: the count grows by one for a held parent
+pub own-count : (xs ss : List ℕ) (n : ℕ) (t : Owned) (p : ℕ) → addOwn xs ss n t p .1 .count ≡ t .1 .count + cond (leb (getD xs 0 0) p) 1 0
 unfolding addOwn
-own-count a t p = go (leb (firstHeld a) p)
+own-count xs ss n t p = go (leb (getD xs 0 0) p) _
   where
-    go : (b : Bool) →
-        cond b (record { items = set (t .items) (t .count) (containing a p); count = t .count + 1; seen = record { 0 = max (t .seen .0) (seenAfter a (containing a p)) } }) t .count
-        ≡ t .count + cond b 1 0
-    go true = refl
-    go false = omega arith
+    go : (b : Bool) (u : EventIndex) →
+        cond b (set (t .0) (t .1 .count) (lastAtMost xs p n), record { count = t .1 .count + 1; seen = u }) t .1 .count
+        ≡ t .1 .count + cond b 1 0
+    go true u = refl
+    go false u = omega arith
 
-pub own-step : (a : Graph) (t : Own) (ps : List ℕ) (i : ℕ) → i < length ps →
-    ownAll a t (drop i ps) ≡ ownAll a (addOwn a t (getD ps i 0)) (drop (i + 1) ps)
-unfolding ownAll
-own-step a t ps i h = rw (add-one i, drop-cons ps i 0 h)
+-- and the array keeps its length
+pub own-long : (xs ss : List ℕ) (n : ℕ) (t : Owned) (p : ℕ) → length (addOwn xs ss n t p .0) ≡ length (t .0)
+unfolding addOwn
+own-long xs ss n t p = go (leb (getD xs 0 0) p) _
+  where
+    go : (b : Bool) (u : Own) → length (cond b (set (t .0) (t .1 .count) (lastAtMost xs p n), u) t .0) ≡ length (t .0)
+    go true u = length-set (t .0) (t .1 .count) (lastAtMost xs p n)
+    go false u = refl
 
-pub own-end : (a : Graph) (t : Own) (ps : List ℕ) (i : ℕ) → length ps ≤ i → ownAll a t (drop i ps) ≡ t
+pub own-step : (xs ss : List ℕ) (n : ℕ) (t : Owned) (ps : List ℕ) (i : ℕ) → i < length ps →
+    ownAll xs ss n t (drop i ps) ≡ ownAll xs ss n (addOwn xs ss n t (getD ps i 0)) (drop (i + 1) ps)
 unfolding ownAll
-own-end a t ps i h = rw (drop-of-length-le ps h)
+own-step xs ss n t ps i h = rw (add-one i, drop-cons ps i 0 h)
+
+pub own-end : (xs ss : List ℕ) (n : ℕ) (t : Owned) (ps : List ℕ) (i : ℕ) → length ps ≤ i → ownAll xs ss n t (drop i ps) ≡ t
+unfolding ownAll
+own-end xs ss n t ps i h = rw (drop-of-length-le ps h)
 
 -- room for the parents that are left is room for the next held one
-pub own-room : (a : Graph) (ps : List ℕ) (n i : ℕ) → i < length ps → n + length (held a (drop i ps)) ≤ 2048 → firstHeld a ≤ getD ps i 0 →
-    n < 2048
-own-room a ps n i h r l =
-    let e : length (held a (drop i ps)) ≡ 1 + length (held a (drop (i + 1) ps)) = held-step a ps i h ∙ rw (le-leb (firstHeld a) (getD ps i 0) l) in
+pub own-room : (f : ℕ) (ps : List ℕ) (n i : ℕ) → i < length ps → n + length (filter (λ e. leb f e) (drop i ps)) ≤ 2048 → f ≤ getD ps i 0 → n < 2048
+own-room f ps n i h r l =
+    let e : length (filter (λ e. leb f e) (drop i ps)) ≡ 1 + length (filter (λ e. leb f e) (drop (i + 1) ps)) = from-step f ps i h ∙ rw (le-leb f (getD ps i 0) l) in
     omega arith
 
--- In the code's words
+-- a parent that is not held, and one that is
+pub own-no : (xs ss : List ℕ) (n : ℕ) (t : Owned) (p : ℕ) → p < getD xs 0 0 → t ≡ addOwn xs ss n t p
+unfolding addOwn
+own-no xs ss n t p h = rw (lt-leb (getD xs 0 0) p h)
+
+pub own-yes :
+    (xs ss : List ℕ) (n : ℕ) (items : List ℕ) (t u : Own) (p r after : ℕ) →
+    getD xs 0 0 ≤ p →
+    r ≡ lastAtMost xs p n →
+    after ≡ cond (eqb (getD ss r 0) (getD xs r 0)) (getD xs (r + 1) 0) (getD ss r 0) →
+    u ≡ record { count = t .count + 1; seen = record { 0 = max (t .seen .0) after } } →
+    (set items (t .count) r, u) ≡ addOwn xs ss n (items, t) p
+unfolding addOwn
+own-yes xs ss n items t u p r after h e f q = rw (q, f, e, le-leb (getD xs 0 0) p h)
+
+-- A record's entries and the first held event begin it
 module _ (g : CausalGraph) (good : Held g) where
-  -- "seen after" a run, by whether it has seen up to its start
-  pub after-whole : (r : ℕ) → r < g .«run_count» → getD (g .«seen_prefix_len») r 0 ≡ getD (g .starts) r 0 →
-      getD (g .starts) (r + 1) 0 ≡ seenAfter (view g) r
+  pub own-begun : (g .parents, record { count = g .«entry_count»; seen = record { 0 = getD (g .starts) 0 0 } }) ≡ ownIn (concat (view g .parents)) (firstHeld (view g))
+  own-begun = λ i. (parents-pad g good i, record { count = (sym (entries-view g good) ∙ entries-flat (view g)) i; seen = record { 0 = sym (first-view g good) i } })
+
+  -- a turn is the graph's
+  after-view : (r : ℕ) → r < g .«run_count» →
+      cond (eqb (getD (g .«seen_prefix_len») r 0) (getD (g .starts) r 0)) (getD (g .starts) (r + 1) 0) (getD (g .«seen_prefix_len») r 0) ≡ seenAfter (view g) r
   unfolding seenAfter
-  after-whole r h e =
+  after-view r h =
       let n : suc r ≡ r + 1 = omega arith in
-      rw (seen-view g good r h, start-view g good r (omega arith), n, start-view g good (r + 1) (omega arith), eq-eqb (getD (g .«seen_prefix_len») r 0) (getD (g .starts) r 0) e)
+      rw (seen-view g good r h, start-view g good r (omega arith), n, start-view g good (r + 1) (omega arith))
 
-  pub after-part : (r : ℕ) → r < g .«run_count» → (getD (g .«seen_prefix_len») r 0 ≡ getD (g .starts) r 0 → ⊥) →
-      getD (g .«seen_prefix_len») r 0 ≡ seenAfter (view g) r
-  unfolding seenAfter
-  after-part r h e = rw (seen-view g good r h, start-view g good r (omega arith), ne-eqb (getD (g .«seen_prefix_len») r 0) (getD (g .starts) r 0) e)
+  add-view : (t : Owned) (p : ℕ) → p < len (view g) → addOwn (g .starts) (g .«seen_prefix_len») (g .«run_count») t p ≡ addRun (view g) t p
+  add-view t p l = go (lt-or-le p (getD (g .starts) 0 0))
+    where
+      go : (p < getD (g .starts) 0 0) ⊎ (getD (g .starts) 0 0 ≤ p) → addOwn (g .starts) (g .«seen_prefix_len») (g .«run_count») t p ≡ addRun (view g) t p
+      go (inl h) =
+          sym (own-no (g .starts) (g .«seen_prefix_len») (g .«run_count») t p h)
+          ∙ sym (own-skip (view g) t p (rw (first-view g good) (lt-leb (getD (g .starts) 0 0) p h)))
+      go (inr h) =
+          let f : firstHeld (view g) ≤ p = omega (arith, first-view g good) in
+          let c = containing-view g good p f l in
+          let k : containing (view g) p < g .«run_count» = omega (arith, containing-in (view g) (good .formed) p f l .0, runs-view g good) in
+          sym (own-yes (g .starts) (g .«seen_prefix_len») (g .«run_count») (t .0) (t .1) _ p (containing (view g) p) (seenAfter (view g) (containing (view g) p)) h c
+          (sym (after-view (containing (view g) p) k)) refl)
+          ∙ sym (own-held (view g) t p (le-leb (firstHeld (view g)) p f))
 
-  -- the run that holds a held event is one of the runs
-  pub run-in : (p r : ℕ) → getD (g .starts) 0 0 ≤ p → p < len (view g) → r ≡ lastAtMost (g .starts) p (g .«run_count») →
-      (r ≡ containing (view g) p) × (r < g .«run_count»)
-  run-in p r f l e =
-      let h : firstHeld (view g) ≤ p = omega (arith, first-view g good) in
-      let q : r ≡ containing (view g) p = e ∙ sym (containing-view g good p h l) in
-      (q, omega (arith, q, containing-in (view g) (good .formed) p h l .0, runs-view g good))
-
-  -- a turn, for a parent that is not held and for one that is
-  pub own-no : (t : Own) (p : ℕ) → p < getD (g .starts) 0 0 → t ≡ addOwn (view g) t p
-  own-no t p h = sym (own-skip (view g) t p (rw (first-view g good) (lt-leb (getD (g .starts) 0 0) p h)))
-
-  pub own-yes :
-      (t : Own) (p r after s : ℕ) →
-      getD (g .starts) 0 0 ≤ p →
-      r ≡ containing (view g) p →
-      after ≡ seenAfter (view g) r →
-      s ≡ max (t .seen .0) after →
-      _≡_ {A = Own} (record { items = set (t .items) (t .count) r; count = t .count + 1; seen = record { 0 = s } }) (addOwn (view g) t p)
-  unfolding addOwn
-  own-yes t p r after s h e f q = rw (first-view g good, le-leb (getD (g .starts) 0 0) p h, ← e, q, f)
+  pub all-view : (t : Owned) (ps : List ℕ) → below (len (view g)) ps ≡ true →
+      ownAll (g .starts) (g .«seen_prefix_len») (g .«run_count») t ps ≡ ownRuns (view g) t ps
+  unfolding ownAll ownRuns
+  all-view t [] e = refl
+  all-view t (p ∷ ps) e =
+      let k = known-first (len (view g)) p ps e in
+      ap (λ (u : Owned). ownAll (g .starts) (g .«seen_prefix_len») (g .«run_count») u ps) (add-view t p (k .0)) ∙ all-view (addRun (view g) t p) ps (k .1)
 
 -- What the whole loop leaves
 
 own-is : (a : Graph) (l : List ℕ) (s : ℕ) (ps : List ℕ) → length l + length (held a ps) ≤ 2048 →
-    (s′ : ℕ) × (ownAll a (ownIn l s) ps ≡ ownIn (l ++ parentRuns a ps) s′)
-unfolding ownAll parentRuns held filter
+    (s′ : ℕ) × (ownRuns a (ownIn l s) ps ≡ ownIn (l ++ parentRuns a ps) s′)
+unfolding ownRuns parentRuns held filter
 own-is a l s [] h = (s, rw append-nil)
 own-is a l s (p ∷ ps) h =
     go (leb (firstHeld a) p) refl (own-is a l s ps) (own-is a (l ++ containing a p ∷ []) (max s (seenAfter a (containing a p))) ps) h
@@ -121,27 +166,27 @@ own-is a l s (p ∷ ps) h =
     go :
         (b : Bool) →
         leb (firstHeld a) p ≡ b →
-        (length l + length rest ≤ 2048 → (s′ : ℕ) × (ownAll a (ownIn l s) ps ≡ ownIn (l ++ map (containing a) rest) s′)) →
+        (length l + length rest ≤ 2048 → (s′ : ℕ) × (ownRuns a (ownIn l s) ps ≡ ownIn (l ++ map (containing a) rest) s′)) →
         (length (l ++ containing a p ∷ []) + length rest ≤ 2048 →
-        (s′ : ℕ) × (ownAll a (ownIn (l ++ containing a p ∷ []) (max s (seenAfter a (containing a p)))) ps ≡ ownIn ((l ++ containing a p ∷ []) ++ map (containing a) rest) s′)) →
+        (s′ : ℕ) × (ownRuns a (ownIn (l ++ containing a p ∷ []) (max s (seenAfter a (containing a p)))) ps ≡ ownIn ((l ++ containing a p ∷ []) ++ map (containing a) rest) s′)) →
         length l + length (cond b (p ∷ rest) rest) ≤ 2048 →
-        (s′ : ℕ) × (ownAll a (addOwn a (ownIn l s) p) ps ≡ ownIn (l ++ map (containing a) (cond b (p ∷ rest) rest)) s′)
+        (s′ : ℕ) × (ownRuns a (addRun a (ownIn l s) p) ps ≡ ownIn (l ++ map (containing a) (cond b (p ∷ rest) rest)) s′)
     go true e f k m =
         let n : length (l ++ containing a p ∷ []) ≡ length l + 1 = simp length-append (omega arith) in
         let w = k (omega arith) in (
           w .0,
-          ap (λ (t : Own). ownAll a t ps) (own-add a l s p e (omega arith)) ∙ w .1
+          ap (λ (t : Owned). ownRuns a t ps) (own-add a l s p e (omega arith)) ∙ w .1
               ∙ ap (λ (x : List ℕ). ownIn x (w .0)) (append-assoc l (containing a p ∷ []) (map (containing a) rest)),
         )
-    go false e f k m = let w = f (omega arith) in (w .0, ap (λ (t : Own). ownAll a t ps) (own-skip a (ownIn l s) p e) ∙ w .1)
+    go false e f k m = let w = f (omega arith) in (w .0, ap (λ (t : Owned). ownRuns a t ps) (own-skip a (ownIn l s) p e) ∙ w .1)
 
 -- The entries are those of the graph and then the parents' runs
 pub own-items : (a : Graph) (ps : List ℕ) → entries a + length (held a ps) ≤ 2048 →
-    (ownAll a (ownIn (concat (a .parents)) (firstHeld a)) ps .items ≡ pad 2048 (concat (a .parents) ++ parentRuns a ps)) ×
-    (ownAll a (ownIn (concat (a .parents)) (firstHeld a)) ps .count ≡ length (concat (a .parents) ++ parentRuns a ps))
+    (ownRuns a (ownIn (concat (a .parents)) (firstHeld a)) ps .0 ≡ pad 2048 (concat (a .parents) ++ parentRuns a ps)) ×
+    (ownRuns a (ownIn (concat (a .parents)) (firstHeld a)) ps .1 .count ≡ length (concat (a .parents) ++ parentRuns a ps))
 own-items a ps h =
     let w = own-is a (concat (a .parents)) (firstHeld a) ps (omega (arith, entries-flat a)) in
-    (ap (λ (t : Own). t .items) (w .1), ap (λ (t : Own). t .count) (w .1))
+    (ap (λ (t : Owned). t .0) (w .1), ap (λ (t : Owned). t .1 .count) (w .1))
 
 -- What has been seen is the most of where the loop began and what the parents' runs have seen
 
@@ -155,10 +200,10 @@ unfolding largest
 largest-more s x [] = omega arith
 largest-more s x (y ∷ ys) = rw (largest-any (max s x) s y ys) (omega arith)
 
-own-most : (a : Graph) (t : Own) (ps : List ℕ) → ownAll a t ps .seen .0 ≡ max (t .seen .0) (largest (t .seen .0) (map (seenAfter a) (parentRuns a ps)))
-unfolding ownAll parentRuns held filter
+own-most : (a : Graph) (t : Owned) (ps : List ℕ) → ownRuns a t ps .1 .seen .0 ≡ max (t .1 .seen .0) (largest (t .1 .seen .0) (map (seenAfter a) (parentRuns a ps)))
+unfolding ownRuns parentRuns held filter
 own-most a t [] = unfold largest in omega arith
-own-most a t (p ∷ ps) = go (leb (firstHeld a) p) refl (own-most a t ps) (own-most a (addOwn a t p) ps)
+own-most a t (p ∷ ps) = go (leb (firstHeld a) p) refl (own-most a t ps) (own-most a (addRun a t p) ps)
   where
     rest : List ℕ
     rest = filter (λ e. leb (firstHeld a) e) ps
@@ -166,14 +211,14 @@ own-most a t (p ∷ ps) = go (leb (firstHeld a) p) refl (own-most a t ps) (own-m
     go :
         (b : Bool) →
         leb (firstHeld a) p ≡ b →
-        ownAll a t ps .seen .0 ≡ max (t .seen .0) (largest (t .seen .0) (map (seenAfter a) (map (containing a) rest))) →
-        ownAll a (addOwn a t p) ps .seen .0 ≡ max (addOwn a t p .seen .0) (largest (addOwn a t p .seen .0) (map (seenAfter a) (map (containing a) rest))) →
-        ownAll a (addOwn a t p) ps .seen .0 ≡ max (t .seen .0) (largest (t .seen .0) (map (seenAfter a) (map (containing a) (cond b (p ∷ rest) rest))))
+        ownRuns a t ps .1 .seen .0 ≡ max (t .1 .seen .0) (largest (t .1 .seen .0) (map (seenAfter a) (map (containing a) rest))) →
+        ownRuns a (addRun a t p) ps .1 .seen .0 ≡ max (addRun a t p .1 .seen .0) (largest (addRun a t p .1 .seen .0) (map (seenAfter a) (map (containing a) rest))) →
+        ownRuns a (addRun a t p) ps .1 .seen .0 ≡ max (t .1 .seen .0) (largest (t .1 .seen .0) (map (seenAfter a) (map (containing a) (cond b (p ∷ rest) rest))))
     go true e f k =
-        let q : addOwn a t p .seen .0 ≡ max (t .seen .0) (seenAfter a (containing a p)) = unfold addOwn in rw e in
+        let q : addRun a t p .1 .seen .0 ≡ max (t .1 .seen .0) (seenAfter a (containing a p)) = unfold addRun in rw e in
         k ∙ ap (λ (s : ℕ). max s (largest s (map (seenAfter a) (map (containing a) rest)))) q
-        ∙ largest-more (t .seen .0) (seenAfter a (containing a p)) (map (seenAfter a) (map (containing a) rest))
-    go false e f k = ap (λ (u : Own). ownAll a u ps .seen .0) (own-skip a t p e) ∙ f
+        ∙ largest-more (t .1 .seen .0) (seenAfter a (containing a p)) (map (seenAfter a) (map (containing a) rest))
+    go false e f k = ap (λ (u : Owned). ownRuns a u ps .1 .seen .0) (own-skip a t p e) ∙ f
 
 -- The runs of known parents
 pub parent-run-in : (a : Graph) → WellFormed a → (ps : List ℕ) → below (len a) ps ≡ true →
@@ -186,7 +231,7 @@ parent-run-in a formed ps known r m =
 
 -- and for a well-formed graph and known parents it is the most that those have seen, or the first held event
 pub own-seen : (a : Graph) → WellFormed a → (ps : List ℕ) → below (len a) ps ≡ true →
-    ownAll a (ownIn (concat (a .parents)) (firstHeld a)) ps .seen .0 ≡ largest (firstHeld a) (map (seenAfter a) (parentRuns a ps))
+    ownRuns a (ownIn (concat (a .parents)) (firstHeld a)) ps .1 .seen .0 ≡ largest (firstHeld a) (map (seenAfter a) (parentRuns a ps))
 own-seen a formed ps known =
     let most = largest-least (firstHeld a) (firstHeld a) (map (seenAfter a) (parentRuns a ps)) (omega arith) one in
     own-most a (ownIn (concat (a .parents)) (firstHeld a)) ps ∙ omega (arith, most)
@@ -199,8 +244,8 @@ own-seen a formed ps known =
 
 -- All of it
 pub own-whole : (a : Graph) → WellFormed a → (ps : List ℕ) → below (len a) ps ≡ true → entries a + length (held a ps) ≤ 2048 →
-    ownAll a (ownIn (concat (a .parents)) (firstHeld a)) ps ≡
+    ownRuns a (ownIn (concat (a .parents)) (firstHeld a)) ps ≡
     ownIn (concat (a .parents) ++ parentRuns a ps) (largest (firstHeld a) (map (seenAfter a) (parentRuns a ps)))
 own-whole a formed ps known h =
     let w = own-items a ps h in
-    λ i. record { items = w .0 i; count = w .1 i; seen = record { 0 = own-seen a formed ps known i } }
+    λ i. (w .0 i, record { count = w .1 i; seen = record { 0 = own-seen a formed ps known i } })

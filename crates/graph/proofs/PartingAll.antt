@@ -18,7 +18,7 @@ use Rattle.lists.proofs.Counts.{count-same}
 use Rattle.model.specs.declared.record.CausalGraph.{CausalGraph}
 use Rattle.model.specs.Graph.{Graph, runs, start, firstHeld, len, entries, containing, held}
 use Rattle.model.specs.Record.{view, store}
-use Rattle.model.specs.Broken.{WellFormed, Limits, Held}
+use Rattle.model.specs.Broken.{WellFormed, WithinLimits, Held}
 use Rattle.model.specs.Split.{split, ends, splitAfter, splits}
 use Rattle.model.proofs.Stored.{view-store, held-store}
 use Rattle.model.proofs.FormedReads.{containing-in}
@@ -111,7 +111,7 @@ splits-first a p ps = go (leb (firstHeld a) p) refl
     go true e = ap (count (λ q. not (ends a q))) (held-yes a p ps e) ∙ (unfold count in ap (λ (n : ℕ). n + count (λ q. not (ends a q)) (held a ps)) (one (ends a p)))
     go false e = ap (count (λ q. not (ends a q))) (held-no a p ps e) ∙ omega arith
 
-known-first : (n p : ℕ) (ps : List ℕ) → below n (p ∷ ps) ≡ true → (p < n) × (below n ps ≡ true)
+pub known-first : (n p : ℕ) (ps : List ℕ) → below n (p ∷ ps) ≡ true → (p < n) × (below n ps ≡ true)
 unfolding below all
 known-first n p ps e = (ltb-true p n (and-left (ltb p n) (below n ps) e), and-right (ltb p n) (below n ps) e)
 
@@ -138,11 +138,11 @@ placed g h p r e =
 -- A turn: one parent
 record Turn (a : Graph) (p : ℕ) (ps : List ℕ) (b : Graph) : Type 0 where
   formed : WellFormed b
-  limits : Limits b
+  limits : WithinLimits b
   room : Room b ps
   rest : splitAfter b (held b ps) ≡ splitAfter a (held a (p ∷ ps))
 
-turn : (a : Graph) → WellFormed a → Limits a → (p : ℕ) (ps : List ℕ) → Room a (p ∷ ps) → Turn a p ps (splitAfter a (held a (p ∷ [])))
+turn : (a : Graph) → WellFormed a → WithinLimits a → (p : ℕ) (ps : List ℕ) → Room a (p ∷ ps) → Turn a p ps (splitAfter a (held a (p ∷ [])))
 turn a f l p ps r = go (needsSplit a p) refl
   where
     known : (p < len a) × (below (len a) ps ≡ true)
@@ -236,18 +236,15 @@ going-done ps g₀ g i h s =
     let d : drop i ps ≡ [] = drop-of-length-le ps h in
     s .is-held .stored ∙ ap store (sym (after-none (view g)) ∙ ap (λ (l : List ℕ). splitAfter (view g) (held (view g) l)) (sym d) ∙ s .rest)
 
--- How many of the parents split a run, turn by turn
-pub splits-step : (ps : List ℕ) (a : Graph) (i : ℕ) → i < length ps → splits a (drop i ps) ≡ cond (needsSplit a (getD ps i 0)) 1 0 + splits a (drop (i + 1) ps)
-splits-step ps a i h = rw (add-one i, drop-cons ps i 0 h) (splits-first a (getD ps i 0) (drop (suc i) ps))
-
-pub splits-end : (ps : List ℕ) (a : Graph) (i : ℕ) → length ps ≤ i → splits a (drop i ps) ≡ 0
-unfolding splits held filter count
-splits-end ps a i h = rw (drop-of-length-le ps h)
-
--- one of them counts for at most 1
-pub one-le : (b : Bool) → cond {A = ℕ} b 1 0 ≤ 1
-one-le true = omega arith
-one-le false = omega arith
-
-pub one-is : (n : ℕ) (b d : Bool) → n ≡ cond b 1 0 → b ≡ d → n ≡ cond d 1 0
-one-is n b d e f = rw (← f) e
+-- Parents that split no run leave the graph as it is
+pub none-split : (a : Graph) (ps : List ℕ) → splits a ps ≡ 0 → splitAfter a (held a ps) ≡ a
+none-split a [] e = after-none a
+none-split a (p ∷ ps) e = go (needsSplit a p) refl (none-split a ps)
+  where
+    go : (t : Bool) → needsSplit a p ≡ t → (splits a ps ≡ 0 → splitAfter a (held a ps) ≡ a) → splitAfter a (held a (p ∷ ps)) ≡ a
+    go false f ih =
+        let n : splits a (p ∷ ps) ≡ splits a ps = splits-first a p ps ∙ rw f (omega arith) in
+        stays a p ps f ∙ ih (omega (arith, n, e))
+    go true f ih =
+        let n : splits a (p ∷ ps) ≡ 1 + splits a ps = splits-first a p ps ∙ rw f in
+        absurd (omega (arith, n, e))

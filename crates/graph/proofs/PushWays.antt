@@ -1,14 +1,14 @@
 -- The ways out of a push, each as one law from the tests on the way to the record that the call gives; and what a new run needs, from
 -- the tests that it passed. Assumes nothing.
 use mathlib.Core.Path.{_≡_, refl, sym, ap, _∙_}
-use mathlib.Core.Bool.{Bool, true, false, not, cond}
+use mathlib.Core.Bool.{Bool, true, false, not, cond, _&&_}
 use mathlib.Core.List.{List, [], _∷_}
 use Prim.Native.Nat.{ℕ, _+_, _-_, _<_, _≤_, _^_}
 use native.Mathlib.Omega.{arith}
 use lib.ListN.{length, getD, take}
-use lib.Dec.{ltb}
+use lib.Dec.{ltb, leb}
 use borrow.Author.Tests.{lt-ltb, le-ltb, ltb-true, ltb-false, ne-eqb, eq-eqb}
-use Rattle.lists.specs.Lists.{filter, mem, rising, below}
+use Rattle.lists.specs.Lists.{filter, count, mem, same, rising, below}
 use Rattle.lists.specs.Scans.{keptIn}
 use Rattle.lists.specs.declared.Kept.{Kept}
 use Rattle.lists.proofs.Members.{getD-mem}
@@ -24,14 +24,16 @@ use Rattle.model.specs.declared.answers.Outcome.the-variants.{Done, Refused}
 use Rattle.model.specs.Refusals.{firstOf}
 use Rattle.model.specs.Graph.{Graph, runs, len, entries, held, extends}
 use Rattle.model.specs.Record.{view, store}
-use Rattle.model.specs.Broken.{broken, Held, Limits}
+use Rattle.model.specs.Broken.{broken, Held, WithinLimits}
 use Rattle.model.specs.Split.{splits, splitAfter}
 use Rattle.model.specs.Push.{staying, grown, joined, lowered, push, pushOutcome, pushed, pushRefused, pushHeldOf, pushOf}
 use Rattle.lists.proofs.Counts.{filter-length}
 use Rattle.model.proofs.Stored.{view-store, held-store}
 use Rattle.model.proofs.FormedSplitAll.{SplitAll, splits-frontier}
 use Rattle.model.proofs.FormedPush.{Accepted, push-grows, push-joins, extends-runs, extends-parents, pushed-splits, held-same}
-use Rattle.graph.specs.Loops.{Room, Joins}
+use Rattle.graph.specs.Loops.{Room, Joins, needsIn}
+use Rattle.graph.proofs.Extending.{extends-view, held-from}
+use Rattle.graph.proofs.SplitParts.{splits-in}
 use Rattle.graph.proofs.Views.{runs-view, entries-view, frontier-list}
 
 -- A parent's next event fits
@@ -130,6 +132,16 @@ module _ {g : CausalGraph} {ps : List ℕ} {n start : ℕ} (k : Known g ps n sta
 
   pub parents-fit : (i : ℕ) → i < length ps → getD ps i 0 + 1 < 2 ^ 32
   parents-fit = next-fits start ps (omega (arith, k .events)) (k .known)
+
+  -- The test and the counts of the code are the graph's
+  pub extends-are : {b : Bool} → b ≡ (ltb 0 (g .«run_count») && same ps ((getD (g .starts) (g .«run_count») 0 - 1) ∷ [])) → b ≡ extends (view g) ps
+  extends-are e = e ∙ extends-view g (k .holds) ps
+
+  pub splits-are : {m : ℕ} → m ≡ count (λ p. needsIn (g .starts) (g .«run_count») p) ps → m ≡ splits (view g) ps
+  splits-are e = e ∙ splits-in g (k .holds) ps known-len
+
+  pub held-are : {l : ℕ} → l ≡ length (filter (λ e. leb (getD (g .starts) 0 0) e) ps) → l ≡ length (held (view g) ps)
+  held-are e = e ∙ held-from g (k .holds) ps
 
   -- The last run grows
   pub some-runs : {e : Bool} → e ≡ extends (view g) ps → e ≡ true → 0 < g .«run_count»
@@ -248,7 +260,7 @@ module _ {g : CausalGraph} {ps : List ℕ} {n start : ℕ} (r : NewRun g ps n st
   after : SplitAll (view g) (held (view g) ps)
   after = pushed-splits (view g) (r .known .holds .formed) ps n accepted
 
-  after-limits : Limits (splitAfter (view g) (held (view g) ps))
+  after-limits : WithinLimits (splitAfter (view g) (held (view g) ps))
   unfolding splits
   after-limits = record {
     runs = omega (arith, after .more-runs, r .for-runs);

@@ -7,6 +7,7 @@ use lib.ListN.{length, getD, set}
 use lib.Dec.{leb, eqb}
 use Rattle.lists.specs.Lists.{bit, any, filter, upto, below}
 use Rattle.lists.specs.Areas.{part}
+use Rattle.model.specs.Limits.{maxRuns}
 use Rattle.model.specs.Graph.{Graph, runs}
 use Rattle.model.specs.Beside.{concurrentRun}
 
@@ -16,7 +17,7 @@ row starts items r = part (getD starts r 0) (getD starts (r + 1) 0) items
 
 -- Rows for n runs, each run's parents below it
 pub record Rows (starts items : List ℕ) (n : ℕ) : Type 0 where
-  pub few : n ≤ 512
+  pub few : n ≤ maxRuns
   pub fits : n < length starts
   pub climb : (r : ℕ) → r < n → getD starts r 0 ≤ getD starts (r + 1) 0
   pub inside : (r : ℕ) → r < n → getD starts (r + 1) 0 ≤ length items

@@ -1,12 +1,13 @@
 // Archive points, and the runs that are concurrent with a run, into lent lists.
 ghost use mathlib.Core.Path.{_≡_};
-ghost use mathlib.Core.Bool.{true, not, cond, _&&_};
+ghost use mathlib.Core.Bool.{true, not, cond};
 ghost use mathlib.Core.List.{[], _∷_, map};
 ghost use Prim.Native.Nat.{_+_, _-_, _≤_, _<_};
 ghost use lib.ListN.{length, take, getD};
 ghost use lib.Dec.{eqb};
 ghost use Rattle.lists.specs.Lists.{bit, any, below};
 ghost use Rattle.lists.specs.Areas.{part};
+ghost use Rattle.model.specs.Limits.{maxRuns};
 ghost use Rattle.model.specs.Record.{view};
 ghost use Rattle.model.specs.Broken.{Held};
 ghost use Rattle.model.specs.Beside.{archivePointsOf, ConcurrencyList};
@@ -15,6 +16,7 @@ ghost use Rattle.graph.specs.Flags.{row, Rows, flagAll, flagParents, fla
 use crate::cut::Put;
 use model::CausalGraph;
 use model::EventRunIndex;
+use model::MAX_RUNS;
 use model::Outcome;
 use model::Refusal;
 use model::Written;
@@ -203,7 +205,7 @@ fn flag_up<'a>(
 }
 
 // A flag for each run that is an ancestor of `run`, `run` itself, or a descendant.
-fn flags_of(g: CausalGraph, run: EventRunIndex) -> [u32; 512]
+fn flags_of(g: CausalGraph, run: EventRunIndex) -> [u32; MAX_RUNS]
     requires { ⌜ Held g ⌝ }
     requires { ⌜ run .0 < g .«run_count» ⌝ }
     ensures { λ r. ⌜ Flags (view g) (run .0) r ⌝ }
@@ -251,7 +253,7 @@ fn put_free(list: &mut [u32], p: Put, run: EventRunIndex, flag: u32) -> Put
 // Those of n runs that have no flag, a word each.
 fn put_all_free(flags: &[u32], n: usize, list: &mut [u32]) -> Put
     requires { ⌜ n ≤ length (now flags) ⌝ }
-    requires { ⌜ n ≤ 512 ⌝ }
+    requires { ⌜ n ≤ maxRuns ⌝ }
     ensures { λ r. ⌜ (r, now (list .exit)) ≡ putAll 1 (blank, now (list .entry))
         (map (λ q. q ∷ []) (free (now (flags .entry)) n)) ⌝ }
 {

@@ -1,63 +1,49 @@
-// The test of a graph value: a function for each clause of 01's sentence.
+// The test of a graph value, clause by clause of 01's sentence. The arrays are lent, never copied.
 ghost use mathlib.Core.Path.{_≡_};
-ghost use mathlib.Core.Bool.{false};
-ghost use Prim.Native.Nat.{_+_, _≤_};
-ghost use lib.Dec.{eqb};
-ghost use Rattle.model.specs.Broken.{
-  overLimit,
-  badStarts,
-  badGroups,
-  badParents,
-  badFrontier,
-  badSeen,
-  badMarks,
-  badPadding,
-};
+ghost use mathlib.Core.Bool.{not, _&&_, _||_};
+ghost use Prim.Native.Nat.{_+_, _<_, _≤_};
+ghost use lib.ListN.{length, getD, take, drop};
+ghost use lib.Dec.{eqb, ltb};
+ghost use Rattle.lists.specs.Lists.{same};
+ghost use Rattle.lists.specs.Areas.{zeros, climbs};
+ghost use Rattle.model.specs.Limits.{maxEntries, maxFrontier, maxRuns};
+ghost use Rattle.model.specs.Broken.{frontierFits};
 ghost use Rattle.model.specs.Broken.{broken as Broken·broken};
+ghost use Rattle.graph.specs.Loops.{marksOf};
 use model::CausalGraph;
 use model::EventIndex;
+use model::MAX_ENTRIES;
+use model::MAX_FRONTIER;
+use model::MAX_RUNS;
 
-fn over_limit(g: CausalGraph) -> bool
-    ensures { λ r. ⌜ r ≡ overLimit g ⌝ }
+// "a count passes its limit"
+fn over_limit(runs: usize, entries: usize, tips: usize, marked: usize) -> bool
+    ensures { λ r. ⌜ r ≡ (ltb maxRuns runs || ltb maxEntries entries || ltb maxFrontier tips || ltb maxRuns marked) ⌝ }
 {
-    if 512 < g.run_count {
+    if MAX_RUNS < runs {
         return true;
     }
-    if 2048 < g.entry_count {
+    if MAX_ENTRIES < entries {
         return true;
     }
-    if 512 < g.frontier_count {
+    if MAX_FRONTIER < tips {
         return true;
     }
-    512 < g.mark_count
+    MAX_RUNS < marked
 }
 
-fn bad_starts(g: CausalGraph) -> bool
-    requires { ⌜ g .«run_count» ≤ 512 ⌝ }
-    ensures { λ r. ⌜ r ≡ badStarts g ⌝ }
+// "the parent groups do not cover the entries in run order"
+fn bad_groups(heads: &[u32], runs: usize, entries: usize) -> bool
+    requires { ⌜ runs < length (now heads) ⌝ }
+    ensures { λ r. ⌜ r ≡ not (eqb (getD (now (heads .entry)) 0 0) 0 && climbs entries (take (runs + 1) (now (heads .entry)))) ⌝ }
 {
-    !lists::is_rising(&g.starts, g.run_count + 1)
-}
-
-fn bad_groups(g: CausalGraph) -> bool
-    requires { ⌜ g .«run_count» ≤ 512 ⌝ }
-    ensures { λ r. ⌜ r ≡ badGroups g ⌝ }
-{
-    if g.parent_starts[0] != 0 {
+    if heads[0] != 0 {
         return true;
     }
-    !lists::is_climb(&g.parent_starts, g.run_count + 1, g.entry_count)
+    !lists::is_climb(heads, runs + 1, entries)
 }
 
-fn bad_parents(g: CausalGraph) -> bool
-    requires { ⌜ g .«run_count» ≤ 512 ⌝ }
-    requires { ⌜ g .«entry_count» ≤ 2048 ⌝ }
-    requires { ⌜ badGroups g ≡ false ⌝ }
-    ensures { λ r. ⌜ r ≡ badParents g ⌝ }
-{
-    !lists::groups_fit(&g.parent_starts, g.run_count, &g.parents, g.entry_count)
-}
-
+// Whether event b comes just after event a.
 fn is_next(a: EventIndex, b: EventIndex) -> bool
     ensures { λ r. ⌜ r ≡ eqb (a .0 + 1) (b .0) ⌝ }
 {
@@ -67,18 +53,15 @@ fn is_next(a: EventIndex, b: EventIndex) -> bool
     b.0 - a.0 == 1
 }
 
-fn bad_frontier(g: CausalGraph) -> bool
-    requires { ⌜ g .«run_count» ≤ 512 ⌝ }
-    requires { ⌜ g .«frontier_count» ≤ 512 ⌝ }
-    ensures { λ r. ⌜ r ≡ badFrontier g ⌝ }
+// "the frontier is not rising and below `len` (its last is `len`-1 where there are runs)"
+fn bad_frontier(frontier: &[u32], tips: usize, runs: usize, len: EventIndex) -> bool
+    requires { ⌜ tips ≤ length (now frontier) ⌝ }
+    ensures { λ r. ⌜ r ≡ not (frontierFits runs (len .0) (take tips (now (frontier .entry)))) ⌝ }
 {
-    let runs = g.run_count;
-    let tips = g.frontier_count;
-    let len = g.starts[runs];
-    if !lists::is_rising(&g.frontier, tips) {
+    if !lists::is_rising(frontier, tips) {
         return true;
     }
-    if !lists::all_below(&g.frontier, tips, len) {
+    if !lists::all_below(frontier, tips, len.0) {
         return true;
     }
     if runs == 0 {
@@ -87,76 +70,116 @@ fn bad_frontier(g: CausalGraph) -> bool
     if tips == 0 {
         return true;
     }
-    !is_next(EventIndex(g.frontier[tips - 1]), EventIndex(len))
+    !is_next(EventIndex(frontier[tips - 1]), len)
 }
 
-fn bad_seen(g: CausalGraph) -> bool
-    requires { ⌜ g .«run_count» ≤ 512 ⌝ }
-    ensures { λ r. ⌜ r ≡ badSeen g ⌝ }
+// Whether the marks are not those that the starts and the seen lengths give.
+fn bad_marks<'a>(
+    starts: &'a [u32],
+    seen: &'a [u32],
+    runs: usize,
+    marks: &'a [u32],
+    marked: usize,
+) -> bool
+    requires { ⌜ runs ≤ maxRuns ⌝ }
+    requires { ⌜ runs < length (now starts) ⌝ }
+    requires { ⌜ runs ≤ length (now seen) ⌝ }
+    requires { ⌜ marked ≤ length (now marks) ⌝ }
+    ensures { λ r. ⌜ r ≡ not (same (take marked (now (marks .entry))) (marksOf 0 (take (runs + 1) (now (starts .entry))) (take runs (now (seen .entry))))) ⌝ }
 {
-    !lists::is_between(g.starts[0], &g.starts, &g.seen_prefix_len, g.run_count)
+    let k = crate::marks::marks_of(starts, seen, runs);
+    !lists::is_same(marks, marked, &k.items, k.count)
 }
 
-fn bad_marks(g: CausalGraph) -> bool
-    requires { ⌜ g .«run_count» ≤ 512 ⌝ }
-    requires { ⌜ g .«mark_count» ≤ 512 ⌝ }
-    requires { ⌜ badGroups g ≡ false ⌝ }
-    ensures { λ r. ⌜ r ≡ badMarks g ⌝ }
+// Whether some place past a count is not 0.
+fn bad_padding<'a>(
+    starts: &'a [u32],
+    heads: &'a [u32],
+    parents: &'a [u32],
+    frontier: &'a [u32],
+    seen: &'a [u32],
+    marks: &'a [u32],
+    runs: usize,
+    entries: usize,
+    tips: usize,
+    marked: usize,
+) -> bool
+    requires { ⌜ runs ≤ maxRuns ⌝ }
+    ensures { λ r. ⌜ r ≡ not (
+        zeros (drop (runs + 1) (now (starts .entry))) &&
+        zeros (drop (runs + 1) (now (heads .entry))) &&
+        zeros (drop entries (now (parents .entry))) &&
+        zeros (drop tips (now (frontier .entry))) &&
+        zeros (drop runs (now (seen .entry))) &&
+        zeros (drop marked (now (marks .entry)))
+        ) ⌝ }
 {
-    let k = crate::marks::marks_of(&g.starts, &g.seen_prefix_len, g.run_count);
-    !lists::is_same(&g.critical_versions, g.mark_count, &k.items, k.count)
-}
-
-fn bad_padding(g: CausalGraph) -> bool
-    requires { ⌜ g .«run_count» ≤ 512 ⌝ }
-    ensures { λ r. ⌜ r ≡ badPadding g ⌝ }
-{
-    if !lists::is_zero_from(&g.starts, g.run_count + 1) {
+    if !lists::is_zero_from(starts, runs + 1) {
         return true;
     }
-    if !lists::is_zero_from(&g.parent_starts, g.run_count + 1) {
+    if !lists::is_zero_from(heads, runs + 1) {
         return true;
     }
-    if !lists::is_zero_from(&g.parents, g.entry_count) {
+    if !lists::is_zero_from(parents, entries) {
         return true;
     }
-    if !lists::is_zero_from(&g.frontier, g.frontier_count) {
+    if !lists::is_zero_from(frontier, tips) {
         return true;
     }
-    if !lists::is_zero_from(&g.seen_prefix_len, g.run_count) {
+    if !lists::is_zero_from(seen, runs) {
         return true;
     }
-    !lists::is_zero_from(&g.critical_versions, g.mark_count)
+    !lists::is_zero_from(marks, marked)
 }
 
 // Whether a graph is broken.
 pub fn is_broken(g: CausalGraph) -> bool
     ensures { λ r. ⌜ r ≡ Broken·broken g ⌝ }
 {
-    if over_limit(g) {
+    if over_limit(g.run_count, g.entry_count, g.frontier_count, g.mark_count) {
         return true;
     }
-    if bad_starts(g) {
+    let runs = g.run_count;
+    let first = g.starts[0];
+    let len = g.starts[runs];
+    if !lists::is_rising(&g.starts, runs + 1) {
         return true;
     }
-    if bad_groups(g) {
+    if bad_groups(&g.parent_starts, runs, g.entry_count) {
         return true;
     }
-    if bad_parents(g) {
+    if !lists::groups_fit(&g.parent_starts, runs, &g.parents, g.entry_count) {
         return true;
     }
-    if bad_frontier(g) {
+    if bad_frontier(&g.frontier, g.frontier_count, runs, EventIndex(len)) {
         return true;
     }
-    if bad_seen(g) {
+    if !lists::is_between(first, &g.starts, &g.seen_prefix_len, runs) {
         return true;
     }
-    if bad_marks(g) {
+    if bad_marks(
+        &g.starts,
+        &g.seen_prefix_len,
+        runs,
+        &g.critical_versions,
+        g.mark_count,
+    ) {
         return true;
     }
     let changed = g.changed_from;
-    if g.run_count < changed.0 as usize {
+    if runs < changed.0 as usize {
         return true;
     }
-    bad_padding(g)
+    bad_padding(
+        &g.starts,
+        &g.parent_starts,
+        &g.parents,
+        &g.frontier,
+        &g.seen_prefix_len,
+        &g.critical_versions,
+        runs,
+        g.entry_count,
+        g.frontier_count,
+        g.mark_count,
+    )
 }

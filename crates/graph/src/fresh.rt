@@ -3,40 +3,48 @@ ghost use mathlib.Core.Path.{_≡_};
 ghost use mathlib.Core.List.{[]};
 ghost use Prim.Native.Nat.{_≤_};
 ghost use lib.ListN.{length};
+ghost use Rattle.lists.specs.Scans.{maxKept};
 ghost use Rattle.lists.specs.Areas.{pad};
+ghost use Rattle.model.specs.Limits.{maxEntries, maxFrontier, maxRuns, maxStarts};
 ghost use Rattle.model.specs.Record.{store};
 ghost use Rattle.model.specs.Fresh.{fresh as Fresh·fresh, newOf, afterOf};
+use lists::MAX_KEPT;
 use model::CausalGraph;
 use model::EventIndex;
 use model::EventRunIndex;
+use model::MAX_ENTRIES;
+use model::MAX_FRONTIER;
+use model::MAX_RUNS;
+use model::MAX_STARTS;
 use model::Made;
 use model::Outcome;
 use model::Refusal;
 
-fn zeros_513() -> [u32; 513]
-    ensures { λ r. ⌜ r ≡ pad 513 [] ⌝ }
+// Arrays of zeros.
+fn no_starts() -> [u32; MAX_STARTS]
+    ensures { λ r. ⌜ r ≡ pad maxStarts [] ⌝ }
 {
-    [0; 513]
+    [0; MAX_STARTS]
 }
 
-fn zeros_2048() -> [u32; 2048]
-    ensures { λ r. ⌜ r ≡ pad 2048 [] ⌝ }
+fn no_entries() -> [u32; MAX_ENTRIES]
+    ensures { λ r. ⌜ r ≡ pad maxEntries [] ⌝ }
 {
-    [0; 2048]
+    [0; MAX_ENTRIES]
 }
 
-fn zeros_512() -> [u32; 512]
-    ensures { λ r. ⌜ r ≡ pad 512 [] ⌝ }
+fn no_runs() -> [u32; MAX_RUNS]
+    ensures { λ r. ⌜ r ≡ pad maxRuns [] ⌝ }
 {
-    [0; 512]
+    [0; MAX_RUNS]
 }
 
 // The list, and zeros after it.
-pub(crate) fn padded_512(s: &[u32]) -> [u32; 512]
-    requires { ⌜ length (now s) ≤ 512 ⌝ }
-    ensures { λ r. ⌜ r ≡ pad 512 (now (s .entry)) ⌝ }
+pub(crate) fn padded(s: &[u32]) -> [u32; MAX_KEPT]
+    requires { ⌜ length (now s) ≤ maxKept ⌝ }
+    ensures { λ r. ⌜ r ≡ pad maxKept (now (s .entry)) ⌝ }
 {
-    let mut a = zeros_512();
+    let mut a = no_runs();
     let mut i = 0;
     while i < s.len() {
         a[i] = s[i];
@@ -47,19 +55,19 @@ pub(crate) fn padded_512(s: &[u32]) -> [u32; 512]
 
 // A graph with no runs after the first `events` events.
 fn fresh_held(events: EventIndex, frontier: &[u32]) -> CausalGraph
-    requires { ⌜ length (now frontier) ≤ 512 ⌝ }
+    requires { ⌜ length (now frontier) ≤ maxFrontier ⌝ }
     ensures { λ r. ⌜ r ≡ store (Fresh·fresh (events .0) (now (frontier .entry))) ⌝ }
 {
-    let mut starts = zeros_513();
+    let mut starts = no_starts();
     starts[0] = events.0;
     let from = EventRunIndex(0);
     CausalGraph {
         starts: starts,
-        parent_starts: zeros_513(),
-        parents: zeros_2048(),
-        frontier: padded_512(frontier),
-        seen_prefix_len: zeros_512(),
-        critical_versions: zeros_512(),
+        parent_starts: no_starts(),
+        parents: no_entries(),
+        frontier: padded(frontier),
+        seen_prefix_len: no_runs(),
+        critical_versions: no_runs(),
         run_count: 0,
         entry_count: 0,
         frontier_count: frontier.len(),
@@ -91,7 +99,7 @@ pub fn after(events: EventIndex, frontier: &[u32]) -> Made
             outcome: Outcome::Refused(Refusal::UnknownEvent),
         };
     }
-    if 512 < frontier.len() {
+    if MAX_FRONTIER < frontier.len() {
         return Made {
             graph: new(),
             outcome: Outcome::Refused(Refusal::FrontierTooLong),

@@ -21,6 +21,8 @@ use model::EventIndex;
 use model::EventRunIndex;
 use model::EventsAnswer;
 use model::FrontierEvents;
+use model::MAX_FRONTIER;
+use model::MAX_RUNS;
 use model::Outcome;
 use model::ParentRuns;
 use model::Refusal;
@@ -60,7 +62,7 @@ fn no_parents(refusal: Refusal) -> ParentRuns
     ensures { λ r. ⌜ r ≡ parentRunsOr (Outcome·Refused refusal) [] ⌝ }
 {
     ParentRuns {
-        runs: [0; 512],
+        runs: [0; MAX_RUNS],
         count: 0,
         outcome: Outcome::Refused(refusal),
     }
@@ -81,7 +83,7 @@ pub fn parents(g: CausalGraph, run: EventRunIndex) -> ParentRuns
     let from = g.parent_starts[n] as usize;
     let to = g.parent_starts[next] as usize;
     let entries = g.parents;
-    let runs = crate::fresh::padded_512(&entries[from..to]);
+    let runs = crate::fresh::padded(&entries[from..to]);
     ParentRuns {
         runs: runs,
         count: to - from,
@@ -134,7 +136,7 @@ fn no_frontier(refusal: Refusal) -> FrontierEvents
     ensures { λ r. ⌜ r ≡ frontierOr (Outcome·Refused refusal) [] ⌝ }
 {
     FrontierEvents {
-        events: [0; 512],
+        events: [0; MAX_FRONTIER],
         count: 0,
         outcome: Outcome::Refused(refusal),
     }

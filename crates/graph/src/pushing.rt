@@ -1,29 +1,33 @@
 // Events pushed onto the graph.
 ghost use mathlib.Core.Path.{_≡_};
-ghost use mathlib.Core.Bool.{Bool, true, false, cond};
-ghost use mathlib.Core.List.{List, [], _∷_};
-ghost use Prim.Native.Nat.{ℕ, _+_, _-_, _<_, _≤_, _^_, min, max};
+ghost use mathlib.Core.Bool.{true, false, cond, _&&_};
+ghost use mathlib.Core.List.{[], _∷_};
+ghost use Prim.Native.Nat.{_+_, _-_, _<_, _≤_, _^_, min};
 ghost use lib.ListN.{length, getD, take};
 ghost use lib.Dec.{ltb, leb, eqb};
-ghost use Rattle.lists.specs.Lists.{rising, below, same, concat};
-ghost use Rattle.model.specs.Graph.{len, firstHeld, held, marks as Graph·marks, extends};
+ghost use Rattle.lists.specs.Lists.{filter, rising, below, same};
+ghost use Rattle.model.specs.Limits.{maxEntries, maxLen, maxRuns};
+ghost use Rattle.model.specs.Graph.{len, marks as Graph·marks, extends};
 ghost use Rattle.model.specs.Record.{view, store};
 ghost use Rattle.model.specs.Broken.{Held};
-ghost use Rattle.model.specs.Push.{grown, seenAfter, joined, lowered, pushHeldOf, pushOf};
-ghost use Rattle.graph.specs.Loops.{addOwn, ownAll, ownIn, Joins, lowerAll, assembled};
+ghost use Rattle.model.specs.Push.{grown, joined, lowered, pushHeldOf, pushOf};
+ghost use Rattle.graph.specs.Loops.{OwnFits, addOwn, ownAll, Joins, lowerAll, assembled};
 use lists::Kept;
 use model::CausalGraph;
 use model::EventIndex;
 use model::EventRunIndex;
 use model::EventsAnswer;
+use model::MAX_ENTRIES;
+use model::MAX_FRONTIER;
+use model::MAX_LEN;
+use model::MAX_RUNS;
 use model::Pushed;
 use model::Refusal;
 
-// The entries with a new run's parents after them, their count, and the largest of the first held event and what the parents' runs
-// have seen.
+// Of a new run's parents so far, in one width: how many entries there are with theirs, and the largest of the first held event and what
+// their runs have seen.
 pub(crate) struct Own {
-    pub(crate) items: [u32; 2048],
-    pub(crate) count: usize,
+    pub(crate) count: u32,
     pub(crate) seen: EventIndex,
 }
 
@@ -37,6 +41,7 @@ fn over(limit: usize, used: usize, more: usize) -> bool
     limit - used < more
 }
 
+// Whether p is the event before `len`, or 0 where that is 0.
 fn is_last(p: EventIndex, len: EventIndex) -> bool
     ensures { λ r. ⌜ r ≡ eqb (p .0) (len .0 - 1) ⌝ }
 {
@@ -46,30 +51,36 @@ fn is_last(p: EventIndex, len: EventIndex) -> bool
     p.0 == len.0 - 1
 }
 
-// Whether the parents are just the last event of a graph with runs.
-pub(crate) fn does_extend(g: CausalGraph, ps: &[u32]) -> bool
-    requires { ⌜ Held g ⌝ }
-    ensures { λ r. ⌜ r ≡ extends (view g) (now (ps .entry)) ⌝ }
+// Whether there are runs and the parents are just the event before the last start.
+fn extends_in(starts: &[u32], runs: usize, ps: &[u32]) -> bool
+    requires { ⌜ runs < length (now starts) ⌝ }
+    ensures { λ r. ⌜ r ≡ (ltb 0 runs && same (now (ps .entry)) ((getD (now (starts .entry)) runs 0 - 1) ∷ [])) ⌝ }
 {
-    let runs = g.run_count;
     if runs == 0 {
         return false;
     }
     if ps.len() != 1 {
         return false;
     }
-    is_last(EventIndex(ps[0]), EventIndex(g.starts[runs]))
+    is_last(EventIndex(ps[0]), EventIndex(starts[runs]))
 }
 
-fn count_held(g: CausalGraph, ps: &[u32]) -> usize
+// Whether the parents are just the last event of a graph with runs.
+pub(crate) fn does_extend(g: CausalGraph, ps: &[u32]) -> bool
     requires { ⌜ Held g ⌝ }
-    ensures { λ r. ⌜ r ≡ length (held (view g) (now (ps .entry))) ⌝ }
+    ensures { λ r. ⌜ r ≡ extends (view g) (now (ps .entry)) ⌝ }
 {
-    let first = g.starts[0];
+    extends_in(&g.starts, g.run_count, ps)
+}
+
+// How many are from event `first` on.
+fn count_held(first: EventIndex, ps: &[u32]) -> usize
+    ensures { λ r. ⌜ r ≡ length (filter (λ e. leb (first .0) e) (now (ps .entry))) ⌝ }
+{
     let mut n = 0;
     let mut i = 0;
     while i < ps.len() {
-        n += crate::splitting::one(first <= ps[i]);
+        n += crate::splitting::one(first.0 <= ps[i]);
         i += 1;
     }
     n
@@ -96,78 +107,88 @@ fn grow_last(g: CausalGraph, n: u32, start: EventIndex) -> CausalGraph
     h
 }
 
-fn seen_after(g: CausalGraph, run: EventRunIndex) -> EventIndex
-    requires { ⌜ Held g ⌝ }
-    requires { ⌜ run .0 < g .«run_count» ⌝ }
-    ensures { λ r. ⌜ r .0 ≡ seenAfter (view g) (run .0) ⌝ }
+// "seen after" a run: its end if it has seen all before it, else what it has seen.
+fn seen_after(seen: EventIndex, start: EventIndex, end: EventIndex) -> EventIndex
+    ensures { λ r. ⌜ r .0 ≡ cond (eqb (seen .0) (start .0)) (end .0) (seen .0) ⌝ }
 {
-    let at = run.0 as usize;
-    let next = at + 1;
-    if g.seen_prefix_len[at] == g.starts[at] {
-        return EventIndex(g.starts[next]);
+    if seen.0 == start.0 {
+        return end;
     }
-    EventIndex(g.seen_prefix_len[at])
+    seen
 }
 
-fn add_own(g: CausalGraph, t: Own, p: EventIndex) -> Own
-    requires { ⌜ Held g ⌝ }
-    requires { ⌜ p .0 < len (view g) ⌝ }
-    requires { ⌜ (firstHeld (view g) ≤ p .0 → t .count < 2048) ⌝ }
-    ensures { λ r. ⌜ r ≡ addOwn (view g) t (p .0) ⌝ }
+// A parent: its run joins the entries if it is held.
+fn add_own<'a>(
+    starts: &'a [u32],
+    seen: &'a [u32],
+    runs: usize,
+    items: &mut [u32],
+    t: Own,
+    p: EventIndex,
+) -> Own
+    requires { ⌜ OwnFits (now starts) (now seen) runs (now items) ⌝ }
+    requires { ⌜ (getD (now starts) 0 0 ≤ p .0 → t .count < maxEntries) ⌝ }
+    ensures { λ r. ⌜ (now (items .exit), r) ≡ addOwn (now (starts .entry)) (now (seen .entry)) runs (now (items .entry), t) (p .0) ⌝ }
 {
-    if p.0 < g.starts[0] {
+    if p.0 < starts[0] {
         return t;
     }
-    let run = lists::last_at_most(&g.starts, g.run_count, p.0) as u32;
-    let after = seen_after(g, EventRunIndex(run));
-    let n = t.count;
+    let run = lists::last_at_most(starts, runs, p.0);
+    let next = run + 1;
+    let after = seen_after(
+        EventIndex(seen[run]),
+        EventIndex(starts[run]),
+        EventIndex(starts[next]),
+    );
     let was = t.seen;
-    let seen = EventIndex(lists::larger(was.0, after.0));
-    let mut h = t;
-    h.items[n] = run;
-    h.count = n + 1;
-    h.seen = seen;
-    h
-}
-
-fn own_start(g: CausalGraph) -> Own
-    requires { ⌜ Held g ⌝ }
-    ensures { λ r. ⌜ r ≡ ownIn (concat (view g .parents)) (firstHeld (view g)) ⌝ }
-{
-    let items = g.parents;
-    let seen = EventIndex(g.starts[0]);
+    let n = t.count as usize;
+    items[n] = run as u32;
     Own {
-        items: items,
-        count: g.entry_count,
-        seen: seen,
+        count: t.count + 1,
+        seen: EventIndex(lists::larger(was.0, after.0)),
     }
 }
 
-fn own_all(g: CausalGraph, t: Own, ps: &[u32]) -> Own
-    requires { ⌜ Held g ⌝ }
-    requires { ⌜ below (len (view g)) (now ps) ≡ true ⌝ }
-    requires { ⌜ t .count + length (held (view g) (now ps)) ≤ 2048 ⌝ }
-    ensures { λ r. ⌜ r ≡ ownAll (view g) t (now (ps .entry)) ⌝ }
+// The same for all parents.
+fn own_all<'a>(
+    starts: &'a [u32],
+    seen: &'a [u32],
+    runs: usize,
+    items: &mut [u32],
+    t: Own,
+    ps: &[u32],
+) -> Own
+    requires { ⌜ OwnFits (now starts) (now seen) runs (now items) ⌝ }
+    requires { ⌜ t .count + length (filter (λ e. leb (getD (now starts) 0 0) e) (now ps)) ≤ maxEntries ⌝ }
+    ensures { λ r. ⌜ (now (items .exit), r) ≡ ownAll (now (starts .entry)) (now (seen .entry)) runs (now (items .entry), t) (now (ps .entry)) ⌝ }
 {
     let mut h = t;
     let mut i = 0;
     while i < ps.len() {
-        h = add_own(g, h, EventIndex(ps[i]));
+        h = add_own(starts, seen, runs, items, h, EventIndex(ps[i]));
         i += 1;
     }
     h
 }
 
-fn pick_seen(g: CausalGraph, ps: &[u32], start: EventIndex, other: EventIndex) -> EventIndex
-    requires { ⌜ Held g ⌝ }
-    ensures { λ r. ⌜ r .0 ≡ cond (same (now (ps .entry)) (view g .frontier)) (start .0) (other .0) ⌝ }
+// What a new run has seen: all where its parents are the frontier.
+fn pick_seen(
+    frontier: &[u32],
+    tips: usize,
+    ps: &[u32],
+    start: EventIndex,
+    other: EventIndex,
+) -> EventIndex
+    requires { ⌜ tips ≤ length (now frontier) ⌝ }
+    ensures { λ r. ⌜ r .0 ≡ cond (same (now (ps .entry)) (take tips (now (frontier .entry)))) (start .0) (other .0) ⌝ }
 {
-    if lists::is_same(ps, ps.len(), &g.frontier, g.frontier_count) {
+    if lists::is_same(ps, ps.len(), frontier, tips) {
         return start;
     }
     other
 }
 
+// The lower run where a mark is lost.
 fn lower(from: EventRunIndex, lost: bool, run: EventRunIndex) -> EventRunIndex
     ensures { λ r. ⌜ r .0 ≡ cond lost (min (from .0) (run .0)) (from .0) ⌝ }
 {
@@ -193,31 +214,32 @@ fn lower_all(g: CausalGraph, seen: EventIndex, from: EventRunIndex) -> EventRunI
     c
 }
 
+// The record with the new run after the others.
 fn assemble(
     g: CausalGraph,
     end: EventIndex,
+    items: [u32; MAX_ENTRIES],
     t: Own,
     tips: Kept,
     s: EventIndex,
     changed: EventRunIndex,
 ) -> CausalGraph
     requires { ⌜ Held g ⌝ }
-    requires { ⌜ g .«run_count» < 512 ⌝ }
-    requires { ⌜ t .count ≤ 2048 ⌝ }
-    ensures { λ r. ⌜ r ≡ assembled g (end .0) t tips (s .0) (changed .0) ⌝ }
+    requires { ⌜ g .«run_count» < maxRuns ⌝ }
+    requires { ⌜ t .count ≤ maxEntries ⌝ }
+    ensures { λ r. ⌜ r ≡ assembled g (end .0) (items, t) tips (s .0) (changed .0) ⌝ }
 {
     let runs = g.run_count;
     let next = runs + 1;
-    let items = t.items;
     let frontier = tips.items;
     let mut h = g;
     h.starts[next] = end.0;
-    h.parent_starts[next] = t.count as u32;
+    h.parent_starts[next] = t.count;
     h.seen_prefix_len[runs] = s.0;
     h.parents = items;
     h.frontier = frontier;
     h.run_count = next;
-    h.entry_count = t.count;
+    h.entry_count = t.count as usize;
     h.frontier_count = tips.count;
     h.changed_from = changed;
     let marks = crate::marks::marks_of(&h.starts, &h.seen_prefix_len, next);
@@ -236,15 +258,27 @@ fn join(g: CausalGraph, ps: &[u32], n: u32, start: EventIndex) -> CausalGraph
     ensures { λ r. ⌜ r ≡ store (lowered (view g) (joined (view g) (now (ps .entry)) n)) ⌝ }
 {
     let end = start.0 + n;
-    let t = own_all(g, own_start(g), ps);
+    let mut items = g.parents;
+    let first = Own {
+        count: g.entry_count as u32,
+        seen: EventIndex(g.starts[0]),
+    };
+    let t = own_all(
+        &g.starts,
+        &g.seen_prefix_len,
+        g.run_count,
+        &mut items,
+        first,
+        ps,
+    );
     let left = lists::keep_all(&g.frontier, g.frontier_count, ps);
     let tips = lists::add(left, end - 1);
     let seen = t.seen;
-    let s = pick_seen(g, ps, start, seen);
+    let s = pick_seen(&g.frontier, g.frontier_count, ps, start, seen);
     let was = g.changed_from;
     let low = EventRunIndex(lists::smaller(g.run_count as u32, was.0));
     let changed = lower_all(g, s, low);
-    assemble(g, EventIndex(end), t, tips, s, changed)
+    assemble(g, EventIndex(end), items, t, tips, s, changed)
 }
 
 // A push whose parents are known events, rising, and whose events fit: growth, or refusals 6, 7, 8, or a new run.
@@ -258,29 +292,29 @@ fn push_known(g: CausalGraph, ps: &[u32], n: u32, start: EventIndex) -> Pushed
     ensures { λ r. ⌜ r ≡ pushHeldOf g (now (ps .entry)) n ⌝ }
 {
     let end = start.0 + n;
-    if does_extend(g, ps) {
+    if extends_in(&g.starts, g.run_count, ps) {
         let grown = grow_last(g, n, start);
         return Pushed {
             graph: grown,
             answer: EventsAnswer::Events(start, EventIndex(end)),
         };
     }
-    let splits = crate::splitting::count_splits(g, ps);
-    if over(512, g.run_count + 1, splits) {
+    let splits = crate::splitting::count_splits(&g.starts, g.run_count, ps);
+    if over(MAX_RUNS, g.run_count + 1, splits) {
         return Pushed {
             graph: g,
             answer: EventsAnswer::Refused(Refusal::TooManyRuns),
         };
     }
-    let held = count_held(g, ps);
-    if over(2048, g.entry_count + splits, held) {
+    let held = count_held(EventIndex(g.starts[0]), ps);
+    if over(MAX_ENTRIES, g.entry_count + splits, held) {
         return Pushed {
             graph: g,
             answer: EventsAnswer::Refused(Refusal::TooManyEntries),
         };
     }
     let left = lists::keep_all(&g.frontier, g.frontier_count, ps);
-    if 512 < left.count + 1 {
+    if MAX_FRONTIER < left.count + 1 {
         return Pushed {
             graph: g,
             answer: EventsAnswer::Refused(Refusal::FrontierTooLong),
@@ -296,9 +330,9 @@ fn push_known(g: CausalGraph, ps: &[u32], n: u32, start: EventIndex) -> Pushed
 
 // Whether `len` events from `start` on pass the last event number.
 fn is_too_far(start: EventIndex, len: u32) -> bool
-    ensures { λ r. ⌜ r ≡ ltb 4294967295 (start .0 + len) ⌝ }
+    ensures { λ r. ⌜ r ≡ ltb maxLen (start .0 + len) ⌝ }
 {
-    4294967295 - start.0 < len
+    MAX_LEN - start.0 < len
 }
 
 // `push` on a graph that is known not to be broken, for a caller that made it.

@@ -1,104 +1,208 @@
 // A run split in two, and each held parent's run split after it.
 ghost use mathlib.Core.Path.{_≡_};
-ghost use mathlib.Core.Bool.{cond, not, _&&_};
-ghost use mathlib.Core.List.{List, [], _∷_};
-ghost use lib.Dec.{leb, eqb};
+ghost use mathlib.Core.Bool.{cond};
+ghost use lib.Dec.{eqb};
 ghost use lib.ListN.{length, getD};
-ghost use Prim.Native.Nat.{ℕ, suc, _+_, _<_, _≤_, _^_};
-ghost use Rattle.model.specs.Graph.{firstHeld, held};
+ghost use Prim.Native.Nat.{ℕ, _+_, _<_, _≤_, _^_, min};
+ghost use Rattle.lists.specs.Lists.{count};
+ghost use Rattle.model.specs.Limits.{maxEntries, maxRuns, maxStarts};
+ghost use Rattle.model.specs.Graph.{held};
 ghost use Rattle.model.specs.Record.{view, store};
 ghost use Rattle.model.specs.Broken.{Held};
-ghost use Rattle.model.specs.Split.{split, ends, splitAfter, splits};
-ghost use Rattle.graph.specs.Loops.{Room};
+ghost use Rattle.model.specs.Split.{split, splitAfter};
+ghost use Rattle.graph.specs.Loops.{Room, parts, SplitFits, splitIn, AfterFits, afterIn, needsIn, withParts};
 use model::CausalGraph;
 use model::EventIndex;
 use model::EventRunIndex;
+use model::MAX_ENTRIES;
+use model::MAX_RUNS;
+use model::MAX_STARTS;
 
+// What a split run's second part has seen: all before it, if the first had.
 fn seen_from(s: EventIndex, start: EventIndex, at: EventIndex) -> EventIndex
     ensures { λ r. ⌜ r .0 ≡ cond (eqb (s .0) (start .0)) (at .0) (s .0) ⌝ }
 {
     if s.0 == start.0 { at } else { s }
 }
 
-// Splits a run so that a new one starts at `at`.
-pub(crate) fn split_run(g: CausalGraph, run: EventRunIndex, at: EventIndex) -> CausalGraph
-    requires { ⌜ Held g ⌝ }
-    requires { ⌜ run .0 < g .«run_count» ⌝ }
-    requires { ⌜ g .«run_count» < 512 ⌝ }
-    requires { ⌜ g .«entry_count» < 2048 ⌝ }
-    ensures { λ r. ⌜ r ≡ store (split (view g) (run .0) (at .0)) ⌝ }
+// What splits change of a record beside its arrays, in one width: the counts of runs and entries, and the first run that may have changed.
+pub(crate) struct Counts {
+    pub(crate) runs: usize,
+    pub(crate) entries: usize,
+    pub(crate) changed: usize,
+}
+
+// The lower number.
+fn least(a: usize, b: usize) -> usize
+    ensures { λ r. ⌜ r ≡ min a b ⌝ }
 {
+    if a <= b { a } else { b }
+}
+
+// Splits a run so that a new one starts at `at`: a place is taken up in each array.
+fn split_in(
+    starts: &mut [u32],
+    heads: &mut [u32],
+    parents: &mut [u32],
+    seen: &mut [u32],
+    c: Counts,
+    run: EventRunIndex,
+    at: EventIndex,
+) -> Counts
+    requires { ⌜ SplitFits (parts (now starts) (now heads) (now parents) (now seen) c) (run .0) ⌝ }
+    ensures { λ r. ⌜ parts (now (starts .exit)) (now (heads .exit)) (now (parents .exit)) (now (seen .exit)) r ≡
+        splitIn (parts (now (starts .entry)) (now (heads .entry)) (now (parents .entry)) (now (seen .entry)) c) (run .0) (at .0) ⌝ }
+{
+    let runs = c.runs;
+    let entries = c.entries;
     let place = run.0 as usize;
     let next = place + 1;
-    let later = g.parent_starts[next];
-    let second = seen_from(
-        EventIndex(g.seen_prefix_len[place]),
-        EventIndex(g.starts[place]),
-        at,
-    );
-    let starts = g.starts;
-    let heads = g.parent_starts;
-    let parents = g.parents;
-    let seen = g.seen_prefix_len;
-    let new_starts = lists::put_in_513(starts, g.run_count + 1, next, at.0, 0, 0);
-    let new_heads = lists::put_in_513(heads, g.run_count + 1, next, later, 0, 1);
-    let new_parents = lists::put_in_2048(parents, g.entry_count, later as usize, run.0, run.0, 1);
-    let new_seen = lists::put_in_512(seen, g.run_count, next, second.0, 0, 0);
-    let marks = crate::marks::marks_of(&new_starts, &new_seen, g.run_count + 1);
+    let later = heads[next];
+    let second = seen_from(EventIndex(seen[place]), EventIndex(starts[place]), at);
+    lists::insert_and_grow(starts, runs + 1, next, at.0, 0, 0);
+    lists::insert_and_grow(heads, runs + 1, next, later, 0, 1);
+    lists::insert_and_grow(parents, entries, later as usize, run.0, run.0, 1);
+    lists::insert_and_grow(seen, runs, next, second.0, 0, 0);
+    Counts {
+        runs: runs + 1,
+        entries: entries + 1,
+        changed: least(place, c.changed),
+    }
+}
+
+// The record with other arrays and counts, and their marks.
+fn with_parts(
+    g: CausalGraph,
+    starts: [u32; MAX_STARTS],
+    heads: [u32; MAX_STARTS],
+    parents: [u32; MAX_ENTRIES],
+    seen: [u32; MAX_RUNS],
+    c: Counts,
+) -> CausalGraph
+    requires { ⌜ c .runs ≤ maxRuns ⌝ }
+    requires { ⌜ c .changed < 2 ^ 32 ⌝ }
+    ensures { λ r. ⌜ r ≡ withParts g (parts starts heads parents seen c) ⌝ }
+{
+    let marks = crate::marks::marks_of(&starts, &seen, c.runs);
     let items = marks.items;
-    let was = g.changed_from;
-    let changed = EventRunIndex(lists::smaller(run.0, was.0));
+    let changed = EventRunIndex(c.changed as u32);
     let mut h = g;
-    h.starts = new_starts;
-    h.parent_starts = new_heads;
-    h.parents = new_parents;
-    h.seen_prefix_len = new_seen;
+    h.starts = starts;
+    h.parent_starts = heads;
+    h.parents = parents;
+    h.seen_prefix_len = seen;
     h.critical_versions = items;
-    h.run_count = g.run_count + 1;
-    h.entry_count = g.entry_count + 1;
+    h.run_count = c.runs;
+    h.entry_count = c.entries;
     h.mark_count = marks.count;
     h.changed_from = changed;
     h
 }
 
-// Whether a parent is held and no run, nor the graph, ends in it.
-fn needs_split(g: CausalGraph, p: EventIndex) -> bool
+// Splits a run so that a new one starts at `at`.
+pub(crate) fn split_run(g: CausalGraph, run: EventRunIndex, at: EventIndex) -> CausalGraph
     requires { ⌜ Held g ⌝ }
-    requires { ⌜ p .0 + 1 < 2 ^ 32 ⌝ }
-    ensures { λ r. ⌜ r ≡ leb (firstHeld (view g)) (p .0) && not (ends (view g) (p .0)) ⌝ }
+    requires { ⌜ run .0 < g .«run_count» ⌝ }
+    requires { ⌜ g .«run_count» < maxRuns ⌝ }
+    requires { ⌜ g .«entry_count» < maxEntries ⌝ }
+    ensures { λ r. ⌜ r ≡ store (split (view g) (run .0) (at .0)) ⌝ }
 {
-    if p.0 < g.starts[0] {
-        return false;
-    }
-    !lists::is_among(&g.starts, g.run_count + 1, p.0 + 1)
+    let mut starts = g.starts;
+    let mut heads = g.parent_starts;
+    let mut parents = g.parents;
+    let mut seen = g.seen_prefix_len;
+    let was = g.changed_from;
+    let c = Counts {
+        runs: g.run_count,
+        entries: g.entry_count,
+        changed: was.0 as usize,
+    };
+    let d = split_in(&mut starts, &mut heads, &mut parents, &mut seen, c, run, at);
+    with_parts(g, starts, heads, parents, seen, d)
 }
 
-fn split_after(g: CausalGraph, p: EventIndex) -> CausalGraph
-    requires { ⌜ Held g ⌝ }
+// Splits the run of a held parent after it, unless a run or the graph ends there.
+fn split_after(
+    starts: &mut [u32],
+    heads: &mut [u32],
+    parents: &mut [u32],
+    seen: &mut [u32],
+    c: Counts,
+    p: EventIndex,
+) -> Counts
     requires { ⌜ p .0 + 1 < 2 ^ 32 ⌝ }
-    requires { ⌜ Room (view g) (p .0 ∷ []) ⌝ }
-    ensures { λ r. ⌜ r ≡ store (splitAfter (view g) (held (view g) (p .0 ∷ []))) ⌝ }
+    requires { ⌜ AfterFits (parts (now starts) (now heads) (now parents) (now seen) c) (p .0) ⌝ }
+    ensures { λ r. ⌜ parts (now (starts .exit)) (now (heads .exit)) (now (parents .exit)) (now (seen .exit)) r ≡
+        afterIn (parts (now (starts .entry)) (now (heads .entry)) (now (parents .entry)) (now (seen .entry)) c) (p .0) ⌝ }
 {
-    if !needs_split(g, p) {
-        return g;
+    let runs = c.runs;
+    if p.0 < starts[0] {
+        return c;
     }
-    let run = lists::last_at_most(&g.starts, g.run_count, p.0);
-    split_run(g, EventRunIndex(run as u32), EventIndex(p.0 + 1))
+    let run = lists::last_at_most(starts, runs, p.0);
+    let next = run + 1;
+    if starts[next] == p.0 + 1 {
+        return c;
+    }
+    split_in(
+        starts,
+        heads,
+        parents,
+        seen,
+        c,
+        EventRunIndex(run as u32),
+        EventIndex(p.0 + 1),
+    )
 }
 
+// Splits the runs of held parents after them, one parent after another.
 pub(crate) fn split_all(g: CausalGraph, ps: &[u32]) -> CausalGraph
     requires { ⌜ Held g ⌝ }
     requires { ⌜ ((k : ℕ) → k < length (now ps) → getD (now ps) k 0 + 1 < 2 ^ 32) ⌝ }
     requires { ⌜ Room (view g) (now ps) ⌝ }
     ensures { λ r. ⌜ r ≡ store (splitAfter (view g) (held (view g) (now (ps .entry)))) ⌝ }
 {
-    let mut h = g;
+    if count_splits(&g.starts, g.run_count, ps) == 0 {
+        return g;
+    }
+    let mut starts = g.starts;
+    let mut heads = g.parent_starts;
+    let mut parents = g.parents;
+    let mut seen = g.seen_prefix_len;
+    let was = g.changed_from;
+    let mut c = Counts {
+        runs: g.run_count,
+        entries: g.entry_count,
+        changed: was.0 as usize,
+    };
     let mut i = 0;
     while i < ps.len() {
-        h = split_after(h, EventIndex(ps[i]));
+        c = split_after(
+            &mut starts,
+            &mut heads,
+            &mut parents,
+            &mut seen,
+            c,
+            EventIndex(ps[i]),
+        );
         i += 1;
     }
-    h
+    with_parts(g, starts, heads, parents, seen, c)
+}
+
+// Whether a parent is held and no run, nor the graph, ends in it.
+fn needs_split(starts: &[u32], runs: usize, p: EventIndex) -> bool
+    requires { ⌜ runs ≤ maxRuns ⌝ }
+    requires { ⌜ length (now starts) ≡ maxStarts ⌝ }
+    requires { ⌜ p .0 + 1 < 2 ^ 32 ⌝ }
+    ensures { λ r. ⌜ r ≡ needsIn (now (starts .entry)) runs (p .0) ⌝ }
+{
+    if p.0 < starts[0] {
+        return false;
+    }
+    let run = lists::last_at_most(starts, runs, p.0);
+    let next = run + 1;
+    starts[next] != p.0 + 1
 }
 
 // 1 if a test passes.
@@ -111,15 +215,17 @@ pub(crate) fn one(b: bool) -> usize
     0
 }
 
-pub(crate) fn count_splits(g: CausalGraph, ps: &[u32]) -> usize
-    requires { ⌜ Held g ⌝ }
+// How many parents need a split.
+pub(crate) fn count_splits(starts: &[u32], runs: usize, ps: &[u32]) -> usize
+    requires { ⌜ runs ≤ maxRuns ⌝ }
+    requires { ⌜ length (now starts) ≡ maxStarts ⌝ }
     requires { ⌜ ((k : ℕ) → k < length (now ps) → getD (now ps) k 0 + 1 < 2 ^ 32) ⌝ }
-    ensures { λ r. ⌜ r ≡ splits (view g) (now (ps .entry)) ⌝ }
+    ensures { λ r. ⌜ r ≡ count (λ p. needsIn (now (starts .entry)) runs p) (now (ps .entry)) ⌝ }
 {
     let mut n = 0;
     let mut i = 0;
     while i < ps.len() {
-        n += one(needs_split(g, EventIndex(ps[i])));
+        n += one(needs_split(starts, runs, EventIndex(ps[i])));
         i += 1;
     }
     n

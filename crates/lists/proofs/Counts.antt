@@ -6,7 +6,9 @@ use mathlib.Core.List.{List, [], _∷_, _++_}
 use Prim.Native.Nat.{ℕ, zero, suc, _+_, _≤_, _<_}
 use native.Mathlib.Omega.{arith}
 use native.Mathlib.Nat.{zero-add}
-use lib.ListN.{length}
+use native.Mathlib.Numerals.{add-one}
+use lib.ListN.{length, drop, getD, drop-of-length-le}
+use lib.Seq.{drop-cons}
 use lib.Dec.{ltb, eqb}
 use borrow.Author.Tests.{ltb-true, eqb-true, lt-ltb, le-ltb, eq-eqb, ne-eqb}
 use Rattle.lists.specs.Lists.{bit, filter, count, sum, from, upto, mem, occurs}
@@ -124,6 +126,15 @@ count-without p r (x ∷ xs) q = go (eq-or-not x r) (count-without p r xs q)
         opens : (t : Bool) → bit (t && true) + count (λ x. p x && not (eqb x r)) xs + (0 + count (λ m. eqb m r) xs) ≡ bit t + count p xs
         opens true = omega arith
         opens false = omega arith
+
+-- A count from a place on: the next, and the end
+pub count-next : (p : ℕ → Bool) (xs : List ℕ) (i : ℕ) → i < length xs → bit (p (getD xs i 0)) + count p (drop (i + 1) xs) ≡ count p (drop i xs)
+unfolding count
+count-next p xs i h = rw (add-one i, drop-cons xs i 0 h)
+
+pub count-end : (p : ℕ → Bool) (xs : List ℕ) (i : ℕ) → length xs ≤ i → count p (drop i xs) ≡ 0
+unfolding count
+count-end p xs i h = rw (drop-of-length-le xs h)
 
 -- None passes
 pub count-none : (p : ℕ → Bool) (xs : List ℕ) → ((x : ℕ) → p x ≡ false) → count p xs ≡ 0

@@ -36,11 +36,15 @@ between f xs [] = true
 between f [] (s ∷ ss) = false
 between f (x ∷ xs) (s ∷ ss) = leb f s && leb s x && between f xs ss
 
--- a list in an area of 512 places
-unfoldable pub keptIn : List ℕ → Kept
-keptIn l = record { items = pad 512 l; count = length l }
+-- how many numbers a list by value has room for
+abbrev pub maxKept : ℕ
+maxKept = 512
 
--- a list of 512 places and how many are used
+-- a list in an area of that many places
+unfoldable pub keptIn : List ℕ → Kept
+keptIn l = record { items = pad maxKept l; count = length l }
+
+-- a list of that many places and how many are used
 abbrev pub kept : List ℕ → ℕ → Kept
 kept items n = record { items = items; count = n }
 

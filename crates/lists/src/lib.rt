@@ -1,40 +1,50 @@
 // Scans, insertions and filters over lists of numbers. What they find and leave is in specs/. It knows nothing of graphs.
 ghost use mathlib.Core.Path.{_≡_};
-ghost use mathlib.Core.Bool.{Bool, true, false, not, _&&_};
+ghost use mathlib.Core.Bool.{true, false, not, _&&_};
 ghost use mathlib.Core.List.{[]};
-ghost use Prim.Native.Nat.{ℕ, suc, _+_, _<_, _≤_, _^_, min, max};
+ghost use Prim.Native.Nat.{ℕ, _+_, _<_, _≤_, _^_, min, max};
 ghost use lib.ListN.{getD, length, take, drop};
+ghost use lib.Dec.{eqb};
 ghost use Rattle.lists.specs.Lists.{rising, below, mem, same, filter};
 ghost use Rattle.lists.specs.Areas.{zeros, climbs, groups, part};
-ghost use Rattle.lists.specs.Scans.{lastAtMost, grow, insertIn, groupsFit, between, keptIn, kept, addIn, addIf};
+ghost use Rattle.lists.specs.Scans.{maxKept, lastAtMost, grow, insertIn, groupsFit, between, keptIn, kept, addIn, addIf};
+
+// A scan's tests so far, 0 where all passed, and one test more. A scan over them has no way out inside, so that it runs many places at
+// a time.
+fn failed(bad: u32, passes: bool) -> u32
+    ensures { λ r. ⌜ eqb r 0 ≡ eqb bad 0 && passes ⌝ }
+{
+    if passes {
+        return bad;
+    }
+    1
+}
 
 // Whether the first n are strictly rising.
 pub fn is_rising(s: &[u32], n: usize) -> bool
     requires { ⌜ n ≤ length (now s) ⌝ }
     ensures { λ r. ⌜ r ≡ rising (take n (now (s .entry))) ⌝ }
 {
+    let mut bad = 0;
     let mut i = 1;
     while i < n {
-        if s[i] <= s[i - 1] {
-            return false;
-        }
+        bad = failed(bad, s[i - 1] < s[i]);
         i += 1;
     }
-    true
+    bad == 0
 }
 
 // Whether every place from `from` on is 0.
 pub fn is_zero_from(s: &[u32], from: usize) -> bool
     ensures { λ r. ⌜ r ≡ zeros (drop from (now (s .entry))) ⌝ }
 {
+    let mut bad = 0;
     let mut i = from;
     while i < s.len() {
-        if s[i] != 0 {
-            return false;
-        }
+        bad = failed(bad, s[i] == 0);
         i += 1;
     }
-    true
+    bad == 0
 }
 
 // Whether the first n are below `limit`.
@@ -42,14 +52,13 @@ pub fn all_below(s: &[u32], n: usize, limit: u32) -> bool
     requires { ⌜ n ≤ length (now s) ⌝ }
     ensures { λ r. ⌜ r ≡ below limit (take n (now (s .entry))) ⌝ }
 {
+    let mut bad = 0;
     let mut i = 0;
     while i < n {
-        if s[i] >= limit {
-            return false;
-        }
+        bad = failed(bad, s[i] < limit);
         i += 1;
     }
-    true
+    bad == 0
 }
 
 // Whether x is among the first n.
@@ -107,12 +116,14 @@ pub fn is_climb(s: &[u32], n: usize, last: usize) -> bool
     requires { ⌜ n ≤ length (now s) ⌝ }
     ensures { λ r. ⌜ r ≡ climbs last (take n (now (s .entry))) ⌝ }
 {
+    let mut bad = 0;
     let mut i = 1;
     while i < n {
-        if s[i] < s[i - 1] {
-            return false;
-        }
+        bad = failed(bad, s[i - 1] <= s[i]);
         i += 1;
+    }
+    if bad != 0 {
+        return false;
     }
     s[n - 1] as usize == last
 }
@@ -169,6 +180,7 @@ pub fn is_between<'a>(first: u32, highs: &'a [u32], s: &'a [u32], n: usize) -> b
     true
 }
 
+// The lower number, and the higher.
 pub fn smaller(a: u32, b: u32) -> u32
     ensures { λ r. ⌜ r ≡ min a b ⌝ }
 {
@@ -181,24 +193,28 @@ pub fn larger(a: u32, b: u32) -> u32
     if a <= b { b } else { a }
 }
 
-// At most 512 numbers: `count` of them, then zeros.
+// How many numbers a list by value has room for.
+pub const MAX_KEPT: usize = 512;
+
+// At most MAX_KEPT numbers: `count` of them, then zeros.
 pub struct Kept {
-    pub items: [u32; 512],
+    pub items: [u32; MAX_KEPT],
     pub count: usize,
 }
 
+// No numbers.
 pub fn nothing() -> Kept
     ensures { λ r. ⌜ r ≡ keptIn [] ⌝ }
 {
     Kept {
-        items: [0; 512],
+        items: [0; MAX_KEPT],
         count: 0,
     }
 }
 
 // One number more.
 pub fn add(k: Kept, v: u32) -> Kept
-    requires { ⌜ k .count < 512 ⌝ }
+    requires { ⌜ k .count < maxKept ⌝ }
     ensures { λ r. ⌜ r ≡ addIn k v ⌝ }
 {
     let mut h = k;
@@ -208,21 +224,10 @@ pub fn add(k: Kept, v: u32) -> Kept
     h
 }
 
-// The same where a test passes.
-pub fn add_if(b: bool, k: Kept, v: u32) -> Kept
-    requires { ⌜ k .count < 512 ⌝ }
-    ensures { λ r. ⌜ r ≡ addIf b k v ⌝ }
-{
-    if b {
-        return add(k, v);
-    }
-    k
-}
-
-// The same into a lent list of n numbers; answers their count.
-fn put_if(b: bool, items: &mut [u32], n: usize, v: u32) -> usize
+// Where a test passes, one number more in a lent list of n; answers their count.
+pub fn put_if(b: bool, items: &mut [u32], n: usize, v: u32) -> usize
     requires { ⌜ n < length (now items) ⌝ }
-    requires { ⌜ n < 512 ⌝ }
+    requires { ⌜ n < maxKept ⌝ }
     ensures { λ r. ⌜ kept (now (items .exit)) r ≡ addIf b (kept (now (items .entry)) n) v ⌝ }
 {
     if b {
@@ -235,7 +240,7 @@ fn put_if(b: bool, items: &mut [u32], n: usize, v: u32) -> usize
 // Those of the first n that are not among `ps`.
 pub fn keep_all(a: &[u32], n: usize, ps: &[u32]) -> Kept
     requires { ⌜ n ≤ length (now a) ⌝ }
-    requires { ⌜ n ≤ 512 ⌝ }
+    requires { ⌜ n ≤ maxKept ⌝ }
     ensures { λ r. ⌜ r ≡ keptIn (filter (λ e. not (mem e (now (ps .entry)))) (take n (now (a .entry)))) ⌝ }
 {
     let none = nothing();
@@ -252,6 +257,7 @@ pub fn keep_all(a: &[u32], n: usize, ps: &[u32]) -> Kept
     }
 }
 
+// A number, grown if it is `from` or more.
 fn grown(v: u32, from: u32, by: u32) -> u32
     requires { ⌜ (0 < by → v + by < 2 ^ 32) ⌝ }
     ensures { λ r. ⌜ r ≡ grow from by v ⌝ }
@@ -273,45 +279,4 @@ pub fn insert_and_grow(a: &mut [u32], n: usize, at: usize, item: u32, from: u32,
         i -= 1;
     }
     a[at] = item;
-}
-
-// The same over an array by value, for each size in use.
-pub fn put_in_2048(
-    a: [u32; 2048],
-    n: usize,
-    at: usize,
-    item: u32,
-    from: u32,
-    by: u32,
-) -> [u32; 2048]
-    requires { ⌜ n < 2048 ⌝ }
-    requires { ⌜ at ≤ n ⌝ }
-    requires { ⌜ (0 < by → (k : ℕ) → k < n → getD a k 0 + by < 2 ^ 32) ⌝ }
-    ensures { λ r. ⌜ r ≡ insertIn n at item (grow from by) a ⌝ }
-{
-    let mut b = a;
-    insert_and_grow(&mut b, n, at, item, from, by);
-    b
-}
-
-pub fn put_in_513(a: [u32; 513], n: usize, at: usize, item: u32, from: u32, by: u32) -> [u32; 513]
-    requires { ⌜ n < 513 ⌝ }
-    requires { ⌜ at ≤ n ⌝ }
-    requires { ⌜ (0 < by → (k : ℕ) → k < n → getD a k 0 + by < 2 ^ 32) ⌝ }
-    ensures { λ r. ⌜ r ≡ insertIn n at item (grow from by) a ⌝ }
-{
-    let mut b = a;
-    insert_and_grow(&mut b, n, at, item, from, by);
-    b
-}
-
-pub fn put_in_512(a: [u32; 512], n: usize, at: usize, item: u32, from: u32, by: u32) -> [u32; 512]
-    requires { ⌜ n < 512 ⌝ }
-    requires { ⌜ at ≤ n ⌝ }
-    requires { ⌜ (0 < by → (k : ℕ) → k < n → getD a k 0 + by < 2 ^ 32) ⌝ }
-    ensures { λ r. ⌜ r ≡ insertIn n at item (grow from by) a ⌝ }
-{
-    let mut b = a;
-    insert_and_grow(&mut b, n, at, item, from, by);
-    b
 }

@@ -1,74 +1,98 @@
--- `lists::is_climb` meets its contract: the loop's invariant is that the items from before `i` on climb exactly if all do. Assumes nothing.
 use borrow.Author.Needs.{needs}
+-- `lists::is_climb` meets its contract: the loop's invariant is that all climb exactly if the tests passed so far and the items from before `i` on do. Assumes nothing.
 use mathlib.Core.Path.{_≡_, refl, sym, _∙_}
-use Prim.Native.Nat.{_≤_, _<_, _-_}
+use mathlib.Core.Bool.{_&&_}
+use Prim.Native.Nat.{_<_, _≤_, _-_}
 use native.Mathlib.Omega.{arith}
 use lib.ListN.{drop, take}
-use borrow.Author.Tests.{le-leb, lt-leb}
+use lib.Dec.{eqb}
+use borrow.Author.Tests.{eq-eqb, ne-eqb}
 use Rattle.lists.specs.Areas.{climbs}
-use Rattle.lists.proofs.Scanning.{again, stop, climbs-step, climbs-end}
+use Rattle.lists.proofs.Scanning.{flat-again, flat-fails, flat-passes, climbs-step, climbs-end}
 use Rattle.lists.proofs.is_climb.Statement.{statement}
 use Rattle.lists.proofs.is_climb.Tie as tie
+use Rattle.lists.proofs.is_climb.Reads as reads
+use Rattle.lists.proofs.is_climb.Lts as lts
+use Rattle.lists.proofs.failed.Reads as failed-reads
 
 abbrev Inv-loop : tie.InvT-loop
-Inv-loop s n last i₀ i = (0 < i) × (i ≤ n) × (climbs last (take n s) ≡ climbs last (drop (i - 1) (take n s)))
+Inv-loop s n last bad₀ i₀ bad i = (0 < i) × (i ≤ n) × (climbs last (take n s) ≡ (eqb bad 0 && climbs last (drop (i - 1) (take n s))))
 
 abbrev μ-loop : tie.MeasureT-loop
-μ-loop s n last i₀ i = n - i
+μ-loop s n last bad₀ i₀ bad i = n - i
 
+-- src/lib.rt:121:5
 loop-holds : tie.Need-loop-holds Inv-loop μ-loop
 loop-holds c = (omega arith, omega arith, refl)
 
-mul-if1 : tie.Need-mul-if1 Inv-loop μ-loop
-mul-if1 c = search needs
+-- src/lib.rt:122:29
+sub-failed : tie.Need-sub-failed Inv-loop μ-loop
+sub-failed c = search needs
 
-shared-slice-read-if1 : tie.Need-shared-slice-read-if1 Inv-loop μ-loop
-shared-slice-read-if1 c = search needs
+-- src/lib.rt:122:27
+mul-failed : tie.Need-mul-failed Inv-loop μ-loop
+mul-failed c = search needs
 
-sub-if1 : tie.Need-sub-if1 Inv-loop μ-loop
-sub-if1 c = search needs
+-- src/lib.rt:122:27
+shared-slice-read-failed : tie.Need-shared-slice-read-failed Inv-loop μ-loop
+shared-slice-read-failed c = search needs
 
-mul-if1-2 : tie.Need-mul-if1-2 Inv-loop μ-loop
-mul-if1-2 c = search needs
+-- src/lib.rt:122:39
+mul-failed-2 : tie.Need-mul-failed-2 Inv-loop μ-loop
+mul-failed-2 c = search needs
 
-shared-slice-read-if1-2 : tie.Need-shared-slice-read-if1-2 Inv-loop μ-loop
-shared-slice-read-if1-2 c = search needs
+-- src/lib.rt:122:39
+shared-slice-read-failed-2 : tie.Need-shared-slice-read-failed-2 Inv-loop μ-loop
+shared-slice-read-failed-2 c = search needs
 
-returns : tie.Need-returns Inv-loop μ-loop
-returns c =
-    let l = c .before .before .before .before .loop in
-    let step = climbs-step _ _ (c .before .before .before .before .before .pre .1) _ (l .i) (l .inv .0) (c .before .before .before .loop-test .taken) in
-    stop _ _ (l .inv .2) step (lt-leb _ _ (c .if1 .taken))
+-- src/lib.rt:122:9
+failed-requires : tie.Need-failed-requires Inv-loop μ-loop
+failed-requires c κs = search needs
 
+-- src/lib.rt:123:9
 add-i : tie.Need-add-i Inv-loop μ-loop
 add-i c = search needs
 
+-- src/lib.rt:121:5
 loop-less : tie.Need-loop-less Inv-loop μ-loop
 loop-less c = search needs
 
+-- src/lib.rt:121:5
 loop-again : tie.Need-loop-again Inv-loop μ-loop
 loop-again c =
-    let l = c .before .before .before .before .loop in
-    let step = climbs-step _ _ (c .before .before .before .before .before .pre .1) _ (l .i) (l .inv .0) (c .before .before .before .loop-test .taken) in
-    (omega arith, omega arith, again _ _ (l .inv .2) step (le-leb _ _ (c .if1 .left)))
+    let l = c .before .before .before .before .loop in (
+      omega arith,
+      omega arith,
+      flat-again _ (l .bad) (c .failed .result) _ _ (l .inv .2)
+          (climbs-step _ _ (c .before .before .before .before .before .before .pre .1) _ (l .i) (l .inv .0) (c .before .before .before .loop-test .taken)) (c .failed .ensures),
+    )
 
+-- src/lib.rt:126:9
+returns : tie.Need-returns Inv-loop μ-loop
+returns c = let l = c .before .before .loop in flat-fails _ (l .bad) (l .inv .2) (ne-eqb _ _ (c .if1 .taken))
+
+-- src/lib.rt:128:7
 sub-result : tie.Need-sub-result Inv-loop μ-loop
 sub-result c = search needs
 
+-- src/lib.rt:128:5
 mul-result : tie.Need-mul-result Inv-loop μ-loop
 mul-result c = search needs
 
+-- src/lib.rt:128:5
 shared-slice-read-result : tie.Need-shared-slice-read-result Inv-loop μ-loop
 shared-slice-read-result c = search needs
 
+-- src/lib.rt:128:5
 cast-result : tie.Need-cast-result Inv-loop μ-loop
-cast-result c = omega (arith, c .shared-slice-known3 .given (c .before .before .before .args .n - 1))
+cast-result c = omega (arith, c .shared-slice-known4 .given (c .before .before .before .before .before .args .n - 1))
 
+-- src/lib.rt:114:1
 returns-2 : tie.Need-returns-2 Inv-loop μ-loop
 returns-2 c =
-    let l = c .before .before .loop in
-    let p = c .before .before .before .pre in
-    sym (l .inv .2 ∙ climbs-end _ _ (p .1) _ (l .i) (p .0) (omega arith))
+    let l = c .before .before .before .loop in
+    sym (flat-passes _ (l .bad) (l .inv .2) (eq-eqb _ _ (c .before .if1 .left)) ∙ climbs-end _ _ (c .before .before .before .before .before .pre .1) _ (l .i)
+    (c .before .before .before .before .before .pre .0) (omega arith))
 
 pub is-climb-spec : {M : Type 1} → statement M
 is-climb-spec =
@@ -77,15 +101,16 @@ is-climb-spec =
     Inv-loop
     μ-loop
     loop-holds
-    mul-if1
-    shared-slice-read-if1
-    sub-if1
-    mul-if1-2
-    shared-slice-read-if1-2
-    returns
+    sub-failed
+    mul-failed
+    shared-slice-read-failed
+    mul-failed-2
+    shared-slice-read-failed-2
+    failed-requires
     add-i
     loop-less
     loop-again
+    returns
     sub-result
     mul-result
     shared-slice-read-result

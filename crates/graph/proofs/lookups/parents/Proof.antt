@@ -74,38 +74,38 @@ element-copy-out-to c =
 cast-to : tie.Need-cast-to
 cast-to c = search needs
 
-mul-padded-512 : tie.Need-mul-padded-512
-mul-padded-512 c =
+mul-padded : tie.Need-mul-padded
+mul-padded c =
     let p = c .before .before .before .before .before in
     let g = p .before .before .args .t1 in
     let held = held-of g (search needs) (sym (p .before .is-broken .ensures) ∙ p .if1 .left) in
     let b = group-bounds g held (p .before .before .args .run .0) (c .before .before .before .if2 .left) in
     omega (arith, b .0, b .1, facts g held .entries)
 
-sub-padded-512 : tie.Need-sub-padded-512
-sub-padded-512 c =
+sub-padded : tie.Need-sub-padded
+sub-padded c =
     let p = c .before .before .before .before .before in
     let g = p .before .before .args .t1 in
     let held = held-of g (search needs) (sym (p .before .is-broken .ensures) ∙ p .if1 .left) in
     group-bounds g held (p .before .before .args .run .0) (c .before .before .before .if2 .left) .0
 
-part-padded-512-start : tie.Need-part-padded-512-start
-part-padded-512-start c =
+part-padded-start : tie.Need-part-padded-start
+part-padded-start c =
     let p = c .before .before .before .before .before .before in
     let g = p .before .before .args .t1 in
     let held = held-of g (search needs) (sym (p .before .is-broken .ensures) ∙ p .if1 .left) in
     group-bounds g held (p .before .before .args .run .0) (c .before .before .before .before .if2 .left) .0
 
-part-padded-512-end : tie.Need-part-padded-512-end
-part-padded-512-end c =
+part-padded-end : tie.Need-part-padded-end
+part-padded-end c =
     let p = c .before .before .before .before .before .before in
     let g = p .before .before .args .t1 in
     let held = held-of g (search needs) (sym (p .before .is-broken .ensures) ∙ p .if1 .left) in
     group-end g held (p .before .before .args .run .0) (c .before .before .before .before .if2 .left)
 
-padded-512-requires : tie.Need-padded-512-requires
+padded-requires : tie.Need-padded-requires
 unfolding part
-padded-512-requires c κs =
+padded-requires c κs =
     let p = c .before .before .before .before .before .before .before in
     let g = p .before .before .args .t1 in
     let held = held-of g (search needs) (sym (p .before .is-broken .ensures) ∙ p .if1 .left) in
@@ -127,7 +127,7 @@ returns-3 c =
     let whole = sym (p .before .is-broken .ensures) ∙ p .if1 .left in
     let held = held-of g (search needs) whole in
     let inside = lt-leb (runs (view g)) r (omega (arith, runs-view g held, c .before .before .before .before .before .before .if2 .left)) in
-    let items = c .padded-512 .ensures ∙ ap (pad 512) (sym (group-view g held r (c .before .before .before .before .before .before .if2 .left))) in
+    let items = c .padded .ensures ∙ ap (pad 512) (sym (group-view g held r (c .before .before .before .before .before .before .if2 .left))) in
     let count = group-count g held r (c .before .before .before .before .before .before .if2 .left) in
     rw (look-done g whole _ inside)
     (listed-done {A = ParentRuns} (λ rs n. record { runs = rs; count = n; outcome = Done }) _ _ (getD (view g .parents) r []) items count)
@@ -149,10 +149,10 @@ parents-spec =
     mul-to
     element-copy-out-to
     cast-to
-    mul-padded-512
-    sub-padded-512
-    part-padded-512-start
-    part-padded-512-end
-    padded-512-requires
+    mul-padded
+    sub-padded
+    part-padded-start
+    part-padded-end
+    padded-requires
     sub-t13
     returns-3)

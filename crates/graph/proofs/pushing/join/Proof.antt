@@ -1,10 +1,13 @@
 -- `graph::pushing::join` meets its contract: each part of the new run is what the definition says. Assumes nothing.
-use mathlib.Core.Path.{ap}
+use mathlib.Core.Path.{sym, ap, _∙_}
+use mathlib.Core.Bool.{cond}
+use mathlib.Core.List.{List}
+use Prim.Native.Nat.{ℕ}
 use native.Mathlib.Omega.{arith}
-use Rattle.model.specs.Record.{view}
-use Rattle.model.proofs.Stored.{entries-flat}
-use Rattle.graph.specs.declared.pushing.Own.{Own}
-use Rattle.graph.proofs.Views.{facts, runs-view}
+use Rattle.lists.specs.Lists.{same}
+use Rattle.graph.proofs.Views.{facts, runs-view, entries-view, frontier-list}
+use Rattle.graph.proofs.Extending.{held-from}
+use Rattle.graph.proofs.Owning.{own-begun}
 use Rattle.graph.proofs.Assembling.{own-fits, left-room, joined-stored}
 use borrow.Author.Needs.{needs}
 use Rattle.graph.proofs.pushing.join.Statement.{statement}
@@ -13,19 +16,40 @@ use Rattle.graph.proofs.pushing.join.Tie as tie
 add-end : tie.Need-add-end
 add-end c = search needs
 
-own-start-requires : tie.Need-own-start-requires
-own-start-requires c κs = search needs
+cast-add : tie.Need-cast-add
+cast-add c =
+    let c₁ = c .before .before .before in
+    let p = c₁ .pre in
+    let g = c₁ .args .t1 in
+    omega (arith, facts g (p .0) .entries)
+
+element-copy-out-smaller : tie.Need-element-copy-out-smaller
+element-copy-out-smaller c = search needs
+
+slice-aggregate-own-all : tie.Need-slice-aggregate-own-all
+slice-aggregate-own-all c =
+    let c₁ = c .before .before .before .before .before .before .before .before .before .before in
+    let p = c₁ .pre in
+    let g = c₁ .args .t1 in
+    let a = facts g (p .0) .sized .parents in
+    search needs
 
 own-all-requires : tie.Need-own-all-requires
 own-all-requires c κs =
-    let p = c .before .before .before .pre in
-    let begun = ap (λ (x : Own). x .count) (c .own-start .ensures) in
-    (p .0, (p .1 .1 .0 .known, omega (arith, p .1 .1 .0 .for-entries, entries-flat (view (c .before .before .before .args .t1)), begun)))
+    let c₁ = c .before .before .before .before .before .before .before .before .before .before in
+    let p = c₁ .pre in
+    let g = c₁ .args .t1 in
+    let f = facts g (p .0) in (
+      record { starts-long = f .sized .starts; seen-long = f .sized .«seen_prefix_len»; few = f .runs; items-long = f .sized .parents },
+      omega (arith, p .1 .1 .0 .for-entries, held-from g (p .0) (c₁ .args .ps .now), entries-view g (p .0)),
+    )
 
 keep-all-requires : tie.Need-keep-all-requires
 keep-all-requires c κs =
-    let start = c .before .before .before .before .before .before .before in
-    let f = facts (start .args .t1) (start .pre .0) in
+    let c₁ = c .before .before .before .before .before .before .before .before .before .before .before .before .before .before .before in
+    let p = c₁ .pre in
+    let g = c₁ .args .t1 in
+    let f = facts g (p .0) in
     (omega (arith, f), omega (arith, f))
 
 sub-add : tie.Need-sub-add
@@ -33,45 +57,65 @@ sub-add c = search needs
 
 add-requires : tie.Need-add-requires
 add-requires c κs =
-    let o = c .before .before .before .before in
-    let start = o .before .before .before .before in
-    let p = start .pre in
-    left-room (p .0) (p .1 .0) (p .1 .1 .0) (o .before .own-start .ensures) (o .own-all .ensures) (c .keep-all .ensures)
+    let c₁ = c .before .before .before .before .before in
+    let c₂ = c₁ .before .before .before .before .before .before .before .before .before .before .before in
+    let p = c₂ .pre in
+    let g = c₂ .args .t1 in
+    left-room (p .0) (p .1 .0) (p .1 .1 .0) (own-begun g (p .0)) (c₁ .own-all .ensures) (c .keep-all .ensures)
 
 pick-seen-requires : tie.Need-pick-seen-requires
-pick-seen-requires c κs = search needs
+pick-seen-requires c κs =
+    let c₁ = c .before .before .before .before .before .before .before .before .before .before .before .before .before .before .before .before .before .before .before .before .before in
+    let p = c₁ .pre in
+    let g = c₁ .args .t1 in
+    let f = facts g (p .0) in
+    omega (arith, f .tips, f .sized .frontier)
 
 cast-smaller : tie.Need-cast-smaller
-cast-smaller c = let start = c .before .before .before .before .before .before .before .before .before .before .before .before in omega (arith, facts (start .args .t1) (start .pre .0))
+cast-smaller c =
+    let c₁ = c .before .before .before .before .before .before .before .before .before .before .before .before .before .before .before .before .before .before .before .before
+    .before .before .before in
+    let p = c₁ .pre in
+    let g = c₁ .args .t1 in
+    omega (arith, facts g (p .0) .runs)
 
 smaller-requires : tie.Need-smaller-requires
 smaller-requires c κs = search needs
 
 lower-all-requires : tie.Need-lower-all-requires
-lower-all-requires c κs = search needs
+lower-all-requires c κs =
+    let c₁ = c .before .before .before .before .before .before .before .before .before .before .before .before .before .before .before .before .before .before .before .before
+    .before .before .before .before in
+    c₁ .pre .0
 
 assemble-requires : tie.Need-assemble-requires
 assemble-requires c κs =
-    let o = c .before .before .before .before .before .before .before .before .before .before in
-    let start = o .before .before .before .before in
-    let p = start .pre in
-    let fits = own-fits (p .0) (p .1 .0) (p .1 .1 .0) (o .before .own-start .ensures) (o .own-all .ensures) in
-    (p .0, (omega (arith, runs-view (start .args .t1) (p .0), p .1 .1 .0 .for-runs), fits))
+    let c₁ = c .before .before .before .before .before .before .before .before .before .before .before .before .before .before in
+    let c₂ = c₁ .before .before .before .before .before .before .before .before .before .before .before in
+    let p = c₂ .pre in
+    let g = c₂ .args .t1 in
+    (p .0, (omega (arith, runs-view g (p .0), p .1 .1 .0 .for-runs), own-fits (p .0) (p .1 .0) (p .1 .1 .0) (own-begun g (p .0)) (c₁ .own-all .ensures)))
 
 returns : tie.Need-returns
 returns c =
-    let k = c .before .before .before .before .before .before .before in
-    let o = k .before .before .before .before in
-    let start = o .before .before .before .before in
-    let p = start .pre in
-    joined-stored (p .0) (p .1 .0) (p .1 .1 .0) (o .before .own-start .ensures) (o .own-all .ensures) (k .keep-all .ensures) (c .before .before .before .before .before .before .add .ensures) (c .before .before .before .before .pick-seen .ensures) (c .before .before .smaller .ensures) (c .before .lower-all .ensures) (c .assemble .ensures)
+    let c₁ = c .before .before .before .before in
+    let c₂ = c₁ .before .before .before .before .before in
+    let c₃ = c₂ .before .before .before .before .before .before in
+    let c₄ = c₃ .before .before .before .before .before .before .before .before .before .before .before in
+    let p = c₄ .pre in
+    let g = c₄ .args .t1 in
+    joined-stored (p .0) (p .1 .0) (p .1 .1 .0) (own-begun g (p .0)) (c₃ .own-all .ensures) (c₂ .before .keep-all .ensures) (c₂ .add .ensures)
+    (c₁ .pick-seen .ensures ∙ ap (λ (l : List ℕ). cond (same (c₄ .args .ps .now) l) (c₄ .args .start .0) (c₃ .own-all .result .seen .0)) (sym (frontier-list g (p .0))))
+    (c .before .before .smaller .ensures) (c .before .lower-all .ensures) (c .assemble .ensures)
 
 pub join-spec : {M : Type 1} → statement M
 join-spec =
     tie.close
     (tie.spec
     add-end
-    own-start-requires
+    cast-add
+    element-copy-out-smaller
+    slice-aggregate-own-all
     own-all-requires
     keep-all-requires
     sub-add

@@ -1,49 +1,55 @@
--- `graph::splitting::needs_split` meets its contract: the event is before the first held, or a start is looked for after it. Assumes nothing.
-use native.Mathlib.Numerals.{add-one}
+-- `graph::splitting::needs_split` meets its contract: the event is before the first held, or one scan finds its run, and the next run's start is compared. Assumes nothing.
+use mathlib.Core.Path.{sym}
 use native.Mathlib.Omega.{arith}
-use borrow.Author.Tests.{le-leb, lt-leb}
-use Rattle.model.specs.Split.{ends}
-use Rattle.graph.proofs.Views.{facts, first-view, starts-list}
+use Rattle.graph.proofs.SplitParts.{last-low, needs-low, needs-is}
 use borrow.Author.Needs.{needs}
 use Rattle.graph.proofs.splitting.needs_split.Statement.{statement}
 use Rattle.graph.proofs.splitting.needs_split.Tie as tie
 
-element-copy-out-if1 : tie.Need-element-copy-out-if1
-element-copy-out-if1 c = search needs
+shared-slice-read-if1 : tie.Need-shared-slice-read-if1
+shared-slice-read-if1 c = search needs
 
 returns : tie.Need-returns
 returns c =
-    let g = c .before .before .before .args .t1 in
-    rw (first-view g (c .before .before .before .pre .0), lt-leb _ _ (c .if1 .taken))
+    let c₁ = c .before .before .before .before in
+    sym (needs-low (c₁ .args .starts .now) (c₁ .args .runs) (c₁ .args .p .0) (c .if1 .taken))
 
-add-is-among : tie.Need-add-is-among
-add-is-among c =
-    let a = c .before .before .before .before .before .before .args in
-    let p = c .before .before .before .before .before .before .pre in
-    omega (arith, p, facts (a .t1) (p .0) .runs)
+last-at-most-requires : tie.Need-last-at-most-requires
+last-at-most-requires c κs = search needs
 
-add-is-among-2 : tie.Need-add-is-among-2
-add-is-among-2 c = search needs
+add-next : tie.Need-add-next
+add-next c =
+    let c₁ = c .before .before .before .before .before in
+    omega (arith, last-low (c₁ .args .starts .now) (c₁ .args .p .0) (c₁ .args .runs), c .last-at-most .ensures, c₁ .pre)
 
-is-among-requires : tie.Need-is-among-requires
-is-among-requires c κs =
-    let k = facts (c .before .before .before .before .before .before .before .args .t1) (c .before .before .before .before .before .before .before .pre .0) in
-    omega (arith, k .runs, k .sized .starts)
+mul-result : tie.Need-mul-result
+mul-result c =
+    let c₁ = c .before .before .before .before .before in
+    omega (arith, last-low (c₁ .args .starts .now) (c₁ .args .p .0) (c₁ .args .runs), c .last-at-most .ensures, c₁ .pre)
+
+shared-slice-read-result : tie.Need-shared-slice-read-result
+shared-slice-read-result c =
+    let c₁ = c .before .before .before .before .before .before in
+    omega (arith, last-low (c₁ .args .starts .now) (c₁ .args .p .0) (c₁ .args .runs), c .before .last-at-most .ensures, c₁ .pre)
+
+add-result : tie.Need-add-result
+add-result c = search needs
 
 returns-2 : tie.Need-returns-2
-unfolding ends
 returns-2 c =
-    let a = c .before .before .before .before .before .before .before .before .args in
-    let held = c .before .before .before .before .before .before .before .before .pre .0 in
-    rw (first-view (a .t1) held, le-leb _ _ (c .before .before .before .before .before .if1 .left), starts-list (a .t1) held, ← add-one (a .p .0), c .is-among .ensures)
+    let c₁ = c .before .before .before in
+    let c₂ = c₁ .before .before .before .before in
+    needs-is (c₂ .args .starts .now) (c₂ .args .runs) (c₂ .args .p .0) (c .before .before .last-at-most .ensures) (c₁ .if1 .left)
 
 pub needs-split-spec : {M : Type 1} → statement M
 needs-split-spec =
     tie.close
     (tie.spec
-    element-copy-out-if1
+    shared-slice-read-if1
     returns
-    add-is-among
-    add-is-among-2
-    is-among-requires
+    last-at-most-requires
+    add-next
+    mul-result
+    shared-slice-read-result
+    add-result
     returns-2)

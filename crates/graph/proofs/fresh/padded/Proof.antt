@@ -1,4 +1,4 @@
--- `graph::fresh::padded_512` meets its contract. The loop's invariant: the area is the first `i` of the list with zeros after them. The measure is what is left of the list. Assumes nothing.
+-- `graph::fresh::padded` meets its contract. The loop's invariant: the area is the first `i` of the list with zeros after them. The measure is what is left of the list. Assumes nothing.
 use mathlib.Core.Path.{_≡_, ap, _∙_}
 use mathlib.Core.List.{List}
 use Prim.Native.Nat.{ℕ, _-_, _≤_}
@@ -8,8 +8,8 @@ use lib.Seq.{take-all}
 use borrow.Author.Needs.{needs}
 use Rattle.lists.specs.Areas.{pad}
 use Rattle.graph.proofs.Beginning.{copy-turn}
-use Rattle.graph.proofs.fresh.padded_512.Statement.{statement}
-use Rattle.graph.proofs.fresh.padded_512.Tie as tie
+use Rattle.graph.proofs.fresh.padded.Statement.{statement}
+use Rattle.graph.proofs.fresh.padded.Tie as tie
 
 abbrev Inv-loop : tie.InvT-loop
 Inv-loop s a₀ i₀ a i = (i ≤ length s) × (a ≡ pad 512 (take i s))
@@ -17,11 +17,11 @@ Inv-loop s a₀ i₀ a i = (i ≤ length s) × (a ≡ pad 512 (take i s))
 abbrev μ-loop : tie.MeasureT-loop
 μ-loop s a₀ i₀ a i = length s - i
 
-zeros-512-requires : tie.Need-zeros-512-requires Inv-loop μ-loop
-zeros-512-requires c κs = search needs
+no-runs-requires : tie.Need-no-runs-requires Inv-loop μ-loop
+no-runs-requires c κs = search needs
 
 loop-holds : tie.Need-loop-holds Inv-loop μ-loop
-loop-holds c = (omega arith, c .zeros-512 .ensures)
+loop-holds c = (omega arith, c .no-runs .ensures)
 
 mul-a : tie.Need-mul-a Inv-loop μ-loop
 mul-a c = omega arith
@@ -52,13 +52,13 @@ returns c =
     let l = c .before .loop in
     l .inv .1 ∙ ap (pad 512) (take-all (l .i) (c .before .before .before .before .args .s .now) (omega arith))
 
-pub padded-512-spec : {M : Type 1} → statement M
-padded-512-spec =
+pub padded-spec : {M : Type 1} → statement M
+padded-spec =
     tie.close
     (tie.spec
     Inv-loop
     μ-loop
-    zeros-512-requires
+    no-runs-requires
     loop-holds
     mul-a
     shared-slice-read-a
