@@ -1,18 +1,19 @@
--- The bits of bytes: joined, counted, and set one by one. Assumes nothing.
+-- The bits of words of any width: joined, counted, and set one by one. Assumes nothing.
 use mathlib.Core.Path.{_≡_, refl, sym, ap, _∙_}
-use mathlib.Core.Bool.{Bool, true, _||_}
+use mathlib.Core.Bool.{Bool, true, false, _||_}
 use mathlib.Core.List.{List, [], _∷_, _++_}
-use Prim.Native.Nat.{ℕ, zero, suc, _+_, _-_, _*_, _/_, _%_, _^_, _<_, max}
+use Prim.Native.Nat.{ℕ, zero, suc, _+_, _*_, _/_, _%_, _^_, _≤_, _<_, max}
 use native.Mathlib.Omega.{arith}
-use native.Mathlib.Nat.{pow-suc, zero-add, suc-add}
-use lib.ListN.{length, getD, set, length-append}
-use lib.Seq.{set-append-left}
+use native.Mathlib.Numerals.{add-one}
+use native.Mathlib.Nat.{pow-suc, zero-add, suc-add, zero-mul, suc-mul}
+use lib.ListN.{length, getD, drop, set, replicate, length-append, drop-of-length-le, replicate-append-replicate}
+use lib.Seq.{set-append-left, drop-cons}
 use lib.Dec.{eqb}
 use lib.Bits.{bitOr, or-step, or-zero-r}
 use lib.Count.{ones, onesIn, ones-step}
 use Rattle.lists.specs.Lists.{count, bit}
 use Rattle.model.specs.Cover.{either}
-use Rattle.tables.specs.Bytes.{bitsOf, bitsIn, joinBytes}
+use Rattle.tables.specs.Covers.{bitsOf, bitsIn, joinWords}
 
 odd-max : (a b : ℕ) → a < 2 → b < 2 → eqb (max a b) 1 ≡ eqb a 1 || eqb b 1
 odd-max zero zero h g = refl
@@ -49,19 +50,21 @@ either-append [] vs (c ∷ cs) ds e = absurd (omega (arith, e))
 either-append (a ∷ us) vs [] ds e = absurd (omega (arith, e))
 either-append (a ∷ us) vs (c ∷ cs) ds e = ap (λ (l : List Bool). (a || c) ∷ l) (either-append us vs cs ds (omega (arith, e)))
 
-pub bits-join : (xs ys : List ℕ) → length xs ≡ length ys → bitsIn (joinBytes xs ys) ≡ either (bitsIn xs) (bitsIn ys)
-unfolding bitsIn joinBytes
-bits-join [] [] e = unfold either in refl
-bits-join [] (y ∷ ys) e = absurd (omega (arith, e))
-bits-join (x ∷ xs) [] e = absurd (omega (arith, e))
-bits-join (x ∷ xs) (y ∷ ys) e =
-    ap (λ (l : List Bool). l ++ bitsIn (joinBytes xs ys)) (bits-or 8 x y) ∙ ap (λ (l : List Bool). either (bitsOf 8 x) (bitsOf 8 y) ++ l) (bits-join xs ys (omega (arith, e)))
-    ∙ sym (either-append (bitsOf 8 x) (bitsIn xs) (bitsOf 8 y) (bitsIn ys) (bits-length 8 x ∙ sym (bits-length 8 y)))
+-- Words joined are their bits joined
+pub bits-join : (k : ℕ) (xs ys : List ℕ) → length xs ≡ length ys → bitsIn k (joinWords xs ys) ≡ either (bitsIn k xs) (bitsIn k ys)
+unfolding bitsIn joinWords
+bits-join k [] [] e = unfold either in refl
+bits-join k [] (y ∷ ys) e = absurd (omega (arith, e))
+bits-join k (x ∷ xs) [] e = absurd (omega (arith, e))
+bits-join k (x ∷ xs) (y ∷ ys) e =
+    ap (λ (l : List Bool). l ++ bitsIn k (joinWords xs ys)) (bits-or k x y) ∙ ap (λ (l : List Bool). either (bitsOf k x) (bitsOf k y) ++ l) (bits-join k xs ys (omega (arith, e)))
+    ∙ sym (either-append (bitsOf k x) (bitsIn k xs) (bitsOf k y) (bitsIn k ys) (bits-length k x ∙ sym (bits-length k y)))
 
-pub bits-in-length : (xs : List ℕ) → length (bitsIn xs) ≡ 8 * length xs
+-- k bits a word
+pub bits-in-length : (k : ℕ) (xs : List ℕ) → length (bitsIn k xs) ≡ length xs * k
 unfolding bitsIn
-bits-in-length [] = refl
-bits-in-length (x ∷ xs) = length-append (bitsOf 8 x) (bitsIn xs) ∙ omega (arith, bits-length 8 x, bits-in-length xs)
+bits-in-length k [] = sym (zero-mul k)
+bits-in-length k (x ∷ xs) = length-append (bitsOf k x) (bitsIn k xs) ∙ omega (arith, bits-length k x, bits-in-length k xs, suc-mul (length xs) k)
 
 -- ---- counted
 
@@ -86,13 +89,14 @@ unfolding count
 count-append [] vs = sym (zero-add (count (λ b. b) vs))
 count-append (a ∷ us) vs = omega (arith, count-append us vs)
 
-pub count-byte : (x : ℕ) (xs : List ℕ) → x < 2 ^ 8 → count (λ b. b) (bitsIn (x ∷ xs)) ≡ ones x + count (λ b. b) (bitsIn xs)
+-- The bits counted word by word
+pub count-next : (k : ℕ) (y : List ℕ) (i : ℕ) → i < length y → count (λ b. b) (bitsIn k (drop i y)) ≡ count (λ b. b) (bitsOf k (getD y i 0)) + count (λ b. b) (bitsIn k (drop (i + 1) y))
 unfolding bitsIn
-count-byte x xs h = count-append (bitsOf 8 x) (bitsIn xs) ∙ ap (λ (m : ℕ). m + count (λ b. b) (bitsIn xs)) (bits-ones 8 x h)
+count-next k y i h = rw (drop-cons y i 0 h, add-one i) (count-append (bitsOf k (getD y i 0)) (bitsIn k (drop (suc i) y)))
 
-pub count-none : count (λ b. b) (bitsIn []) ≡ 0
+pub count-none : (k : ℕ) (y : List ℕ) (i : ℕ) → length y ≤ i → count (λ b. b) (bitsIn k (drop i y)) ≡ 0
 unfolding bitsIn count
-count-none = refl
+count-none k y i h = rw (drop-of-length-le y h)
 
 -- ---- a bit set
 
@@ -115,13 +119,31 @@ set-past : (us vs : List Bool) (i : ℕ) → set (us ++ vs) (length us + i) true
 set-past [] vs i = ap (λ (k : ℕ). set vs k true) (zero-add i)
 set-past (a ∷ us) vs i = ap (λ (k : ℕ). set (a ∷ us ++ vs) k true) (suc-add (length us) i) ∙ ap (λ (l : List Bool). a ∷ l) (set-past us vs i)
 
-pub bits-in-set : (z : List ℕ) (q r : ℕ) → q < length z → r < 8 → bitsIn (set z q (bitOr (getD z q 0) (2 ^ r))) ≡ set (bitsIn z) (8 * q + r) true
+-- Bit r of word q is bit q * k + r of all
+pub bits-in-set : (k : ℕ) (z : List ℕ) (q r : ℕ) → q < length z → r < k → bitsIn k (set z q (bitOr (getD z q 0) (2 ^ r))) ≡ set (bitsIn k z) (q * k + r) true
 unfolding bitsIn
-bits-in-set [] q r h g = absurd (omega arith)
-bits-in-set (x ∷ xs) zero r h g =
-    ap (λ (l : List Bool). l ++ bitsIn xs) (bits-set 8 r x g) ∙ sym (set-append-left (bitsOf 8 x) (bitsIn xs) r true (omega (arith, bits-length 8 x)))
-    ∙ ap (λ (i : ℕ). set (bitsOf 8 x ++ bitsIn xs) i true) (sym (zero-add r))
-bits-in-set (x ∷ xs) (suc q) r h g =
-    let e : length (bitsOf 8 x) + (8 * q + r) ≡ 8 * suc q + r = omega (arith, bits-length 8 x) in
-    ap (λ (l : List Bool). bitsOf 8 x ++ l) (bits-in-set xs q r (omega arith) g) ∙ sym (set-past (bitsOf 8 x) (bitsIn xs) (8 * q + r))
-    ∙ ap (λ (i : ℕ). set (bitsOf 8 x ++ bitsIn xs) i true) e
+bits-in-set k [] q r h g = absurd (omega arith)
+bits-in-set k (x ∷ xs) zero r h g =
+    let e : r ≡ 0 * k + r = omega (arith, zero-mul k) in
+    ap (λ (l : List Bool). l ++ bitsIn k xs) (bits-set k r x g) ∙ sym (set-append-left (bitsOf k x) (bitsIn k xs) r true (omega (arith, bits-length k x)))
+    ∙ ap (λ (i : ℕ). set (bitsOf k x ++ bitsIn k xs) i true) e
+bits-in-set k (x ∷ xs) (suc q) r h g =
+    let e : length (bitsOf k x) + (q * k + r) ≡ suc q * k + r = omega (arith, bits-length k x, suc-mul q k) in
+    ap (λ (l : List Bool). bitsOf k x ++ l) (bits-in-set k xs q r (omega arith) g) ∙ sym (set-past (bitsOf k x) (bitsIn k xs) (q * k + r))
+    ∙ ap (λ (i : ℕ). set (bitsOf k x ++ bitsIn k xs) i true) e
+
+-- ---- no bit set
+
+bits-zero : (k : ℕ) → bitsOf k 0 ≡ replicate k false
+unfolding bitsOf
+bits-zero zero = refl
+bits-zero (suc k) = ap (λ (l : List Bool). false ∷ l) (bits-zero k)
+
+-- Words of zeros have no bit set
+pub bits-in-zeros : (k n : ℕ) → bitsIn k (replicate n 0) ≡ replicate (n * k) false
+unfolding bitsIn
+bits-in-zeros k zero = ap (λ (m : ℕ). replicate m false) (sym (zero-mul k))
+bits-in-zeros k (suc n) =
+    let e : k + n * k ≡ suc n * k = omega (arith, suc-mul n k) in
+    ap (λ (l : List Bool). l ++ bitsIn k (replicate n 0)) (bits-zero k) ∙ ap (λ (l : List Bool). replicate k false ++ l) (bits-in-zeros k n)
+    ∙ replicate-append-replicate k (n * k) false ∙ ap (λ (m : ℕ). replicate m false) e

@@ -11,7 +11,7 @@ use Rattle.lists.proofs.Truth.{not-so}
 use Rattle.model.specs.History.{at}
 use Rattle.model.specs.Cover.{either, ownBits, joinChildren, coversFrom}
 use Rattle.tables.specs.Tables.{childrenOf}
-use Rattle.tables.specs.Bytes.{joinOf}
+use Rattle.tables.specs.Covers.{joinOf}
 
 length-covers : (per a : ℕ) (ss : List ℕ) (pss : List (List ℕ)) → length (coversFrom per a ss pss) ≡ length pss
 unfolding coversFrom
@@ -44,7 +44,8 @@ join-filter r a bits (ps ∷ pss) [] parents cover l p q = absurd (omega (arith,
 join-filter r a bits (ps ∷ pss) (d ∷ cs) parents cover l p q =
     pick (mem r ps) a (filter (λ x. mem r (parents x)) (from (suc a) (length pss))) bits d (joinChildren r bits pss cs) cover (q a 0 (omega arith) (omega arith))
     (join-filter r (suc a) bits pss cs parents cover (omega (arith, l)) (λ x i e h. p x (suc i) (omega (arith, e)) (omega arith)) (λ x i e h. q x (suc i) (omega (arith, e)) (omega arith)))
-    ∙ ap (λ (qs : List ℕ). joinOf bits cover (cond (mem r qs) (a ∷ filter (λ x. mem r (parents x)) (from (suc a) (length pss))) (filter (λ x. mem r (parents x)) (from (suc a) (length pss))))) (sym (p a 0 (omega arith) (omega arith)))
+    ∙ ap (λ (qs : List ℕ). joinOf bits cover (cond (mem r qs) (a ∷ filter (λ x. mem r (parents x)) (from (suc a) (length pss))) (filter (λ x. mem r (parents x)) (from (suc a) (length pss)))))
+    (sym (p a 0 (omega arith) (omega arith)))
 
 -- The numbers below b pass no test
 filter-skip : (p : ℕ → Bool) (m a n b k : ℕ) → n ≡ m + k → b ≡ a + m → ((x : ℕ) → x < b → p x ≡ false) → filter p (from a n) ≡ filter p (from b k)

@@ -11,7 +11,7 @@ use Rattle.lists.specs.Lists.{count, mem, bit, from, upto, ceil}
 use Rattle.lists.proofs.Members.{mem-first, mem-rest}
 use Rattle.lists.proofs.Between.{within-after}
 use Rattle.model.specs.Cover.{either, ownBits}
-use Rattle.tables.specs.Bytes.{joinOf, rangeBits}
+use Rattle.tables.specs.Covers.{joinOf, rangeBits}
 
 or-comm : (a b : Bool) → a || b ≡ b || a
 or-comm true true = refl

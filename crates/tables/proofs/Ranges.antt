@@ -1,4 +1,4 @@
--- Bytes joined in place, and the bits from one place up to another set one by one. Assumes nothing.
+-- Words joined in place, and the bits from one place up to another set one by one. Assumes nothing.
 use mathlib.Core.Path.{_≡_, refl, sym, ap, _∙_}
 use mathlib.Core.Bool.{Bool, true, false}
 use mathlib.Core.Logic.{_⊎_, inl, inr}
@@ -6,25 +6,30 @@ use mathlib.Core.List.{List, [], _∷_, _++_, map}
 use Prim.Native.Nat.{ℕ, zero, suc, _+_, _-_, _*_, _/_, _%_, _^_, _≤_, _<_}
 use native.Mathlib.Omega.{arith}
 use native.Mathlib.Numerals.{add-one}
+use native.Mathlib.Nat.{mod-lt, div-add-mod'}
 use lib.ListN.{length, getD, take, drop, set, replicate, drop-of-length-le, take-append-drop}
 use lib.Seq.{drop-cons, take-suc-set, drop-set-lt, append-snoc}
 use lib.Bits.{bitOr}
 use Rattle.lists.specs.Lists.{from, upto}
 use Rattle.lists.proofs.Truth.{lt-eq-gt, lt-or-le}
 use Rattle.lists.proofs.Between.{within, within-in, within-before, within-after, none-within}
-use Rattle.tables.specs.Bytes.{bitsOf, bitsIn, joinBytes, rangeBits}
-use Rattle.tables.proofs.Bits.{bits-in-set}
+use Rattle.model.specs.Cover.{either}
+use Rattle.tables.specs.Lanes.{lane}
+use Rattle.tables.specs.Covers.{coverRoom, bitsIn, joinWords, rangeBits}
+use Rattle.tables.proofs.Bits.{bits-join, bits-in-set, bits-in-zeros}
+use Rattle.tables.proofs.Joins.{either-comm}
+use Rattle.tables.proofs.Laning.{lane-length, lane-getD}
 
 -- Joined up to place i, and the rest still to be joined
 unfoldable pub joinRest : ℕ → List ℕ → List ℕ → List ℕ
-joinRest i z ys = take i z ++ joinBytes (drop i z) (drop i ys)
+joinRest i z ys = take i z ++ joinWords (drop i z) (drop i ys)
 
-join-nothing : (xs : List ℕ) → joinBytes xs [] ≡ xs
-unfolding joinBytes
+join-nothing : (xs : List ℕ) → joinWords xs [] ≡ xs
+unfolding joinWords
 join-nothing [] = refl
 join-nothing (x ∷ xs) = refl
 
-pub join-start : (z ys : List ℕ) → joinRest 0 z ys ≡ joinBytes z ys
+pub join-start : (z ys : List ℕ) → joinRest 0 z ys ≡ joinWords z ys
 unfolding joinRest
 join-start z ys = refl
 
@@ -34,8 +39,26 @@ join-end i z ys h = rw (drop-of-length-le ys h, join-nothing) (take-append-drop 
 
 pub join-step : (i : ℕ) (z ys : List ℕ) → i < length z → i < length ys →
     joinRest (i + 1) (set z i (bitOr (getD z i 0) (getD ys i 0))) ys ≡ joinRest i z ys
-unfolding joinRest joinBytes
-join-step i z ys h k = rw (add-one, take-suc-set z i (bitOr (getD z i 0) (getD ys i 0)) h, drop-set-lt (suc i) z i (bitOr (getD z i 0) (getD ys i 0)) (omega arith), append-snoc, drop-cons z i 0 h, drop-cons ys i 0 k)
+unfolding joinRest joinWords
+join-step i z ys h k =
+    let m : ℕ = bitOr (getD z i 0) (getD ys i 0) in
+    rw (add-one, take-suc-set z i m h, drop-set-lt (suc i) z i m (omega arith), append-snoc, drop-cons z i 0 h, drop-cons ys i 0 k)
+
+-- A turn: a run's i-th word joined, of the w that lie in the area
+pub lane-step : (w : ℕ) (area z after : List ℕ) (x i a m : ℕ) → x * w + w ≤ length area → length z ≡ w → i < w → a ≡ x → m ≡ getD area (a * w + i) 0 →
+    after ≡ set z i (bitOr (getD z i 0) m) → joinRest (i + 1) after (lane x w area) ≡ joinRest i z (lane x w area)
+lane-step w area z after x i a m room l h e read s =
+    let y : List ℕ = lane x w area in
+    let v : m ≡ getD y i 0 = read ∙ ap (λ (k : ℕ). getD area (k * w + i) 0) e ∙ sym (lane-getD x w area i h) in
+    ap (λ (z : List ℕ). joinRest (i + 1) z y) (s ∙ ap (λ (d : ℕ). set z i (bitOr (getD z i 0) d)) v) ∙ join-step i z y (omega arith) (omega (arith, lane-length x w area room))
+
+-- When all w are joined, so are the bits
+pub lane-joined : (k w : ℕ) (area z z₀ : List ℕ) (x i : ℕ) → x * w + w ≤ length area → length z₀ ≡ w → w ≤ i → joinRest i z (lane x w area) ≡ joinWords z₀ (lane x w area) →
+    bitsIn k z ≡ either (bitsIn k (lane x w area)) (bitsIn k z₀)
+lane-joined k w area z z₀ x i room l h e =
+    let y : List ℕ = lane x w area in
+    let long : length y ≡ w = lane-length x w area room in
+    ap (bitsIn k) (sym (join-end i z y (omega arith)) ∙ e) ∙ bits-join k z₀ y (l ∙ sym long) ∙ either-comm (bitsIn k z₀) (bitsIn k y)
 
 -- ---- ranges of bits
 
@@ -62,13 +85,14 @@ map-set f g a (suc n) (suc j) h t s =
     ap (λ (b : Bool). b ∷ set (map f (from (suc a) n)) j true) (s a (λ q. omega arith))
     ∙ ap (λ (l : List Bool). g a ∷ l) (map-set f g (suc a) n j (omega arith) (ap g (sym e) ∙ t) (λ k q. s k (λ p. q (p ∙ e))))
 
-pub range-none : (low : ℕ) → bitsIn (replicate 16 0) ≡ rangeBits low low
-unfolding bitsIn bitsOf rangeBits upto
-range-none low = sym (map-none (within (low, low)) 0 128 (none-within low))
-
-pub range-next : (low i : ℕ) → low ≤ i → i < 128 → set (rangeBits low i) i true ≡ rangeBits low (i + 1)
+-- Words of zeros, as many as hold a cover
+pub range-none : (k n low : ℕ) → n * k ≡ coverRoom → bitsIn k (replicate n 0) ≡ rangeBits low low
 unfolding rangeBits upto
-range-next low i p h = map-set (within (low, i)) (within (low, i + 1)) 0 128 i h (within-in low (i + 1) (0 + i) (omega arith) (omega arith)) same
+range-none k n low e = bits-in-zeros k n ∙ ap (λ (m : ℕ). replicate m false) e ∙ sym (map-none (within (low, low)) 0 coverRoom (none-within low))
+
+pub range-next : (low i : ℕ) → low ≤ i → i < coverRoom → set (rangeBits low i) i true ≡ rangeBits low (i + 1)
+unfolding rangeBits upto
+range-next low i p h = map-set (within (low, i)) (within (low, i + 1)) 0 coverRoom i h (within-in low (i + 1) (0 + i) (omega arith) (omega arith)) same
   where
     go : (k : ℕ) → (k ≡ 0 + i → ⊥) → (k < i) ⊎ ((k ≡ i) ⊎ (i < k)) → (k < low) ⊎ (low ≤ k) → within (low, i) k ≡ within (low, i + 1) k
     go k ne (inl q) (inl u) = rw (within-before low i k u, within-before low (i + 1) k u)
@@ -79,9 +103,10 @@ range-next low i p h = map-set (within (low, i)) (within (low, i + 1)) 0 128 i h
     same : (k : ℕ) → (k ≡ 0 + i → ⊥) → within (low, i) k ≡ within (low, i + 1) k
     same k ne = go k ne (lt-eq-gt k i) (lt-or-le k low)
 
--- A turn: bit i set, by its byte and its place there
-pub bit-next : (z : List ℕ) (low i : ℕ) → length z ≡ 16 → low ≤ i → i < 128 → bitsIn z ≡ rangeBits low i →
-    bitsIn (set z (i / 8) (bitOr (getD z (i / 8) 0) (2 ^ (i % 8)))) ≡ rangeBits low (i + 1)
-bit-next z low i l p h e =
-    let f : 8 * (i / 8) + i % 8 ≡ i = omega arith in
-    bits-in-set z (i / 8) (i % 8) (omega arith) (omega arith) ∙ ap (λ (k : ℕ). set (bitsIn z) k true) f ∙ ap (λ (l : List Bool). set l i true) e ∙ range-next low i p h
+-- A turn: bit i set, by its word and its place there
+pub bit-next : (k : ℕ) (z after : List ℕ) (low i m : ℕ) → 0 < k → i / k < length z → low ≤ i → i < coverRoom → m ≡ 2 ^ (i % k) →
+    after ≡ set z (i / k) (bitOr (getD z (i / k) 0) m) → bitsIn k z ≡ rangeBits low i → bitsIn k after ≡ rangeBits low (i + 1)
+bit-next k z after low i m some l p h v s e =
+    ap (bitsIn k) (s ∙ ap (λ (d : ℕ). set z (i / k) (bitOr (getD z (i / k) 0) d)) v)
+    ∙ bits-in-set k z (i / k) (i % k) l (mod-lt i some) ∙ ap (λ (j : ℕ). set (bitsIn k z) j true) (div-add-mod' i k)
+    ∙ ap (λ (l : List Bool). set l i true) e ∙ range-next low i p h

@@ -1,54 +1,49 @@
 -- A run's cover written and weighed, the last run first, gives the weights of the definition. Assumes nothing.
-use mathlib.Core.Path.{_≡_, refl, sym, ap, _∙_}
+use mathlib.Core.Path.{_≡_, sym, ap, _∙_}
 use mathlib.Core.Bool.{Bool, true}
 use mathlib.Core.List.{List, map}
 use Prim.Native.Nat.{ℕ, zero, suc, _+_, _-_, _*_, _/_, _^_, _≤_, _<_}
 use native.Mathlib.Omega.{arith}
 use native.Mathlib.Nat.{div-lt-iff-lt-mul, mul-le-mul-right, le-of-eq, le-trans}
-use lib.ListN.{length, getD, take, drop, length-take, length-drop, List·getD-map}
+use lib.ListN.{length, getD, take, drop, length-take, List·getD-map}
 use lib.Seq.{paste, length-paste, drop-paste, drop-drop, getD-take}
 use lib.Ieee.Nearest.{div-mono}
 use Rattle.lists.specs.Lists.{mem, ceil}
 use Rattle.lists.specs.Areas.{part}
 use Rattle.model.specs.Cover.{perBit, weights}
 use Rattle.tables.specs.Lanes.{lane}
-use Rattle.tables.specs.Bytes.{bitsIn, coverAt, rangeBits, joinOf, offset, offsets, runBits, Inside, Covered, Weighable}
-use Rattle.tables.proofs.Laning.{lane-stored}
+use Rattle.tables.specs.Covers.{wordBits, coverRoom, coverWords, bitsIn, coverAt, rangeBits, joinOf, offset, offsets, runBits, Inside, Covered, Weighable}
+use Rattle.tables.proofs.Laning.{lane-before, lane-stored}
 use Rattle.tables.proofs.Bits.{bits-in-length}
 
--- ---- a run's sixteen bytes in the area
+-- ---- a run's words in the area
 
-pub lent-length : (covers : List ℕ) (r : ℕ) → r * 16 + 16 ≤ length covers → length (take (r * 16 + 16 - r * 16) (drop (r * 16) covers)) ≡ 16
-lent-length covers r h = length-take (r * 16 + 16 - r * 16) (drop (r * 16) covers) ∙ omega (arith, length-drop (r * 16) covers)
-
-pub cover-lent : (covers : List ℕ) (r : ℕ) → bitsIn (take (r * 16 + 16 - r * 16) (drop (r * 16) covers)) ≡ coverAt covers r
-unfolding coverAt lane part
-cover-lent covers r = refl
-
-pub cover-short : (covers : List ℕ) (r : ℕ) → length (coverAt covers r) ≤ 128
+pub cover-short : (covers : List ℕ) (r : ℕ) → length (coverAt covers r) ≤ coverRoom
 unfolding coverAt lane part
 cover-short covers r =
-    let l : List ℕ = take (r * 16 + 16 - r * 16) (drop (r * 16) covers) in
-    let e : length l ≤ 16 = omega (arith, length-take (r * 16 + 16 - r * 16) (drop (r * 16) covers)) in
-    omega (arith, bits-in-length l)
+    let l : List ℕ = take (r * coverWords + coverWords - r * coverWords) (drop (r * coverWords) covers) in
+    let e : length l ≤ coverWords = omega (arith, length-take (r * coverWords + coverWords - r * coverWords) (drop (r * coverWords) covers)) in
+    omega (arith, bits-in-length wordBits l)
 
-later-kept : (covers z : List ℕ) (r x : ℕ) → length z ≡ 16 → r * 16 + 16 ≤ length covers → r < x → lane x 16 (paste covers (r * 16) z 16) ≡ lane x 16 covers
+-- Storing w words keeps those that lie later
+later-kept : (w : ℕ) (covers z : List ℕ) (r x : ℕ) → length z ≡ w → r * w + w ≤ length covers → r < x → lane x w (paste covers (r * w) z w) ≡ lane x w covers
 unfolding lane part
-later-kept covers z r x l h g =
-    let k : ℕ = x * 16 - (r * 16 + 16) in
-    let f : r * 16 + 16 + k ≡ x * 16 = omega arith in
-    let both : (a : List ℕ) → drop k (drop (r * 16 + 16) a) ≡ drop (x * 16) a = λ a. drop-drop k (r * 16 + 16) a ∙ ap (λ (i : ℕ). drop i a) f in
-    ap (take (x * 16 + 16 - x * 16)) (sym (both (paste covers (r * 16) z 16)) ∙ ap (drop k) (drop-paste covers (r * 16) z 16 (omega arith) (omega arith)) ∙ both covers)
+later-kept w covers z r x l h g =
+    let k : ℕ = x * w - (r * w + w) in
+    let f : r * w + w + k ≡ x * w = omega (arith, lane-before r x w g) in
+    let both : (a : List ℕ) → drop k (drop (r * w + w) a) ≡ drop (x * w) a = λ a. drop-drop k (r * w + w) a ∙ ap (λ (i : ℕ). drop i a) f in
+    ap (take (x * w + w - x * w)) (sym (both (paste covers (r * w) z w)) ∙ ap (drop k) (drop-paste covers (r * w) z w (omega arith) (omega arith)) ∙ both covers)
 
--- The bytes stored from its place on are run r's cover, and later runs' are kept
-pub cover-stored : (covers z : List ℕ) (r : ℕ) (bits : List Bool) (after : List ℕ) → length z ≡ 16 → r * 16 + 16 ≤ length covers → bitsIn z ≡ bits →
-    after ≡ paste covers (r * 16) z (length z) → Covered r bits after covers
+-- The words stored from its place on are run r's cover, and later runs' are kept
+pub cover-stored : (covers z : List ℕ) (r : ℕ) (bits : List Bool) (after : List ℕ) → length z ≡ coverWords → r * coverWords + coverWords ≤ length covers → bitsIn wordBits z ≡ bits →
+    after ≡ paste covers (r * coverWords) z (length z) → Covered r bits after covers
 unfolding coverAt
 cover-stored covers z r bits after l h e s =
-    let t : after ≡ paste covers (r * 16) z 16 = s ∙ ap (paste covers (r * 16) z) l in record {
-      size = ap (λ (a : List ℕ). length a) t ∙ length-paste covers (r * 16) z 16 h (omega arith);
-      own = ap (λ (a : List ℕ). bitsIn (lane r 16 a)) t ∙ ap bitsIn (lane-stored r 16 covers z h l) ∙ e;
-      later = λ x g. ap (λ (a : List ℕ). bitsIn (lane x 16 a)) t ∙ ap bitsIn (later-kept covers z r x l h g);
+    let w : ℕ = coverWords in
+    let t : after ≡ paste covers (r * w) z w = s ∙ ap (paste covers (r * w) z) l in record {
+      size = ap (λ (a : List ℕ). length a) t ∙ length-paste covers (r * w) z w h (omega arith);
+      own = ap (λ (a : List ℕ). bitsIn wordBits (lane r w a)) t ∙ ap (bitsIn wordBits) (lane-stored r w covers z h l) ∙ e;
+      later = λ x g. ap (λ (a : List ℕ). bitsIn wordBits (lane x w a)) t ∙ ap (bitsIn wordBits) (later-kept w covers z r x l h g);
     }
 
 -- ---- a run's own bits lie below bit 127
@@ -93,9 +88,9 @@ offset-is starts n r h =
 
 -- ---- what weighing a run needs, and what it gives
 
-pub weigh-ready : (starts begins children covers : List ℕ) (n r per a b high s e : ℕ) → Weighable starts begins children n → r < n → n * 16 ≤ length covers → per ≡ perBit (offset starts n) →
+pub weigh-ready : (starts begins children covers : List ℕ) (n r per a b high s e : ℕ) → Weighable starts begins children n → r < n → n * coverWords ≤ length covers → per ≡ perBit (offset starts n) →
     a ≡ offset starts r → b ≡ offset starts (r + 1) → high ≡ ceil b per → s ≡ getD begins r 0 → e ≡ getD begins (r + 1) 0 →
-    (a / per ≤ high) × (high ≤ 127) × (r < 512) × (r * 16 + 16 ≤ length covers) × Inside covers (take (e - s) (drop s children))
+    (a / per ≤ high) × (high ≤ 127) × (r < 512) × (r * coverWords + coverWords ≤ length covers) × Inside covers (take (e - s) (drop s children))
 unfolding Inside part
 weigh-ready starts begins children covers n r per a b high s e w h room p ae be he se ee =
     let few : n ≤ 512 = w .few in

@@ -16,7 +16,7 @@ use Rattle.lists.proofs.Counts.{mem-from}
 use Rattle.model.specs.History.{at}
 use Rattle.model.specs.Cover.{perBit, ownBits, coversFrom, weights}
 use Rattle.tables.specs.Tables.{Children, childrenOf}
-use Rattle.tables.specs.Bytes.{coverAt, rangeBits, joinOf, offset, offsets, runBits, Covered, Weighable, Weighted}
+use Rattle.tables.specs.Covers.{coverRoom, coverAt, rangeBits, joinOf, offset, offsets, runBits, Covered, Weighable, Weighted}
 use Rattle.tables.proofs.Joins.{join-same, take-join, get-join, count-take, own-take, own-top}
 use Rattle.tables.proofs.Covering.{cover-is}
 use Rattle.tables.proofs.Weighing.{cover-short, high-low, offset-rise, offset-is}
@@ -71,11 +71,13 @@ unfolding runBits
 turn-top starts begins children n r covers w h later =
     let per : ℕ = perBit (offset starts n) in
     get-join 127 (rangeBits (offset starts r / per) (ceil (offset starts (r + 1)) per)) (coverAt covers) (part (getD begins r 0) (getD begins (r + 1) 0) children)
-    (own-top (offset starts r / per) (ceil (offset starts (r + 1)) per) (high-low (offset starts (r + 1)) (offset starts n) (offset-rise starts begins children n (r + 1) n w (omega arith) (omega arith))))
+    (own-top (offset starts r / per) (ceil (offset starts (r + 1)) per)
+    (high-low (offset starts (r + 1)) (offset starts n) (offset-rise starts begins children n (r + 1) n w (omega arith) (omega arith))))
     (λ x m. let g = w .later r x h m in later x (g .0) (g .1))
 
 -- One run more
-pub weighed-turn : (starts begins children : List ℕ) (n q r per : ℕ) (ws covers wt after : List ℕ) → Weighable starts begins children n → q ≡ suc r → r < n → n ≤ length ws → per ≡ perBit (offset starts n) →
+pub weighed-turn : (starts begins children : List ℕ) (n q r per : ℕ) (ws covers wt after : List ℕ) → Weighable starts begins children n →
+    q ≡ suc r → r < n → n ≤ length ws → per ≡ perBit (offset starts n) →
     Weighed starts begins children n q ws covers → wt ≡ set ws r (count (λ b. b) (runBits starts per begins children covers r)) → Covered r (runBits starts per begins children covers r) after covers →
     Weighed starts begins children n r wt after
 weighed-turn starts begins children n q r per ws covers wt after w qe h long pe done we cov =
@@ -97,7 +99,7 @@ weighed-turn starts begins children n q r per ws covers wt after w qe h long pe 
     top-own : getD B 127 false ≡ false
     top-own = turn-top starts begins children n r covers w h (λ x g k. done .top x (omega arith) k)
 
-    short : length B ≤ 128
+    short : length B ≤ coverRoom
     short = let e : length (coverAt after r) ≡ length B = ap (λ (l : List Bool). length l) own in omega (arith, e, cover-short after r)
 
     bits : (pss : List (List ℕ)) → Parents pss begins children n → (x : ℕ) → r ≤ x → x < n → (x ≡ r) ⊎ (x ≡ r → ⊥) → take 127 (coverAt after x) ≡ getD (coversOf starts pss n) x []

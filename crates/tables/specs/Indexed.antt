@@ -3,6 +3,7 @@ use mathlib.Core.Path.{_≡_}
 use mathlib.Core.List.{List}
 use Prim.Native.Nat.{ℕ, zero, suc, _+_, _≤_, _<_, _^_}
 use lib.ListN.{getD}
+use Rattle.model.specs.Limits.{maxRuns}
 use Rattle.tables.specs.Tables.{sizeIn}
 
 -- The sum of f below n
@@ -37,9 +38,9 @@ pub record Scattered (begins chain place : List ℕ) (n : ℕ) : Type 0 where
 
 -- Chains whose members can be listed: lengths, and each run's chain and place
 pub record Indexable (n chains : ℕ) (lens chain place : List ℕ) : Type 0 where
-  pub few : n ≤ 512
+  pub few : n ≤ maxRuns
   pub counted : chains ≤ n
-  pub short : Bounded 512 lens
+  pub short : Bounded maxRuns lens
   pub scattered : (b : List ℕ) → Summed (λ i. getD lens i 0) chains b → Scattered b chain place n
 
 -- The members listed (b where each chain's begin, m), and their events summed (e)

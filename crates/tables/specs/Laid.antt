@@ -7,6 +7,7 @@ use lib.ListN.{length, getD, take, drop}
 use lib.Dec.{leb, ltb}
 use Rattle.lists.specs.Lists.{bit, all, mem, concat, filter}
 use Rattle.lists.specs.Areas.{over, fitting, groups, part}
+use Rattle.model.specs.Limits.{maxRuns}
 use Rattle.model.specs.History.{at, histories}
 use Rattle.model.specs.Range.{join, row, rowsFrom}
 use Rattle.tables.specs.Lanes.{lane}
@@ -43,7 +44,7 @@ grouped starts items n = groups (take (n + 1) starts) items
 
 -- Groups lie in the items, and every parent is below its run
 pub record Sound (starts items : List ℕ) (n : ℕ) : Type 0 where
-  pub few : n ≤ 512
+  pub few : n ≤ maxRuns
   pub long : n < length starts
   pub inside : (r : ℕ) → r < n → (getD starts r 0 ≤ getD starts (r + 1) 0) × (getD starts (r + 1) 0 ≤ length items)
   pub below : (r p : ℕ) → mem p (at (grouped starts items n) r) ≡ true → p < r

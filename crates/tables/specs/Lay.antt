@@ -6,6 +6,7 @@ use lib.ListN.{length, getD, set, replicate}
 use lib.Seq.{paste}
 use lib.Dec.{ltb, eqb}
 use Rattle.lists.specs.Areas.{part}
+use Rattle.model.specs.Limits.{maxRuns, maxStarts}
 use Rattle.tables.specs.Laid.{Chains}
 
 -- Elementwise the larger; past the end of the second, the first's own
@@ -36,7 +37,8 @@ spotFrom row lens c (suc k) = cond (eqb (getD row c 0) (getD lens c 0)) c (spotF
 -- What may be read of a parent p, for a row of w places
 abbrev pub Fine : ℕ → List ℕ → List ℕ → List ℕ → List ℕ → ℕ → Type 0
 Fine w area starts chain place p =
-    (getD starts p 0 ≤ getD starts (p + 1) 0) × (getD starts (p + 1) 0 ≤ length area) × (getD starts (p + 1) 0 - getD starts p 0 ≤ w) × (getD chain p 0 < w) × (getD place p 0 < 512) × (p < 512)
+    (getD starts p 0 ≤ getD starts (p + 1) 0) × (getD starts (p + 1) 0 ≤ length area) × (getD starts (p + 1) 0 - getD starts p 0 ≤ w) × (getD chain p 0 < w) ×
+    (getD place p 0 < maxRuns) × (p < maxRuns)
 
 abbrev pub FineAll : ℕ → List ℕ → List ℕ → List ℕ → List ℕ → List ℕ → Type 0
 FineAll w area starts chain place ps = (i : ℕ) → i < length ps → Fine w area starts chain place (getD ps i 0)
@@ -44,7 +46,8 @@ FineAll w area starts chain place ps = (i : ℕ) → i < length ps → Fine w ar
 -- What a run needs to be laid, its row made in w places
 abbrev pub Safe : ℕ → List ℕ → Chains → ℕ → List ℕ → Type 0
 Safe w area st r ps =
-    (w ≤ 513) × (r + 1 < w) × (st .count ≤ r) × (st .used ≤ length area) × (st .used ≤ 512 * r) × ((c : ℕ) → getD (st .lens) c 0 ≤ 512) × FineAll w area (st .starts) (st .chain) (st .place) ps
+    (w ≤ maxStarts) × (r + 1 < w) × (st .count ≤ r) × (st .used ≤ length area) × (st .used ≤ maxRuns * r) × ((c : ℕ) → getD (st .lens) c 0 ≤ maxRuns) × FineAll w area (st .starts)
+    (st .chain) (st .place) ps
 
 -- A row found no room
 abbrev pub shortOf : Chains → Chains

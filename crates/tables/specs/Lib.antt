@@ -10,4 +10,4 @@ pub mod Reached
 pub mod Gaps
 pub mod Sizes
 pub mod Counted
-pub mod Bytes
+pub mod Covers

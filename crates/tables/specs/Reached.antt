@@ -5,6 +5,7 @@ use mathlib.Core.List.{List}
 use Prim.Native.Nat.{ℕ, zero, suc, _+_, _<_}
 use lib.ListN.{getD}
 use lib.Dec.{eqb}
+use Rattle.model.specs.Limits.{maxRuns}
 
 -- How far along chain c the first k runs reach: past the place of the last of them on it
 unfoldable pub started : List ℕ → List ℕ → ℕ → ℕ → ℕ
@@ -22,4 +23,4 @@ Holds f n l = (c : ℕ) → c < n → getD l c 0 ≡ f c
 -- The first `known` runs stand on one of n chains, at places below 512
 pub record Standing (chain place : List ℕ) (n known : ℕ) : Type 0 where
   pub chains : (r : ℕ) → r < known → getD chain r 0 < n
-  pub places : (r : ℕ) → r < known → getD place r 0 < 512
+  pub places : (r : ℕ) → r < known → getD place r 0 < maxRuns

@@ -1,18 +1,18 @@
 -- What the other tables of a range hold: members and sums, children, weights, versions. Assumes nothing.
 use mathlib.Core.Path.{_≡_}
-use mathlib.Core.Bool.{true}
 use mathlib.Core.List.{List}
-use Prim.Native.Nat.{ℕ, zero, suc, _+_, _-_, _*_, _≤_, _<_, _^_}
+use Prim.Native.Nat.{ℕ, _+_, _-_, _≤_, _<_, _^_}
 use lib.ListN.{length, getD, take}
 use Rattle.lists.specs.Lists.{filter, sum, upto, mem, count}
 use Rattle.lists.specs.Areas.{part}
+use Rattle.model.specs.Limits.{maxRuns}
 use Rattle.model.specs.History.{at}
 
 -- The members of chains C, one chain after another: where each chain's begin, and the members
 pub record Listed (C : List (List ℕ)) (begins members : List ℕ) : Type 0 where
   pub member : (c i : ℕ) → c < length C → i < length (at C c) → getD members (getD begins c 0 + i) 0 ≡ getD (at C c) i 0
   pub fits : (c : ℕ) → c < length C → getD begins c 0 + length (at C c) ≤ length members
-  pub small : (i : ℕ) → getD members i 0 < 512
+  pub small : (i : ℕ) → getD members i 0 < maxRuns
   pub low : (c : ℕ) → getD begins c 0 ≤ 2 ^ 18
 
 -- Prefix sums along the members: the events of run m are size m

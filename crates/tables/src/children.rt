@@ -2,6 +2,7 @@
 ghost use mathlib.Core.Path.{_≡_};
 ghost use Prim.Native.Nat.{ℕ, _+_, _<_, _≤_, _^_};
 ghost use lib.ListN.{length, getD};
+ghost use Rattle.model.specs.Limits.{maxRuns};
 ghost use Rattle.tables.specs.Laid.{grouped, Sound};
 ghost use Rattle.tables.specs.Indexed.{Summed};
 ghost use Rattle.tables.specs.Counted.{tally, Counted, Countable, Placeable, Kids, putAll};
@@ -42,7 +43,7 @@ fn count_all<'a>(starts: &mut [u32], heads: &'a [u32], items: &'a [u32], n: usiz
 
 // Each place the sum of those up to it.
 fn sum_up(starts: &mut [u32], n: usize)
-    requires { ⌜ (n ≤ 512) × (n < length (now starts)) × (getD (now starts) 0 0 ≡ 0) × ((k : ℕ) → getD (now starts) k 0 ≤ 2 ^ 20) ⌝ }
+    requires { ⌜ (n ≤ maxRuns) × (n < length (now starts)) × (getD (now starts) 0 0 ≡ 0) × ((k : ℕ) → getD (now starts) k 0 ≤ 2 ^ 20) ⌝ }
     ensures { λ _. ⌜ Summed (λ i. getD (now (starts .entry)) (i + 1) 0) n (now (starts .exit)) × (length (now (starts .exit)) ≡ length (now (starts .entry))) ⌝ }
 {
     let mut k = 0;
@@ -63,7 +64,7 @@ pub fn starts_of<'a>(starts: &mut [u32], heads: &'a [u32], items: &'a [u32], n: 
 
 // Run r put among the children of each of its parents.
 fn put_child(children: &mut [u32], next: &mut [u32], ps: &[u32], r: usize)
-    requires { ⌜ (r < 512) × (length (now children) ≤ 2 ^ 20) × Placeable (now ps) (now next, now children) ⌝ }
+    requires { ⌜ (r < maxRuns) × (length (now children) ≤ 2 ^ 20) × Placeable (now ps) (now next, now children) ⌝ }
     ensures { λ _. ⌜ (now (next .exit), now (children .exit)) ≡ putAll r (now (next .entry), now (children .entry)) (now (ps .entry)) ⌝ }
 {
     let mut i = 0;

@@ -1,75 +1,115 @@
-// Covers in sixteen bytes a run, and weights.
+// Covers in words, so many to a run, and weights.
 use crate::words::get;
 use crate::words::wide;
+use model::COVER_BITS;
 ghost use mathlib.Core.Path.{_≡_};
 ghost use Prim.Native.Nat.{_+_, _-_, _*_, _/_, _%_, _<_, _≤_, _^_};
 ghost use lib.ListN.{length, getD, set, replicate};
 ghost use lib.Seq.{paste};
 ghost use lib.Bits.{bitOr};
 ghost use Rattle.lists.specs.Lists.{count, ceil};
+ghost use Rattle.model.specs.Limits.{coverBits, maxRuns};
 ghost use Rattle.model.specs.Cover.{perBit, either};
-ghost use Rattle.tables.specs.Bytes.{bitsIn, coverAt, rangeBits, joinBytes, joinOf, offset, runBits, Inside, Covered, Weighable, Weighted};
+ghost use Rattle.tables.specs.Covers.{wordBits, coverWords, bitsOf, bitsIn, coverAt, rangeBits, joinOf, offset, runBits, Inside, Covered, Weighable, Weighted};
 
-fn set_bit(z: &mut [u8], i: usize)
-    requires { ⌜ i / 8 < length (now z) ⌝ }
-    ensures { λ _. ⌜ now (z .exit) ≡ set (now (z .entry)) (i / 8) (bitOr (getD (now (z .entry)) (i / 8) 0) (2 ^ (i % 8))) ⌝ }
+// A word of a cover, and its bits. How wide a word is stands here, in `ones_of` and in specs/Covers.antt, and nowhere else.
+pub type CoverWord = u8;
+
+const WORD_BITS: usize = 8;
+
+// The words of a run's cover: its bits, and one that is never set.
+pub const COVER_WORDS: usize = (COVER_BITS + 1) / WORD_BITS;
+
+// How many bits of a word are set.
+fn ones_of(x: CoverWord) -> u32
+    ensures { λ r. ⌜ (r ≡ count (λ b. b) (bitsOf wordBits x)) × (r ≤ wordBits) ⌝ }
 {
-    let q = i / 8;
-    let r = i % 8;
-    z[q] = z[q] | (1u8 << r);
+    u8::count_ones(x)
 }
 
-// The bits from `low` up to `high`, in sixteen bytes of zeros.
-fn own_bits(z: &mut [u8], low: usize, high: usize)
-    requires { ⌜ (now z ≡ replicate 16 0) × (low ≤ high) × (high ≤ 127) ⌝ }
-    ensures { λ _. ⌜ bitsIn (now (z .exit)) ≡ rangeBits low high ⌝ }
+// A bit's place in its word, as a word.
+fn narrow(r: usize) -> CoverWord
+    requires { ⌜ r < wordBits ⌝ }
+    ensures { λ x. ⌜ x ≡ r ⌝ }
+{
+    r as CoverWord
+}
+
+// The word with the one bit r.
+fn bit(r: usize) -> CoverWord
+    requires { ⌜ r < wordBits ⌝ }
+    ensures { λ x. ⌜ x ≡ 2 ^ r ⌝ }
+{
+    1 << narrow(r)
+}
+
+// The i-th word.
+fn word(z: &[CoverWord], i: usize) -> CoverWord
+    requires { ⌜ i < length (now z) ⌝ }
+    ensures { λ x. ⌜ x ≡ getD (now (z .entry)) i 0 ⌝ }
+{
+    z[i]
+}
+
+// The i-th word set.
+fn put(z: &mut [CoverWord], i: usize, x: CoverWord)
+    requires { ⌜ i < length (now z) ⌝ }
+    ensures { λ _. ⌜ now (z .exit) ≡ set (now (z .entry)) i x ⌝ }
+{
+    z[i] = x;
+}
+
+// The i-th word joined with x.
+fn join_word(z: &mut [CoverWord], i: usize, x: CoverWord)
+    requires { ⌜ i < length (now z) ⌝ }
+    ensures { λ _. ⌜ now (z .exit) ≡ set (now (z .entry)) i (bitOr (getD (now (z .entry)) i 0) x) ⌝ }
+{
+    z[i] = z[i] | x;
+}
+
+// The bits from `low` up to `high`, in a run's words of zeros.
+fn own_bits(z: &mut [CoverWord], low: usize, high: usize)
+    requires { ⌜ (now z ≡ replicate coverWords 0) × (low ≤ high) × (high ≤ coverBits) ⌝ }
+    ensures { λ _. ⌜ bitsIn wordBits (now (z .exit)) ≡ rangeBits low high ⌝ }
 {
     let mut i = low;
     while i < high {
-        set_bit(z, i);
+        join_word(z, i / WORD_BITS, bit(i % WORD_BITS));
         i += 1;
     }
 }
 
-// The bytes of `y` into those of `z`.
-fn join(z: &mut [u8], y: &[u8])
-    requires { ⌜ length (now y) ≤ length (now z) ⌝ }
-    ensures { λ _. ⌜ now (z .exit) ≡ joinBytes (now (z .entry)) (now (y .entry)) ⌝ }
-{
-    let mut i = 0;
-    while i < y.len() {
-        z[i] = z[i] | y[i];
-        i += 1;
-    }
-}
-
-fn count_bits(y: &[u8]) -> u32
+// How many bits of words are set.
+fn count_bits(y: &[CoverWord]) -> u32
     requires { ⌜ length (now y) ≤ 4096 ⌝ }
-    ensures { λ r. ⌜ r ≡ count (λ b. b) (bitsIn (now (y .entry))) ⌝ }
+    ensures { λ r. ⌜ r ≡ count (λ b. b) (bitsIn wordBits (now (y .entry))) ⌝ }
 {
     let mut sum: u32 = 0;
     let mut i = 0;
     while i < y.len() {
-        sum += u8::count_ones(y[i]);
+        sum += ones_of(word(y, i));
         i += 1;
     }
     sum
 }
 
-// A run's cover into sixteen bytes.
-fn join_run(z: &mut [u8], covers: &[u8], x: u32)
-    requires { ⌜ (length (now z) ≡ 16) × (x * 16 + 16 ≤ length (now covers)) ⌝ }
-    ensures { λ _. ⌜ bitsIn (now (z .exit)) ≡ either (coverAt (now (covers .entry)) x) (bitsIn (now (z .entry))) ⌝ }
+// A run's cover into another's words.
+fn join_run(z: &mut [CoverWord], covers: &[CoverWord], x: u32)
+    requires { ⌜ (length (now z) ≡ coverWords) × (x * coverWords + coverWords ≤ length (now covers)) ⌝ }
+    ensures { λ _. ⌜ bitsIn wordBits (now (z .exit)) ≡ either (coverAt (now (covers .entry)) x) (bitsIn wordBits (now (z .entry))) ⌝ }
 {
-    let a = wide(x) * 16;
-    let e = a + 16;
-    join(z, &covers[a..e]);
+    let a = wide(x) * COVER_WORDS;
+    let mut i = 0;
+    while i < COVER_WORDS {
+        join_word(z, i, word(covers, a + i));
+        i += 1;
+    }
 }
 
 // The covers of a run's children into its own.
-fn join_children(z: &mut [u8], covers: &[u8], children: &[u32])
-    requires { ⌜ (length (now z) ≡ 16) × Inside (now covers) (now children) ⌝ }
-    ensures { λ _. ⌜ bitsIn (now (z .exit)) ≡ joinOf (bitsIn (now (z .entry))) (coverAt (now (covers .entry))) (now (children .entry)) ⌝ }
+fn join_children(z: &mut [CoverWord], covers: &[CoverWord], children: &[u32])
+    requires { ⌜ (length (now z) ≡ coverWords) × Inside (now covers) (now children) ⌝ }
+    ensures { λ _. ⌜ bitsIn wordBits (now (z .exit)) ≡ joinOf (bitsIn wordBits (now (z .entry))) (coverAt (now (covers .entry))) (now (children .entry)) ⌝ }
 {
     let mut i = 0;
     while i < children.len() {
@@ -78,13 +118,14 @@ fn join_children(z: &mut [u8], covers: &[u8], children: &[u32])
     }
 }
 
-fn store_cover(covers: &mut [u8], at: usize, z: &[u8])
+// Words stored from `at` on.
+fn store_cover(covers: &mut [CoverWord], at: usize, z: &[CoverWord])
     requires { ⌜ at + length (now z) ≤ length (now covers) ⌝ }
     ensures { λ _. ⌜ now (covers .exit) ≡ paste (now (covers .entry)) at (now (z .entry)) (length (now (z .entry))) ⌝ }
 {
     let mut i = 0;
     while i < z.len() {
-        covers[at + i] = z[i];
+        put(covers, at + i, word(z, i));
         i += 1;
     }
 }
@@ -102,7 +143,7 @@ fn per_bit(events: usize) -> usize
     requires { ⌜ events < 2 ^ 32 ⌝ }
     ensures { λ r. ⌜ r ≡ perBit events ⌝ }
 {
-    let k = div_up(events, 127);
+    let k = div_up(events, COVER_BITS);
     if k == 0 { 1 } else { k }
 }
 
@@ -116,22 +157,22 @@ fn offset_of(starts: &[u32], r: usize) -> usize
 }
 
 // Run r's cover, of the bits from `low` up to `high` and its children's, and its weight.
-fn weigh_run(covers: &mut [u8], low: usize, high: usize, r: usize, children: &[u32]) -> u32
-    requires { ⌜ (low ≤ high) × (high ≤ 127) × (r < 512) × (r * 16 + 16 ≤ length (now covers)) × Inside (now covers) (now children) ⌝ }
+fn weigh_run(covers: &mut [CoverWord], low: usize, high: usize, r: usize, children: &[u32]) -> u32
+    requires { ⌜ (low ≤ high) × (high ≤ coverBits) × (r < maxRuns) × (r * coverWords + coverWords ≤ length (now covers)) × Inside (now covers) (now children) ⌝ }
     ensures { λ w. ⌜ w ≡ count (λ b. b) (joinOf (rangeBits low high) (coverAt (now (covers .entry))) (now (children .entry))) ⌝ }
     ensures { λ w. ⌜ Covered r (joinOf (rangeBits low high) (coverAt (now (covers .entry))) (now (children .entry))) (now (covers .exit)) (now (covers .entry)) ⌝ }
 {
-    let mut z = [0u8; 16];
+    let mut z: [CoverWord; COVER_WORDS] = [0; COVER_WORDS];
     own_bits(&mut z, low, high);
     join_children(&mut z, covers, children);
-    store_cover(covers, r * 16, &z);
+    store_cover(covers, r * COVER_WORDS, &z);
     count_bits(&z)
 }
 
 // Run r's cover and weight, of a range of n runs.
 fn weigh<'a>(
     weights: &mut [u32],
-    covers: &mut [u8],
+    covers: &mut [CoverWord],
     starts: &[u32],
     per: usize,
     begins: &'a [u32],
@@ -139,7 +180,7 @@ fn weigh<'a>(
     n: usize,
     r: usize,
 )
-    requires { ⌜ (r < n) × (n ≤ length (now weights)) × (n * 16 ≤ length (now covers)) × (per ≡ perBit (offset (now starts) n)) × (per < 2 ^ 32) × Weighable
+    requires { ⌜ (r < n) × (n ≤ length (now weights)) × (n * coverWords ≤ length (now covers)) × (per ≡ perBit (offset (now starts) n)) × (per < 2 ^ 32) × Weighable
         (now starts) (now begins) (now children) n ⌝ }
     ensures { λ _. ⌜ now (weights .exit) ≡ set (now (weights .entry)) r
         (count (λ b. b) (runBits (now (starts .entry)) per (now (begins .entry)) (now (children .entry)) (now (covers .entry)) r)) ⌝ }
@@ -155,13 +196,13 @@ fn weigh<'a>(
 // The weights of n runs, the last first.
 pub fn weights_of<'a>(
     weights: &mut [u32],
-    covers: &mut [u8],
+    covers: &mut [CoverWord],
     starts: &[u32],
     begins: &'a [u32],
     children: &'a [u32],
     n: usize,
 )
-    requires { ⌜ (n ≤ length (now weights)) × (n * 16 ≤ length (now covers)) × Weighable (now starts) (now begins) (now children) n ⌝ }
+    requires { ⌜ (n ≤ length (now weights)) × (n * coverWords ≤ length (now covers)) × Weighable (now starts) (now begins) (now children) n ⌝ }
     ensures { λ _. ⌜ Weighted (now (starts .entry)) (now (begins .entry)) (now (children .entry)) n (now (weights .exit)) ⌝ }
 {
     let per = per_bit(offset_of(starts, n));

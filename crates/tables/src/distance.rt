@@ -2,6 +2,7 @@
 ghost use mathlib.Core.Path.{_≡_};
 ghost use Prim.Native.Nat.{_+_, _-_, _≤_, _^_};
 ghost use lib.ListN.{length, getD};
+ghost use Rattle.model.specs.Limits.{maxRuns};
 ghost use Rattle.tables.specs.Gaps.{gapAt, gapsFrom};
 ghost use Rattle.tables.specs.Sizes.{Bounded, Within, shareAt, eventsFrom, Inside, Sized};
 use crate::words::get;
@@ -42,7 +43,7 @@ pub fn distance<'a>(
     n: usize,
     limit: u64,
 ) -> u64
-    requires { ⌜ (n ≤ 512) × Bounded (2 ^ 41) (now before) ⌝ }
+    requires { ⌜ (n ≤ maxRuns) × Bounded (2 ^ 41) (now before) ⌝ }
     ensures { λ r. ⌜ Within limit (gapsFrom (now (before .entry)) (now (begins .entry)) (now (current .entry)) (now (row .entry)) 0 n) r × (r ≤ 2 ^ 50) ⌝ }
 {
     let mut sum: u64 = 0;
@@ -70,7 +71,7 @@ fn share<'a>(before: &[u64], begins: &'a [u32], row: &[u32], c: usize) -> u64
 
 // The events of a version.
 pub fn events_of<'a>(before: &[u64], begins: &'a [u32], row: &[u32], n: usize) -> u64
-    requires { ⌜ (n ≤ 512) × Bounded (2 ^ 41) (now before) ⌝ }
+    requires { ⌜ (n ≤ maxRuns) × Bounded (2 ^ 41) (now before) ⌝ }
     ensures { λ r. ⌜ (r ≡ eventsFrom (now (before .entry)) (now (begins .entry)) (now (row .entry)) 0 n) × (r ≤ 2 ^ 50) ⌝ }
 {
     let mut sum: u64 = 0;
@@ -92,7 +93,7 @@ pub fn sizes_of<'a>(
     n: usize,
     chains: usize,
 )
-    requires { ⌜ (n ≤ 512) × (chains ≤ 512) × (n ≤ length (now sizes)) × Bounded (2 ^ 41) (now before) × Inside (now starts) (now rows) n ⌝ }
+    requires { ⌜ (n ≤ maxRuns) × (chains ≤ maxRuns) × (n ≤ length (now sizes)) × Bounded (2 ^ 41) (now before) × Inside (now starts) (now rows) n ⌝ }
     ensures { λ _. ⌜ (length (now (sizes .exit)) ≡ length (now (sizes .entry))) × Sized (now (before .entry)) (now (begins .entry)) (now (starts .entry)) (now (rows .entry))
         chains n (now (sizes .exit)) ⌝ }
 {

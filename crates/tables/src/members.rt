@@ -2,6 +2,7 @@
 ghost use mathlib.Core.Path.{_≡_};
 ghost use Prim.Native.Nat.{_+_, _≤_, _<_, _^_};
 ghost use lib.ListN.{length, getD};
+ghost use Rattle.model.specs.Limits.{maxRuns};
 ghost use Rattle.tables.specs.Tables.{sizeIn};
 ghost use Rattle.tables.specs.Indexed.{Summed, Bounded, BoundedTo, Placed, pos, Scattered};
 use crate::words::clear;
@@ -11,7 +12,7 @@ use crate::words::wide;
 
 // Where the members of each of n chains begin.
 pub fn begins_of(begins: &mut [u32], lens: &[u32], n: usize)
-    requires { ⌜ (n ≤ 512) × (n < length (now begins)) × Bounded 512 (now lens) ⌝ }
+    requires { ⌜ (n ≤ maxRuns) × (n < length (now begins)) × Bounded maxRuns (now lens) ⌝ }
     ensures { λ _. ⌜ Summed (λ i. getD (now (lens .entry)) i 0) n (now (begins .exit)) × Bounded (2 ^ 18) (now (begins .exit)) ×
         (length (now (begins .exit)) ≡ length (now (begins .entry))) ⌝ }
 {
@@ -41,7 +42,7 @@ pub fn members_of<'a>(
     place: &'a [u32],
     n: usize,
 )
-    requires { ⌜ (n ≤ 512) × (n ≤ length (now members)) × Scattered (now begins) (now chain) (now place) n ⌝ }
+    requires { ⌜ (n ≤ maxRuns) × (n ≤ length (now members)) × Scattered (now begins) (now chain) (now place) n ⌝ }
     ensures { λ _. ⌜ Placed (pos (now (begins .entry)) (now (chain .entry)) (now (place .entry))) n (now (members .exit)) × Bounded 511 (now (members .exit)) ×
         (length (now (members .exit)) ≡ length (now (members .entry))) ⌝ }
 {
@@ -66,7 +67,7 @@ pub fn size_of(starts: &[u32], m: usize) -> u32
 
 // The events of the first members.
 pub fn sums_of(before: &mut [u64], members: &[u32], starts: &[u32], n: usize)
-    requires { ⌜ (n ≤ 512) × (n < length (now before)) ⌝ }
+    requires { ⌜ (n ≤ maxRuns) × (n < length (now before)) ⌝ }
     ensures { λ _. ⌜ Summed (λ i. sizeIn (now (starts .entry)) (getD (now (members .entry)) i 0)) n (now (before .exit)) × BoundedTo n (2 ^ 41) (now (before .exit)) ×
         (length (now (before .exit)) ≡ length (now (before .entry))) ⌝ }
 {

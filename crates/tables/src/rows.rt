@@ -2,6 +2,7 @@
 ghost use mathlib.Core.Path.{_≡_};
 ghost use Prim.Native.Nat.{_+_, _*_, _<_, _≤_, _^_, max};
 ghost use lib.ListN.{length, getD};
+ghost use Rattle.model.specs.Limits.{maxRuns, maxStarts};
 ghost use Rattle.tables.specs.Lay.{joinOf, raised, joinParent, joinAll, spotFrom, Fine, FineAll, Safe, placeIn, layOf};
 ghost use Rattle.tables.specs.Laid.{grouped, Sound, chainsOf, LaidOut};
 use crate::words::clear;
@@ -98,7 +99,7 @@ pub struct Area {
 // Run r put on chain k, its row ending at `used`. The tables are four lists of w words: where each run's row starts, each
 // run's chain and place along it, each chain's length.
 fn place(tables: &mut [u32], w: usize, r: usize, k: usize, used: usize)
-    requires { ⌜ (w ≤ 513) × (r + 1 < w) × (k < w) × (used < 2 ^ 32) × (4 * w ≤ length (now tables)) × (getD (now tables) (3 * w + k) 0 ≤ 512) ⌝ }
+    requires { ⌜ (w ≤ maxStarts) × (r + 1 < w) × (k < w) × (used < 2 ^ 32) × (4 * w ≤ length (now tables)) × (getD (now tables) (3 * w + k) 0 ≤ maxRuns) ⌝ }
     ensures { λ _. ⌜ now (tables .exit) ≡ placeIn (now (tables .entry)) w r k used ⌝ }
 {
     let len = tables[3 * w + k];

@@ -4,15 +4,17 @@
 ghost use mathlib.Core.Path.{_≡_};
 ghost use Prim.Native.Nat.{_+_, _*_, _≤_, _^_};
 ghost use lib.ListN.{length, getD, take};
+ghost use Rattle.model.specs.Limits.{maxRuns};
 ghost use Rattle.tables.specs.Lanes.{lane, Kept};
 ghost use Rattle.tables.specs.Laid.{shares, grouped, headsIn, itemsIn, Sound, RangeLaid};
 ghost use Rattle.tables.specs.Counted.{KidsTabled};
 ghost use Rattle.tables.specs.Tables.{sizeIn};
 ghost use Rattle.tables.specs.Indexed.{Summed, Bounded, BoundedTo, Placed, pos, Scattered, Indexable, IndexOf};
-ghost use Rattle.tables.specs.Bytes.{Weighable, Weighted};
+ghost use Rattle.tables.specs.Covers.{coverWords, Weighable, Weighted};
 ghost use Rattle.tables.specs.Sizes.{Inside, Sized};
 use crate::children;
 use crate::covers;
+use crate::covers::CoverWord;
 use crate::distance;
 use crate::groups;
 use crate::members;
@@ -53,7 +55,7 @@ pub fn lay<'a>(
 
 // Where each chain's members begin.
 fn list_begins(n: usize, chains: usize, tables: &mut [u32], scratch: &mut [u32])
-    requires { ⌜ (n ≤ 512) × (chains ≤ n) × (6 * (n + 1) ≤ length (now tables)) × (n + 1 ≤ length (now scratch)) × Bounded 512 (lane 3 (n + 1) (now tables)) ⌝ }
+    requires { ⌜ (n ≤ maxRuns) × (chains ≤ n) × (6 * (n + 1) ≤ length (now tables)) × (n + 1 ≤ length (now scratch)) × Bounded maxRuns (lane 3 (n + 1) (now tables)) ⌝ }
     ensures { λ _. ⌜ Summed (λ i. getD (lane 3 (n + 1) (now (tables .entry))) i 0) chains (lane 4 (n + 1) (now (tables .exit))) × Bounded (2 ^ 18)
         (lane 4 (n + 1) (now (tables .exit))) × Kept 4 (n + 1) (now (tables .exit)) (now (tables .entry)) × (length (now (scratch .exit)) ≡ length (now (scratch .entry))) ⌝ }
 {
@@ -66,7 +68,7 @@ fn list_begins(n: usize, chains: usize, tables: &mut [u32], scratch: &mut [u32])
 
 // The members.
 fn list_members(n: usize, tables: &mut [u32], scratch: &mut [u32])
-    requires { ⌜ (n ≤ 512) × (6 * (n + 1) ≤ length (now tables)) × (n + 1 ≤ length (now scratch)) × Scattered (lane 4 (n + 1) (now tables)) (lane 1 (n + 1) (now tables))
+    requires { ⌜ (n ≤ maxRuns) × (6 * (n + 1) ≤ length (now tables)) × (n + 1 ≤ length (now scratch)) × Scattered (lane 4 (n + 1) (now tables)) (lane 1 (n + 1) (now tables))
         (lane 2 (n + 1) (now tables)) n ⌝ }
     ensures { λ _. ⌜ Placed (pos (lane 4 (n + 1) (now (tables .entry))) (lane 1 (n + 1) (now (tables .entry))) (lane 2 (n + 1) (now (tables .entry)))) n
         (lane 5 (n + 1) (now (tables .exit))) × Bounded 511 (lane 5 (n + 1) (now (tables .exit))) × Kept 5 (n + 1) (now (tables .exit)) (now (tables .entry)) ×
@@ -89,7 +91,7 @@ fn list_members(n: usize, tables: &mut [u32], scratch: &mut [u32])
 
 // The events of the first members.
 fn sum_events(starts: &[u32], n: usize, tables: &[u32], before: &mut [u64])
-    requires { ⌜ (n ≤ 512) × (6 * (n + 1) ≤ length (now tables)) × (n + 1 ≤ length (now before)) ⌝ }
+    requires { ⌜ (n ≤ maxRuns) × (6 * (n + 1) ≤ length (now tables)) × (n + 1 ≤ length (now before)) ⌝ }
     ensures { λ _. ⌜ Summed (λ i. sizeIn (now (starts .entry)) (getD (lane 5 (n + 1) (now (tables .entry))) i 0)) n (now (before .exit)) × BoundedTo n (2 ^ 41)
         (now (before .exit)) × (Bounded (2 ^ 41) (now (before .entry)) → Bounded (2 ^ 41) (now (before .exit))) × (length (now (before .exit)) ≡ length (now (before .entry))) ⌝ }
 {
@@ -147,10 +149,10 @@ pub fn weights(
     n: usize,
     tables: &mut [u32],
     children: &[u32],
-    covers: &mut [u8],
+    covers: &mut [CoverWord],
     scratch: &mut [u32],
 )
-    requires { ⌜ (8 * (n + 1) ≤ length (now tables)) × (n + 1 ≤ length (now scratch)) × (n * 16 ≤ length (now covers)) × Weighable (now starts)
+    requires { ⌜ (8 * (n + 1) ≤ length (now tables)) × (n + 1 ≤ length (now scratch)) × (n * coverWords ≤ length (now covers)) × Weighable (now starts)
         (lane 6 (n + 1) (now tables)) (now children) n ⌝ }
     ensures { λ _. ⌜ Weighted (now (starts .entry)) (lane 6 (n + 1) (now (tables .entry))) (now (children .entry)) n (lane 7 (n + 1) (now (tables .exit))) ⌝ }
     ensures { λ _. ⌜ Kept 7 (n + 1) (now (tables .exit)) (now (tables .entry)) ⌝ }
@@ -178,7 +180,7 @@ pub fn sizes(
     before: &[u64],
     sizes: &mut [u64],
 )
-    requires { ⌜ (n ≤ 512) × (chains ≤ 512) × (n ≤ length (now sizes)) × (n + 1 ≤ length (now before)) × (5 * (n + 1) ≤ length (now tables)) × Bounded (2 ^ 41)
+    requires { ⌜ (n ≤ maxRuns) × (chains ≤ maxRuns) × (n ≤ length (now sizes)) × (n + 1 ≤ length (now before)) × (5 * (n + 1) ≤ length (now tables)) × Bounded (2 ^ 41)
         (take (n + 1) (now before)) × Inside (lane 0 (n + 1) (now tables)) (now rows) n ⌝ }
     ensures { λ _. ⌜ (length (now (sizes .exit)) ≡ length (now (sizes .entry))) × Sized (take (n + 1) (now (before .entry))) (lane 4 (n + 1) (now (tables .entry)))
         (lane 0 (n + 1) (now (tables .entry))) (now (rows .entry)) chains n (now (sizes .exit)) ⌝ }

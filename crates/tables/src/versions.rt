@@ -1,7 +1,8 @@
 // Versions as how far along each chain they reach.
 ghost use mathlib.Core.Path.{_≡_};
-ghost use Prim.Native.Nat.{ℕ, _+_, _≤_, _<_};
+ghost use Prim.Native.Nat.{_+_, _≤_, _<_};
 ghost use lib.ListN.{length, getD};
+ghost use Rattle.model.specs.Limits.{maxRuns};
 ghost use Rattle.tables.specs.Reached.{started, arrived, Holds, Standing};
 use crate::words::get;
 use crate::words::wide;
@@ -50,7 +51,7 @@ fn copy_row(current: &mut [u32], row: &[u32], n: usize)
 
 // The version after a visit: the run's history, by its row, and the run, by its chain and place.
 pub fn arrive(current: &mut [u32], row: &[u32], n: usize, chain: usize, place: u32)
-    requires { ⌜ (n ≤ length (now current)) × (chain < n) × (place < 512) ⌝ }
+    requires { ⌜ (n ≤ length (now current)) × (chain < n) × (place < maxRuns) ⌝ }
     ensures { λ _. ⌜ Holds (arrived (now (row .entry)) chain place) n (now (current .exit)) × (length (now (current .exit)) ≡ length (now (current .entry))) ⌝ }
 {
     copy_row(current, row, n);

@@ -8,7 +8,7 @@ use Rattle.tables.specs.Lanes.{lane, Kept}
 use Rattle.tables.specs.Laid.{headsIn, itemsIn, grouped, Sound}
 use Rattle.tables.specs.Tables.{Children}
 use Rattle.tables.specs.Counted.{KidsTabled}
-use Rattle.tables.specs.Bytes.{Weighable, Weighted}
+use Rattle.tables.specs.Covers.{Weighable, Weighted}
 use Rattle.tables.proofs.KidsListed.{children-are}
 use Rattle.tables.proofs.ParentGroups.{groups-size}
 use Rattle.tables.proofs.Laning.{kept-trans, kept-fewer}

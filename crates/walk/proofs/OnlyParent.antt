@@ -1,6 +1,6 @@
 -- Whether a run's only parent is the last run visited, by its group's size and first item. Assumes nothing.
 use mathlib.Core.Path.{_≡_, refl, ap}
-use mathlib.Core.Bool.{Bool, true, false, _&&_}
+use mathlib.Core.Bool.{true, false}
 use mathlib.Core.List.{List, [], _∷_}
 use mathlib.Core.Option.{none, some}
 use Prim.Native.Nat.{ℕ, _+_, _-_, _≤_}
@@ -10,7 +10,7 @@ use lib.Seq.{drop-cons}
 use lib.Dec.{eqb}
 use Rattle.lists.specs.Lists.{same}
 use Rattle.lists.specs.Areas.{part}
-use Rattle.lists.proofs.Truth.{and-false}
+use Rattle.lists.proofs.Truth.{and-true, and-false}
 use Rattle.model.specs.Choice.{isLast}
 use Rattle.walk.specs.Choose.{onlyC}
 
@@ -31,10 +31,6 @@ pub only-one : (heads items : List ℕ) (l run : ℕ) → getD heads (run + 1) 0
     onlyC heads items true l run ≡ eqb (getD items (getD heads run 0) 0) l
 unfolding onlyC part same
 only-one heads items l run le e = rw (e, drop-cons items (getD heads run 0) 0 (omega arith)) (and-true (eqb (getD items (getD heads run 0) 0) l))
-  where
-    and-true : (t : Bool) → t && true ≡ t
-    and-true true = refl
-    and-true false = refl
 
 -- as the definitions say it of the run's parents ps
 pub only-some : (heads items ps : List ℕ) (l run : ℕ) → part (getD heads run 0) (getD heads (run + 1) 0) items ≡ ps →

@@ -17,7 +17,7 @@ use Rattle.tables.specs.Lanes.{lane, Kept}
 use Rattle.tables.specs.Laid.{shares, chs}
 use Rattle.tables.specs.Tables.{Sums, sizeIn}
 use Rattle.tables.specs.Indexed.{BoundedTo, IndexOf}
-use Rattle.tables.specs.Bytes as Bytes
+use Rattle.tables.specs.Covers as Covers
 use Rattle.tables.specs.Sizes.{Bounded, Sized}
 use Rattle.tables.proofs.Chaining.{chain-under}
 use Rattle.tables.proofs.Gathering.{shares-length}
@@ -92,8 +92,8 @@ module _ (starts heads parents : List ℕ) (a n : ℕ) (A : Arrays starts heads 
   own-first (suc r) le = omega (arith, own-first r (omega arith), own-order r (omega arith), ap (λ (k : ℕ). getD own k 0) (add-one r))
 
   -- as offsets they are the range's
-  pub own-offsets : offsets starts a n ≡ Bytes.offsets own n
-  unfolding offsets Bytes.offsets
+  pub own-offsets : offsets starts a n ≡ Covers.offsets own n
+  unfolding offsets Covers.offsets
   own-offsets =
       let z : getD starts a 0 ≡ getD own 0 0 = sym (own-at 0 (omega arith) ∙ ap (λ (k : ℕ). getD starts k 0) (last a)) in
       let t : take (suc n) (drop a starts) ≡ take (n + 1) own = ap (λ (k : ℕ). take k (drop a starts)) (sym (add-one n)) ∙ sym (take-all (n + 1) own (omega (arith, own-length))) in
@@ -102,17 +102,17 @@ module _ (starts heads parents : List ℕ) (a n : ℕ) (A : Arrays starts heads 
       last : (a : ℕ) → a + 0 ≡ a
       last a = omega arith
 
-  offsets-length : length (Bytes.offsets own n) ≡ n + 1
-  unfolding Bytes.offsets
+  offsets-length : length (Covers.offsets own n) ≡ n + 1
+  unfolding Covers.offsets
   offsets-length = length-map (take (n + 1) own) (λ s. s - getD own 0 0) ∙ length-take-le (n + 1) own (omega (arith, own-length))
 
   -- and have its sizes
   pub own-sizes : (m : ℕ) → m < n → sizeIn own m ≡ getD (sizesOf (offsets starts a n)) m 0
   own-sizes m lt =
-      sym (ap (λ (l : List ℕ). getD (sizesOf l) m 0) own-offsets ∙ (sizes-at (Bytes.offsets own n) m (omega (arith, offsets-length)) ∙ same))
+      sym (ap (λ (l : List ℕ). getD (sizesOf l) m 0) own-offsets ∙ (sizes-at (Covers.offsets own n) m (omega (arith, offsets-length)) ∙ same))
     where
-      same : sizeIn (Bytes.offsets own n) m ≡ sizeIn own m
-      same = unfold sizeIn Bytes.offset in
+      same : sizeIn (Covers.offsets own n) m ≡ sizeIn own m
+      same = unfold sizeIn Covers.offset in
           (omega (arith, offset-is own n m (omega arith), offset-is own n (m + 1) (omega arith), own-first m (omega arith), own-first (m + 1) (omega arith)))
 
   -- Its parents rise

@@ -2,7 +2,7 @@
 use mathlib.Core.Path.{_≡_, sym, ap, _∙_, subst}
 use mathlib.Core.Bool.{true}
 use mathlib.Core.List.{List}
-use Prim.Native.Nat.{ℕ, _+_, _≤_, _<_}
+use Prim.Native.Nat.{ℕ, _+_, _*_, _≤_, _<_}
 use native.Mathlib.Omega.{arith}
 use lib.ListN.{length, getD, take}
 use Rattle.lists.specs.Lists.{rising}
@@ -12,6 +12,7 @@ use Rattle.model.specs.Cover.{weights}
 use Rattle.tables.specs.declared.rows.Area.{Area}
 use Rattle.tables.specs.Lanes.{lane}
 use Rattle.tables.specs.Laid.{shares, headsIn, itemsIn, grouped, chs, rowAt, chainsOf, Laid, RangeLaid}
+use Rattle.tables.specs.Covers.{coverWords}
 use Rattle.tables.specs.Tables.{Listed, Sums, sizeIn}
 use Rattle.tables.specs.Indexed.{Indexable, IndexOf}
 use Rattle.tables.specs.Sizes.{Inside, rowIn}
@@ -66,7 +67,7 @@ module _ (starts heads parents : List ℕ) (a n : ℕ) (A : Arrays starts heads 
     scratch = omega (arith, R .sound .few);
   }
 
-  pub relatable : (children covers scratch : List ℕ) → length groups ≡ 2561 → length tables₀ ≡ 4104 → length children ≡ 2561 → length covers ≡ 8192 → length scratch ≡ 513 →
+  pub relatable : (children covers scratch : List ℕ) → length groups ≡ 2561 → length tables₀ ≡ 4104 → length children ≡ 2561 → length covers ≡ 512 * coverWords → length scratch ≡ 513 →
       Relatable S n groups tables₀ children covers scratch
   relatable children covers scratch g t k v c = record {
     sound = R .sound;

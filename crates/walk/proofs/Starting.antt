@@ -24,15 +24,6 @@ use Rattle.walk.proofs.Distinct.{filter-agree, from-split}
 use Rattle.walk.proofs.Waiting.{held, waits, ready-iff, left-start}
 use Rattle.walk.proofs.Telling.{Tells}
 
--- A count from a place on: the next, and the end
-pub count-next : (p : ℕ → Bool) (xs : List ℕ) (i : ℕ) → i < length xs → bit (p (getD xs i 0)) + count p (drop (i + 1) xs) ≡ count p (drop i xs)
-unfolding count
-count-next p xs i h = rw (add-one i, drop-cons xs i 0 h)
-
-pub count-end : (p : ℕ → Bool) (xs : List ℕ) (i : ℕ) → length xs ≤ i → count p (drop i xs) ≡ 0
-unfolding count
-count-end p xs i h = rw (drop-of-length-le xs h)
-
 -- The cases of one run started, which waits for k
 pub waits-are : (known first r : ℕ) (ps : List ℕ) (m h : ℕ) → m ≡ count (λ p. leb known p) ps → h ≡ bit (ltb known first && leb first r) →
     m + h ≡ waitsAt known first ps r

@@ -10,7 +10,7 @@ use lib.ListN.{length, take, length-append}
 use lib.Dec.{leb, ltb, eqb}
 use borrow.Author.Tests.{lt-ltb, le-ltb, le-leb, lt-leb, eq-eqb, ne-eqb}
 use Rattle.lists.specs.Lists.{bit, mem, filter, from, upto, reverse}
-use Rattle.lists.proofs.Truth.{lt-or-le, not-so, and-false}
+use Rattle.lists.proofs.Truth.{lt-or-le, not-so, and-true, and-false}
 use Rattle.lists.proofs.Members.{mem-filter}
 use Rattle.lists.proofs.Counts.{mem-from, from-mem, upto-mem}
 use Rattle.model.specs.History.{at}
@@ -87,10 +87,6 @@ module _ (w : Range) (known first : ℕ) (visited ready : List ℕ) (r : ℕ) (G
   is-kid x l =
       filter-test (λ x. mem r (at (w .parents) x)) x (upto n) ∙
       (ap (λ t. mem r (at (w .parents) x) && t) (upto-mem x n l) ∙ and-true (mem r (at (w .parents) x)))
-    where
-      and-true : (t : Bool) → t && true ≡ t
-      and-true true = refl
-      and-true false = refl
 
   -- The children woken
   children-told : length rest + length (filter (λ x. eqb (before x) 1) kids) ≤ length (s .2) →

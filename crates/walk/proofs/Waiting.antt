@@ -9,17 +9,13 @@ use lib.ListN.{length}
 use lib.Dec.{leb, ltb, eqb}
 use borrow.Author.Tests.{lt-ltb, le-ltb, ltb-true, ltb-false, eq-eqb, ne-eqb, eqb-true, le-leb, lt-leb, not-true}
 use Rattle.lists.specs.Lists.{bit, all, mem, count, from, upto}
-use Rattle.lists.proofs.Truth.{lt-or-le, eq-or-not, not-so, and-left, and-right, and-false, and-assoc, or-first, or-last, or-false}
+use Rattle.lists.proofs.Truth.{lt-or-le, eq-or-not, not-so, and-left, and-right, and-true, and-false, and-assoc, or-first, or-last, or-false}
 use Rattle.lists.proofs.Members.{mem-filter}
 use Rattle.lists.proofs.Counts.{mem-from, from-mem, from-length, upto-mem, count-same}
 use Rattle.model.specs.EventGraph.{available}
 use Rattle.model.specs.History.{at}
 use Rattle.model.specs.Choice.{Range, passed, isReady, newlyReady}
 use Rattle.walk.proofs.Distinct.{Once, from-once, filter-once, filter-test, all-none, count-seen, count-whole, count-out}
-
-and-true : (t : Bool) → t && true ≡ t
-and-true true = refl
-and-true false = refl
 
 zero-both : (a b : ℕ) → eqb a 0 && eqb b 0 ≡ eqb (a + b) 0
 zero-both a b = go (eq-or-not a 0) (eq-or-not b 0)

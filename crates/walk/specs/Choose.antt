@@ -7,6 +7,7 @@ use lib.ListN.{length, getD}
 use lib.Dec.{ltb, leb, eqb}
 use Rattle.lists.specs.Lists.{same}
 use Rattle.lists.specs.Areas.{part}
+use Rattle.model.specs.Limits.{maxRuns}
 use Rattle.tables.specs.Gaps.{gapsFrom}
 use Rattle.tables.specs.Sizes.{eventsFrom, rowIn}
 use Rattle.walk.specs.declared.choice.Best.{Best}
@@ -64,7 +65,7 @@ scanC t d w ready n i (suc k) b =
 
 -- What the tables must say of a run that is weighed
 pub record Tabled (before begins rows starts : List ℕ) (n : ℕ) (heads items sizes : List ℕ) (run : ℕ) : Type 0 where
-  pub few : run < 512
+  pub few : run < maxRuns
   pub climb : getD starts run 0 ≤ getD starts (run + 1) 0
   pub inside : getD starts (run + 1) 0 ≤ length rows
   pub parents : getD heads (run + 1) 0 ≤ length items

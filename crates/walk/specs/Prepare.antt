@@ -10,7 +10,7 @@ use Rattle.tables.specs.Lanes.{lane, Kept}
 use Rattle.tables.specs.Laid.{headsIn, itemsIn, grouped, Sound}
 use Rattle.tables.specs.Tables.{Children}
 use Rattle.tables.specs.Indexed.{Indexable, IndexOf}
-use Rattle.tables.specs.Bytes.{Weighted}
+use Rattle.tables.specs.Covers.{coverWords, Weighted}
 use Rattle.tables.specs.Sizes.{Inside, Sized}
 
 -- Chains whose members can be listed, rows that lie in their area, and room
@@ -35,7 +35,7 @@ pub record Relatable (starts : List ℕ) (n : ℕ) (gs ts cs vs xs : List ℕ) :
   pub order : (r : ℕ) → r < n → getD starts r 0 ≤ getD starts (r + 1) 0
   pub tables : 8 * (n + 1) ≤ length ts
   pub children : (length gs ≤ length cs) × (length cs ≤ 2 ^ 20)
-  pub covers : n * 16 ≤ length vs
+  pub covers : n * coverWords ≤ length vs
   pub scratch : n + 1 ≤ length xs
 
 -- Children and weights

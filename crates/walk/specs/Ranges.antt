@@ -2,15 +2,17 @@
 use mathlib.Core.Path.{_≡_}
 use mathlib.Core.Bool.{true}
 use mathlib.Core.List.{List, [], map}
-use Prim.Native.Nat.{ℕ, suc, _+_, _-_, _≤_, _<_}
+use Prim.Native.Nat.{ℕ, suc, _+_, _-_, _*_, _≤_, _<_}
 use lib.ListN.{length, getD, take, drop}
 use Rattle.lists.specs.Lists.{rising}
 use Rattle.lists.specs.Areas.{part}
+use Rattle.model.specs.Limits.{maxEntries, maxRuns, maxStarts}
 use Rattle.model.specs.History.{histories}
 use Rattle.model.specs.Range.{sizesOf, chainsFrom, rowsFrom}
 use Rattle.model.specs.Cover.{weights}
 use Rattle.model.specs.Choice.{Range}
 use Rattle.tables.specs.Laid.{shares, Sound}
+use Rattle.tables.specs.Covers.{coverWords}
 
 -- By where its runs start, as offsets within it, and by their parents
 unfoldable pub rangeBy : List ℕ → List (List ℕ) → Range
@@ -32,14 +34,14 @@ pub record Arrays (starts heads parents : List ℕ) (n : ℕ) : Type 0 where
   pub rise : (r : ℕ) → r < n → rising (part (getD heads r 0) (getD heads (r + 1) 0) parents) ≡ true
   pub order : (r : ℕ) → r < n → getD starts r 0 ≤ getD starts (r + 1) 0
   pub long : n < length starts
-  pub few : length parents ≤ 2048
+  pub few : length parents ≤ maxEntries
 
 -- Work areas that are large enough for any range
 pub record Room (gs ts bs ss cs vs rs : List ℕ) : Type 0 where
-  pub groups : length gs ≡ 2561
-  pub tables : length ts ≡ 4104
-  pub before : length bs ≡ 513
-  pub sizes : length ss ≡ 512
-  pub children : length cs ≡ 2561
-  pub covers : length vs ≡ 8192
-  pub scratch : length rs ≡ 513
+  pub groups : length gs ≡ maxStarts + maxEntries
+  pub tables : length ts ≡ 8 * maxStarts
+  pub before : length bs ≡ maxStarts
+  pub sizes : length ss ≡ maxRuns
+  pub children : length cs ≡ maxStarts + maxEntries
+  pub covers : length vs ≡ maxRuns * coverWords
+  pub scratch : length rs ≡ maxStarts

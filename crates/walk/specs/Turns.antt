@@ -7,6 +7,7 @@ use lib.ListN.{length, getD, take}
 use lib.Dec.{eqb}
 use Rattle.lists.specs.Lists.{rising}
 use Rattle.lists.specs.Areas.{part}
+use Rattle.model.specs.Limits.{maxRuns, maxWeighed}
 use Rattle.model.specs.History.{at, histories}
 use Rattle.model.specs.Choice.{Range}
 use Rattle.tables.specs.Lanes.{lane}
@@ -15,7 +16,7 @@ use Rattle.tables.specs.Tables.{Listed, Sums, Children}
 use Rattle.tables.specs.Sizes.{Bounded, rowIn, Sized}
 use Rattle.tables.specs.Reached.{started, arrived, Holds}
 use Rattle.moves.specs.declared.writing.Out.{Out}
-use Rattle.moves.specs.Emit.{Writing, emit}
+use Rattle.moves.specs.Emit.{emit}
 use Rattle.moves.specs.Moves.{Inside, visitOf}
 use Rattle.walk.specs.declared.choice.Best.{Best}
 use Rattle.walk.specs.declared.visiting.Progress.{Progress}
@@ -82,7 +83,7 @@ outIn p = record { count = p .count; moved = p .moved; short = p .short }
 unfoldable pub bestBy : ℕ → ℕ → List ℕ → List ℕ → List ℕ → List ℕ → List ℕ → List ℕ → ℕ → ℕ → Best
 bestBy n chains rows groups tables before current ready m last =
     scanC (onlyC (headsIn n groups) (itemsIn n groups) (not (eqb last 0)) (last - 1))
-    (costC (take (n + 1) before) (lane 4 (n + 1) tables) current rows (lane 0 (n + 1) tables) chains) (weightC (lane 7 (n + 1) tables)) ready m 0 (min 64 m) start
+    (costC (take (n + 1) before) (lane 4 (n + 1) tables) current rows (lane 0 (n + 1) tables) chains) (weightC (lane 7 (n + 1) tables)) ready m 0 (min maxWeighed m) start
 
 unfoldable pub bestIn : Given → Turn → Best
 bestIn g t = bestBy (g .runs) (g .chains) (g .rows) (g .groups) (g .tables) (g .before) (t .2) (t .4) (t .0 .ready) (t .0 .last)
@@ -103,20 +104,20 @@ pub record Turned (g : Given) (t u : Turn) : Type 0 where
 
 -- Members are run numbers, and what a version has of each of n chains lies in the members
 abbrev pub AllSmall : List ℕ → Type 0
-AllSmall members = (i : ℕ) → getD members i 0 < 512
+AllSmall members = (i : ℕ) → getD members i 0 < maxRuns
 
 abbrev pub AllInside : List ℕ → List ℕ → List ℕ → ℕ → Type 0
 AllInside members begins version n = (c : ℕ) → c < n → Inside members begins version c
 
 -- What the tables must be for a visit
 pub record Fit (g : Given) (t : Turn) : Type 0 where
-  pub few : g .runs ≤ 512
-  pub chains : g .chains ≤ 512
+  pub few : g .runs ≤ maxRuns
+  pub chains : g .chains ≤ maxRuns
   pub base : g .base < 2 ^ 31
   pub tables : 8 * (g .runs + 1) ≤ length (g .tables)
   pub groups : g .runs + 1 ≤ length (g .groups)
   pub before : g .runs + 1 ≤ length (g .before)
-  pub last : t .0 .last ≤ 512
+  pub last : t .0 .last ≤ maxRuns
   pub some : 0 < t .0 .ready
   pub ready : t .0 .ready ≤ length (t .4)
   pub below : bestIn g t .at < t .0 .ready
@@ -129,7 +130,7 @@ pub record Fit (g : Given) (t : Turn) : Type 0 where
   pub to : AllInside (membersIn g) (beginsIn g) (rowFor g (runAt g t)) (g .chains)
   pub version : g .chains ≤ length (t .2)
   pub chain : getD (chainsIn g) (runAt g t) 0 < g .chains
-  pub place : getD (placesIn g) (runAt g t) 0 < 512
+  pub place : getD (placesIn g) (runAt g t) 0 < maxRuns
   pub climb : getD (childStarts g) (runAt g t) 0 ≤ getD (childStarts g) (runAt g t + 1) 0
   pub children : getD (childStarts g) (runAt g t + 1) 0 ≤ length (g .children)
 
@@ -146,7 +147,7 @@ chainsFor g = chs (histories (parentsFor g)) (length (parentsFor g))
 
 -- The tables are those of the range
 pub record Prepared (g : Given) : Type 0 where
-  pub few : g .base + g .runs ≤ 512
+  pub few : g .base + g .runs ≤ maxRuns
   pub known : g .known ≤ g .first
   pub first : g .first ≤ g .runs
   pub tables : 8 * (g .runs + 1) ≤ length (g .tables)

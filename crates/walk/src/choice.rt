@@ -2,8 +2,10 @@
 ghost use mathlib.Core.Path.{_≡_};
 ghost use Prim.Native.Nat.{_+_, _≤_, _<_, _^_, min};
 ghost use lib.ListN.{length, getD};
+ghost use Rattle.model.specs.Limits.{maxRuns, maxWeighed};
 ghost use Rattle.tables.specs.Sizes.{Bounded, Within, eventsFrom};
 ghost use Rattle.walk.specs.Choose.{tryOf, freeC, beatenC, limitC, weighC, onlyC, costC, weightC, scanC, start, Tabled, AllTabled};
+use model::MAX_WEIGHED;
 use tables::distance::apart;
 use tables::distance::distance;
 use tables::distance::events_of;
@@ -47,7 +49,7 @@ fn consider(b: Best, cost: u64, weight: u64, at: usize) -> Best
 
 // Whether the run's only parent is the last run visited.
 fn only_parent<'a>(heads: &'a [u32], items: &'a [u32], run: usize, any: bool, last: u32) -> bool
-    requires { ⌜ (run < 512) × (getD (now heads) (run + 1) 0 ≤ length (now items)) ⌝ }
+    requires { ⌜ (run < maxRuns) × (getD (now heads) (run + 1) 0 ≤ length (now items)) ⌝ }
     ensures { λ r. ⌜ r ≡ onlyC (now (heads .entry)) (now (items .entry)) any last run ⌝ }
 {
     if !any {
@@ -111,7 +113,7 @@ fn cost_of<'a>(
     n: usize,
     run: usize,
 ) -> u64
-    requires { ⌜ (n ≤ 512) × Bounded (2 ^ 41) (now before) × (run < 512) × (getD (now starts) run 0 ≤ getD (now starts) (run + 1) 0) ×
+    requires { ⌜ (n ≤ maxRuns) × Bounded (2 ^ 41) (now before) × (run < maxRuns) × (getD (now starts) run 0 ≤ getD (now starts) (run + 1) 0) ×
         (getD (now starts) (run + 1) 0 ≤ length (now rows)) ⌝ }
     ensures { λ r. ⌜ Within (limitC b) (costC (now (before .entry)) (now (begins .entry)) (now (current .entry)) (now (rows .entry)) (now (starts .entry)) n run) r × (r ≤ 2 ^ 50) ⌝ }
 {
@@ -140,7 +142,7 @@ fn weigh<'a>(
     run: usize,
     at: usize,
 ) -> Best
-    requires { ⌜ (n ≤ 512) × Bounded (2 ^ 41) (now before) × (here ≡ eventsFrom (now before) (now begins) (now current) 0 n) × Tabled (now before) (now begins) (now rows)
+    requires { ⌜ (n ≤ maxRuns) × Bounded (2 ^ 41) (now before) × (here ≡ eventsFrom (now before) (now begins) (now current) 0 n) × Tabled (now before) (now begins) (now rows)
         (now starts) n (now heads) (now items) (now sizes) run ⌝ }
     ensures { λ r. ⌜ r ≡ weighC (onlyC (now (heads .entry)) (now (items .entry)) any last run)
         (costC (now (before .entry)) (now (begins .entry)) (now (current .entry)) (now (rows .entry)) (now (starts .entry)) n run) (weightC (now (weights .entry)) run) at best ⌝ }
@@ -160,9 +162,9 @@ fn weigh<'a>(
 }
 
 fn fewer(n: usize) -> usize
-    ensures { λ r. ⌜ r ≡ min 64 n ⌝ }
+    ensures { λ r. ⌜ r ≡ min maxWeighed n ⌝ }
 {
-    if n < 64 { n } else { 64 }
+    if n < MAX_WEIGHED { n } else { MAX_WEIGHED }
 }
 
 // The best of the last 64 of m ready runs, newest first.
@@ -182,10 +184,10 @@ pub(crate) fn nearest<'a>(
     any: bool,
     last: u32,
 ) -> Best
-    requires { ⌜ (n ≤ 512) × Bounded (2 ^ 41) (now before) × AllTabled (now ready) m (now before) (now begins) (now rows) (now starts) n (now heads) (now items) (now sizes) ⌝ }
+    requires { ⌜ (n ≤ maxRuns) × Bounded (2 ^ 41) (now before) × AllTabled (now ready) m (now before) (now begins) (now rows) (now starts) n (now heads) (now items) (now sizes) ⌝ }
     ensures { λ r. ⌜ r ≡ scanC (onlyC (now (heads .entry)) (now (items .entry)) any last)
         (costC (now (before .entry)) (now (begins .entry)) (now (current .entry)) (now (rows .entry)) (now (starts .entry)) n) (weightC (now (weights .entry))) (now (ready .entry))
-        m 0 (min 64 m) start ⌝ }
+        m 0 (min maxWeighed m) start ⌝ }
 {
     let here = events_of(before, begins, current, n);
     let k = fewer(m);

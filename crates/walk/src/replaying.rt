@@ -1,12 +1,13 @@
 // Full replay: the ranges of the cut, one after another.
 ghost use mathlib.Core.Path.{_≡_};
-ghost use Prim.Native.Nat.{ℕ, _+_, _-_, _*_, _<_, _≤_, _^_};
-ghost use lib.ListN.{length, getD};
+ghost use Prim.Native.Nat.{_+_, _-_, _*_, _<_, _≤_, _^_};
+ghost use lib.ListN.{length};
 ghost use Rattle.model.specs.Broken.{Held};
 ghost use Rattle.model.specs.Replay.{replayOf};
 ghost use Rattle.walk.specs.Ranges.{Arrays, Room};
 ghost use Rattle.walk.specs.Walked.{outOf, ranged as Walked·ranged, unwritten, replayOn, replayAll};
 ghost use Rattle.walk.specs.CutRecords.{rangeBy, rangesIn, runsOf, Tiled};
+use crate::areas;
 use crate::walking;
 use crate::walking::Ranged;
 use model::CausalGraph;
@@ -16,6 +17,7 @@ use model::Refusal;
 use model::Walked;
 use moves::writing;
 use moves::writing::Out;
+use tables::covers::CoverWord;
 use tables::words::get;
 
 fn out_of(r: Ranged) -> Out
@@ -55,7 +57,7 @@ fn replay_next<'a>(
     before: &mut [u64],
     sizes: &mut [u64],
     children: &mut [u32],
-    covers: &mut [u8],
+    covers: &mut [CoverWord],
     scratch: &mut [u32],
 ) -> Ranged
     requires { ⌜ Arrays (now starts) (now heads) (now parents) (b .0) ⌝ }
@@ -114,7 +116,7 @@ fn replay_all<'a>(
     before: &mut [u64],
     sizes: &mut [u64],
     children: &mut [u32],
-    covers: &mut [u8],
+    covers: &mut [CoverWord],
     scratch: &mut [u32],
 ) -> Ranged
     requires { ⌜ Tiled (now starts) (now heads) (now parents) (now cut) n ⌝ }
@@ -173,13 +175,13 @@ fn replay_fresh<'a>(
     ensures { λ r. ⌜ (r, now (rows .exit), now (steps .exit)) ≡ replayAll (now (starts .entry)) (runsOf (now (starts .entry)) (now (heads .entry)) (now (parents .entry)))
         (Walked·ranged unwritten 0, now (rows .entry), now (steps .entry)) (rangesIn (now (cut .entry)) 0 n) ⌝ }
 {
-    let mut groups = walking::zeros_2561();
-    let mut tables = walking::zeros_4104();
-    let mut before = walking::sums_513();
-    let mut sizes = walking::sums_512();
-    let mut children = walking::children_2561();
-    let mut covers = walking::bytes_8192();
-    let mut scratch = walking::zeros_513();
+    let mut groups = areas::no_groups();
+    let mut tables = areas::no_tables();
+    let mut before = areas::no_sums();
+    let mut sizes = areas::no_sizes();
+    let mut children = areas::no_children();
+    let mut covers = areas::no_covers();
+    let mut scratch = areas::no_scratch();
     replay_all(
         n,
         cut,
@@ -198,18 +200,12 @@ fn replay_fresh<'a>(
     )
 }
 
-fn zeros_1536() -> [u32; 1536]
-    ensures { λ r. ⌜ length r ≡ 1536 ⌝ }
-{
-    [0; 1536]
-}
-
 // Full replay of a graph that is known not to be broken.
 pub fn replay_held(g: CausalGraph, rows: &mut [u32], steps: &mut [u32]) -> Walked
     requires { ⌜ Held g ⌝ }
     ensures { λ r. ⌜ (r, now (rows .exit), now (steps .exit)) ≡ replayOf g (now (rows .entry)) (now (steps .entry)) ⌝ }
 {
-    let mut cut = zeros_1536();
+    let mut cut = areas::no_cut();
     let w = graph::cut::cut_held(g, EventRunIndex(0), &mut cut);
     let r = replay_fresh(
         w.count,

@@ -9,14 +9,16 @@ ghost use Rattle.tables.specs.Sizes.{Bounded, rowIn};
 ghost use Rattle.tables.specs.Reached.{arrived, Holds};
 ghost use Rattle.moves.specs.Emit.{emit};
 ghost use Rattle.moves.specs.Moves.{visitOf, recs};
+ghost use Rattle.model.specs.Limits.{maxRuns};
 ghost use Rattle.model.specs.Steps.{stepsOf};
 ghost use Rattle.walk.specs.Choose.{AllTabled};
 ghost use Rattle.walk.specs.Readiness.{wokenOf, leftAfter};
-ghost use Rattle.walk.specs.Turns.{outIn, bestBy, AllSmall, AllInside, Given, Turned, Fit, rangeFor, Prepared, Begun};
+ghost use Rattle.walk.specs.Turns.{outIn, bestBy, AllSmall, AllInside, Turned, Fit, rangeFor, Prepared, Begun};
 use crate::choice;
 use crate::ready;
 use crate::ready::Woken;
 use model::EventRunIndex;
+use model::MAX_RUNS;
 use moves::moving;
 use moves::writing::Out;
 use tables::versions;
@@ -33,15 +35,15 @@ pub(crate) struct Progress {
     pub(crate) last: u64,
 }
 
-fn zeros() -> [u32; 512]
-    ensures { λ r. ⌜ length r ≡ 512 ⌝ }
+fn zeros() -> [u32; MAX_RUNS]
+    ensures { λ r. ⌜ length r ≡ maxRuns ⌝ }
 {
-    [0; 512]
+    [0; MAX_RUNS]
 }
 
 // One less, and 0 of 0.
 fn one_less(x: u64) -> u32
-    requires { ⌜ x ≤ 512 ⌝ }
+    requires { ⌜ x ≤ maxRuns ⌝ }
     ensures { λ r. ⌜ r ≡ x - 1 ⌝ }
 {
     if x == 0 {
@@ -64,7 +66,7 @@ fn choose<'a>(
     current: &[u32],
     ready: &[u32],
 ) -> usize
-    requires { ⌜ (n ≤ 512) × (chains ≤ 512) × (last ≤ 512) × (8 * (n + 1) ≤ length (now tables)) × (n + 1 ≤ length (now groups)) × (n + 1 ≤ length (now before)) ⌝ }
+    requires { ⌜ (n ≤ maxRuns) × (chains ≤ maxRuns) × (last ≤ maxRuns) × (8 * (n + 1) ≤ length (now tables)) × (n + 1 ≤ length (now groups)) × (n + 1 ≤ length (now before)) ⌝ }
     requires { ⌜ Bounded (2 ^ 41) (take (n + 1) (now before)) ⌝ }
     requires { ⌜ AllTabled (now ready) m (take (n + 1) (now before)) (lane 4 (n + 1) (now tables)) (now rows) (lane 0 (n + 1) (now tables)) chains (headsIn n (now groups))
         (itemsIn n (now groups)) (now sizes) ⌝ }
@@ -108,10 +110,10 @@ fn visit(
     steps: &mut [u32],
     current: &mut [u32],
 ) -> Out
-    requires { ⌜ (n ≤ 512) × (chains ≤ 512) × (base .0 < 2 ^ 31) × (run < n) × (8 * (n + 1) ≤ length (now tables)) × (out .moved + 2 ^ 52 < 2 ^ 63) ×
+    requires { ⌜ (n ≤ maxRuns) × (chains ≤ maxRuns) × (base .0 < 2 ^ 31) × (run < n) × (8 * (n + 1) ≤ length (now tables)) × (out .moved + 2 ^ 52 < 2 ^ 63) ×
         (chains ≤ length (now current)) ⌝ }
     requires { ⌜ (getD (lane 0 (n + 1) (now tables)) run 0 ≤ getD (lane 0 (n + 1) (now tables)) (run + 1) 0) × (getD (lane 0 (n + 1) (now tables)) (run + 1) 0 ≤ length (now rows)) ⌝ }
-    requires { ⌜ (getD (lane 1 (n + 1) (now tables)) run 0 < chains) × (getD (lane 2 (n + 1) (now tables)) run 0 < 512) ⌝ }
+    requires { ⌜ (getD (lane 1 (n + 1) (now tables)) run 0 < chains) × (getD (lane 2 (n + 1) (now tables)) run 0 < maxRuns) ⌝ }
     requires { ⌜ AllSmall (lane 5 (n + 1) (now tables)) ⌝ }
     requires { ⌜ AllInside (lane 5 (n + 1) (now tables)) (lane 4 (n + 1) (now tables)) (now current) chains ⌝ }
     requires { ⌜ AllInside (lane 5 (n + 1) (now tables)) (lane 4 (n + 1) (now tables)) (rowIn (lane 0 (n + 1) (now tables)) (now rows) run) chains ⌝ }
@@ -160,7 +162,7 @@ fn wake(
     waiting: &mut [u32],
     ready: &mut [u32],
 ) -> Woken
-    requires { ⌜ (n ≤ 512) × (run < n) × (8 * (n + 1) ≤ length (now tables)) ⌝ }
+    requires { ⌜ (n ≤ maxRuns) × (run < n) × (8 * (n + 1) ≤ length (now tables)) ⌝ }
     requires { ⌜ (getD (lane 6 (n + 1) (now tables)) run 0 ≤ getD (lane 6 (n + 1) (now tables)) (run + 1) 0) × (getD (lane 6 (n + 1) (now tables)) (run + 1) 0 ≤ length (now children)) ⌝ }
     ensures { λ r. ⌜ (r .ready, now (waiting .exit), now (ready .exit)) ≡ wokenOf (m, now (waiting .entry), now (ready .entry))
         (part (getD (lane 6 (n + 1) (now (tables .entry))) run 0) (getD (lane 6 (n + 1) (now (tables .entry))) (run + 1) 0) (now (children .entry))) run known first n left ⌝ }
@@ -417,7 +419,7 @@ fn visits_in<'a>(
       first = first;
     }) ⌝ }
     requires { ⌜ out .moved + (n + 1) * 2 ^ 52 < 2 ^ 63 ⌝ }
-    requires { ⌜ (512 ≤ length (now current)) × (length (now waiting) ≡ n) × (512 ≤ length (now ready)) ⌝ }
+    requires { ⌜ (maxRuns ≤ length (now current)) × (length (now waiting) ≡ n) × (maxRuns ≤ length (now ready)) ⌝ }
     ensures { λ r. ⌜ (r, now (steps .exit)) ≡ emit (out, now (steps .entry))
         (recs (now (starts .entry)) (stepsOf (rangeFor (record {
           starts = now (starts .entry);

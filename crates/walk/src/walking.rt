@@ -1,7 +1,7 @@
 // `walk` over a range of runs.
 ghost use mathlib.Core.Path.{_≡_};
 ghost use Prim.Native.Nat.{_+_, _-_, _*_, _<_, _≤_, _^_, max, min};
-ghost use lib.ListN.{length};
+ghost use Rattle.model.specs.Limits.{maxRuns};
 ghost use Rattle.model.specs.Record.{view};
 ghost use Rattle.model.specs.Broken.{Held};
 ghost use Rattle.model.specs.Walk.{walkOf, walkRange};
@@ -9,6 +9,7 @@ ghost use Rattle.walk.specs.Ranges.{rangeIn, Arrays, Room};
 ghost use Rattle.tables.specs.Lanes.{Kept};
 ghost use Rattle.walk.specs.Prepare.{Measurable, Measured, Relatable, Related};
 ghost use Rattle.walk.specs.Walked.{unwritten, walkedIn, walkedOf};
+use crate::areas;
 use crate::visiting;
 use graph::ranges;
 use model::CausalGraph;
@@ -17,6 +18,7 @@ use model::Outcome;
 use model::Refusal;
 use model::Walked;
 use moves::writing::Out;
+use tables::covers::CoverWord;
 use tables::rows::Area;
 use tables::tabling;
 use tables::words::wide;
@@ -31,7 +33,7 @@ pub(crate) struct Ranged {
 
 // `first` as far as the range goes, and at least `known`.
 fn clamped(known: u32, first: u32, n: usize) -> u32
-    requires { ⌜ n ≤ 512 ⌝ }
+    requires { ⌜ n ≤ maxRuns ⌝ }
     ensures { λ r. ⌜ r ≡ max known (min first n) ⌝ }
 {
     if n < wide(first) {
@@ -65,7 +67,7 @@ fn relate(
     groups: &[u32],
     tables: &mut [u32],
     children: &mut [u32],
-    covers: &mut [u8],
+    covers: &mut [CoverWord],
     scratch: &mut [u32],
 )
     requires { ⌜ Relatable (now starts) n (now groups) (now tables) (now children) (now covers) (now scratch) ⌝ }
@@ -90,7 +92,7 @@ fn prepare(
     before: &mut [u64],
     sizes: &mut [u64],
     children: &mut [u32],
-    covers: &mut [u8],
+    covers: &mut [CoverWord],
     scratch: &mut [u32],
 )
     requires { ⌜ Measurable n chains (now rows) (now tables) (now before) (now sizes) (now scratch) ⌝ }
@@ -119,7 +121,7 @@ pub(crate) fn walk_range<'a>(
     before: &mut [u64],
     sizes: &mut [u64],
     children: &mut [u32],
-    covers: &mut [u8],
+    covers: &mut [CoverWord],
     scratch: &mut [u32],
 ) -> Ranged
     requires { ⌜ Arrays (now starts) (now heads) (now parents) (b .0) ⌝ }
@@ -205,49 +207,6 @@ pub(crate) fn walked(r: Ranged) -> Walked
     }
 }
 
-// Work areas.
-pub(crate) fn zeros_2561() -> [u32; 2561]
-    ensures { λ r. ⌜ length r ≡ 2561 ⌝ }
-{
-    [0; 2561]
-}
-
-pub(crate) fn zeros_4104() -> [u32; 4104]
-    ensures { λ r. ⌜ length r ≡ 4104 ⌝ }
-{
-    [0; 4104]
-}
-
-pub(crate) fn sums_513() -> [u64; 513]
-    ensures { λ r. ⌜ length r ≡ 513 ⌝ }
-{
-    [0; 513]
-}
-
-pub(crate) fn sums_512() -> [u64; 512]
-    ensures { λ r. ⌜ length r ≡ 512 ⌝ }
-{
-    [0; 512]
-}
-
-pub(crate) fn children_2561() -> [u32; 2561]
-    ensures { λ r. ⌜ length r ≡ 2561 ⌝ }
-{
-    [0; 2561]
-}
-
-pub(crate) fn bytes_8192() -> [u8; 8192]
-    ensures { λ r. ⌜ length r ≡ 8192 ⌝ }
-{
-    [0; 8192]
-}
-
-pub(crate) fn zeros_513() -> [u32; 513]
-    ensures { λ r. ⌜ length r ≡ 513 ⌝ }
-{
-    [0; 513]
-}
-
 // The range a..b in an empty step list.
 fn walk_fresh<'a>(
     a: EventRunIndex,
@@ -265,13 +224,13 @@ fn walk_fresh<'a>(
     ensures { λ r. ⌜ (r, now (rows .exit), now (steps .exit)) ≡ walkedIn (now (starts .entry))
         (rangeIn (now (starts .entry)) (now (heads .entry)) (now (parents .entry)) (a .0) (b .0 - a .0)) (a .0) known first unwritten (now (rows .entry)) (now (steps .entry)) ⌝ }
 {
-    let mut groups = zeros_2561();
-    let mut tables = zeros_4104();
-    let mut before = sums_513();
-    let mut sizes = sums_512();
-    let mut children = children_2561();
-    let mut covers = bytes_8192();
-    let mut scratch = zeros_513();
+    let mut groups = areas::no_groups();
+    let mut tables = areas::no_tables();
+    let mut before = areas::no_sums();
+    let mut sizes = areas::no_sizes();
+    let mut children = areas::no_children();
+    let mut covers = areas::no_covers();
+    let mut scratch = areas::no_scratch();
     let out = Out {
         count: 0,
         moved: 0,

@@ -3,14 +3,15 @@ use mathlib.Core.Path.{_≡_, refl, sym, _∙_}
 use Prim.Native.Nat.{_≤_, _-_}
 use lib.ListN.{length, drop, getD}
 use Rattle.lists.proofs.Members.{getD-mem}
-use Rattle.tables.specs.Bytes.{bitsIn, joinOf, coverAt, Inside}
+use Rattle.tables.specs.Covers.{wordBits, coverWords, bitsIn, joinOf, coverAt, Inside}
 use Rattle.tables.proofs.Joins.{join-turn, join-none}
 use borrow.Author.Needs.{needs}
 use Rattle.tables.proofs.covers.join_children.Statement.{statement}
 use Rattle.tables.proofs.covers.join_children.Tie as tie
 
 abbrev Inv-loop : tie.InvT-loop
-Inv-loop z₀ covers children i₀ z i = (i ≤ length children) × ((length z ≡ 16) × (joinOf (bitsIn z) (coverAt covers) (drop i children) ≡ joinOf (bitsIn z₀) (coverAt covers) children))
+Inv-loop z₀ covers children i₀ z i = (i ≤ length children) × ((length z ≡ coverWords) ×
+    (joinOf (bitsIn wordBits z) (coverAt covers) (drop i children) ≡ joinOf (bitsIn wordBits z₀) (coverAt covers) children))
 
 abbrev μ-loop : tie.MeasureT-loop
 μ-loop z₀ covers children i₀ z i = length children - i
@@ -25,7 +26,9 @@ shared-slice-read-join-run : tie.Need-shared-slice-read-join-run Inv-loop μ-loo
 shared-slice-read-join-run c = search needs
 
 join-run-requires : tie.Need-join-run-requires Inv-loop μ-loop
-join-run-requires c κs = unfold Inside in (c .before .before .before .loop .inv .1 .0, c .before .before .before .before .before .before .before .pre .1 (getD (c .before .before .before .before .before .before .before .args .children .now) (c .before .before .before .loop .i) 0) (getD-mem (c .before .before .before .before .before .before .before .args .children .now) (c .before .before .before .loop .i) 0 (c .before .before .loop-test .taken)))
+join-run-requires c κs = let xs = c .before .before .before .before .before .before .before .args .children .now in
+    let l = c .before .before .before .loop in
+    unfold Inside in (l .inv .1 .0, c .before .before .before .before .before .before .before .pre .1 (getD xs (l .i) 0) (getD-mem xs (l .i) 0 (c .before .before .loop-test .taken)))
 
 add-i : tie.Need-add-i Inv-loop μ-loop
 add-i c = search needs
@@ -34,15 +37,19 @@ loop-less : tie.Need-loop-less Inv-loop μ-loop
 loop-less c = search needs
 
 loop-again : tie.Need-loop-again Inv-loop μ-loop
-loop-again c = let l = c .before .before .before .before .before .before .loop in
+loop-again c = let a = c .before .before .before .before .before .before .before .before .before .before .args in
+    let l = c .before .before .before .before .before .before .loop in
     let s = c .before .before .join-run in
-    (search needs, (s .kept .0 ∙ l .inv .1 .0, join-turn (bitsIn (l .z)) (bitsIn (s .last .0)) (coverAt (c .before .before .before .before .before .before .before .before .before .before .args .covers .now)) (c .before .before .before .before .before .before .before .before .before .before .args .children .now) (l .i) (c .before .before .before .before .before .loop-test .taken) (s .ensures) ∙ l .inv .1 .1))
+    let next = join-turn (bitsIn wordBits (l .z)) (bitsIn wordBits (s .last .0)) (coverAt (a .covers .now)) (a .children .now)
+    (l .i) (c .before .before .before .before .before .loop-test .taken) (s .ensures) in
+    (search needs, (s .kept .0 ∙ l .inv .1 .0, next ∙ l .inv .1 .1))
 
 same-length : tie.Need-same-length Inv-loop μ-loop
 same-length c = c .before .loop .inv .1 .0 ∙ sym (c .before .before .before .before .before .pre .0)
 
 returns : tie.Need-returns Inv-loop μ-loop
-returns c = let l = c .before .loop in sym (join-none (bitsIn (l .z)) (coverAt (c .before .before .before .before .before .args .covers .now)) (c .before .before .before .before .before .args .children .now) (l .i) (c .loop-test .left)) ∙ l .inv .1 .1
+returns c = let a = c .before .before .before .before .before .args in
+    let l = c .before .loop in sym (join-none (bitsIn wordBits (l .z)) (coverAt (a .covers .now)) (a .children .now) (l .i) (c .loop-test .left)) ∙ l .inv .1 .1
 
 pub join-children-spec : {M : Type 1} → statement M
 join-children-spec =

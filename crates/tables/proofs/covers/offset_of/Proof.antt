@@ -1,5 +1,5 @@
 -- `tables::covers::offset_of` meets its contract: how far into the range a run starts. Assumes nothing.
-use Rattle.tables.specs.Bytes.{offset}
+use Rattle.tables.specs.Covers.{offset}
 use native.Mathlib.Omega.{arith}
 use borrow.Author.Needs.{needs}
 use Rattle.tables.proofs.covers.offset_of.Statement.{statement}

@@ -1,26 +1,30 @@
 -- `tables::covers::own_bits` meets its contract: the bits from one place up to another are set. Assumes nothing.
-use mathlib.Core.Path.{_≡_, sym, ap, _∙_}
+use mathlib.Core.Path.{_≡_, refl, sym, ap, _∙_}
 use mathlib.Core.List.{List}
 use Prim.Native.Nat.{ℕ, _≤_, _-_}
 use native.Mathlib.Omega.{arith}
 use lib.ListN.{length}
-use Rattle.tables.specs.Bytes.{bitsIn, rangeBits}
+use Rattle.tables.specs.Covers.{wordBits, coverWords, bitsIn, rangeBits}
 use Rattle.tables.proofs.Ranges.{range-none, bit-next}
 use borrow.Author.Needs.{needs}
 use Rattle.tables.proofs.covers.own_bits.Statement.{statement}
 use Rattle.tables.proofs.covers.own_bits.Tie as tie
 
 abbrev Inv-loop : tie.InvT-loop
-Inv-loop z₀ low high i₀ z i = (low ≤ i) × ((i ≤ high) × ((length z ≡ 16) × (bitsIn z ≡ rangeBits low i)))
+Inv-loop z₀ low high i₀ z i = (low ≤ i) × ((i ≤ high) × ((length z ≡ coverWords) × (bitsIn wordBits z ≡ rangeBits low i)))
 
 abbrev μ-loop : tie.MeasureT-loop
 μ-loop z₀ low high i₀ z i = high - i
 
 loop-holds : tie.Need-loop-holds Inv-loop μ-loop
-loop-holds c = let e = c .before .pre .0 in (search needs, (search needs, (ap (λ (l : List ℕ). length l) e, ap bitsIn e ∙ range-none _)))
+loop-holds c = let e = c .before .pre .0 in
+    (search needs, (search needs, (ap (λ (l : List ℕ). length l) e, ap (bitsIn wordBits) e ∙ range-none wordBits coverWords _ refl)))
 
-set-bit-requires : tie.Need-set-bit-requires Inv-loop μ-loop
-set-bit-requires c κs = omega (arith, c .before .before .loop .inv .1 .1 .0)
+bit-requires : tie.Need-bit-requires Inv-loop μ-loop
+bit-requires c κs = search needs
+
+join-word-requires : tie.Need-join-word-requires Inv-loop μ-loop
+join-word-requires c κs = omega (arith, c .before .before .before .loop .inv .1 .1 .0)
 
 add-i : tie.Need-add-i Inv-loop μ-loop
 add-i c = search needs
@@ -29,10 +33,13 @@ loop-less : tie.Need-loop-less Inv-loop μ-loop
 loop-less c = search needs
 
 loop-again : tie.Need-loop-again Inv-loop μ-loop
-loop-again c = let l = c .before .before .before .before .before .loop in
-    let s = c .before .before .set-bit in
+loop-again c = let l = c .before .before .before .before .before .before .loop in
+    let j = c .before .before .join-word in
+    let bit = c .before .before .before .bit in
+    let low = c .before .before .before .before .before .before .before .before .args .low in
     let h : l .i ≤ 126 = omega arith in
-    (search needs, (search needs, (s .kept .0 ∙ l .inv .1 .1 .0, ap bitsIn (s .ensures) ∙ bit-next (l .z) (c .before .before .before .before .before .before .before .args .low) (l .i) (l .inv .1 .1 .0) (l .inv .0) (omega arith) (l .inv .1 .1 .1))))
+    let next = bit-next wordBits (l .z) (j .last .0) low (l .i) (bit .result) (omega arith) (omega (arith, l .inv .1 .1 .0)) (l .inv .0) (omega arith) (bit .ensures) (j .ensures) in
+    (search needs, (search needs, (j .kept .0 ∙ l .inv .1 .1 .0, next (l .inv .1 .1 .1))))
 
 same-length : tie.Need-same-length Inv-loop μ-loop
 same-length c = c .before .loop .inv .1 .1 .0 ∙ sym (ap (λ (l : List ℕ). length l) (c .before .before .before .pre .0))
@@ -48,7 +55,8 @@ own-bits-spec =
     Inv-loop
     μ-loop
     loop-holds
-    set-bit-requires
+    bit-requires
+    join-word-requires
     add-i
     loop-less
     loop-again

@@ -6,7 +6,7 @@ use Prim.Native.Nat.{_-_, _/_}
 use native.Mathlib.Omega.{arith}
 use lib.ListN.{set, take, drop}
 use Rattle.lists.specs.Lists.{count}
-use Rattle.tables.specs.Bytes.{joinOf, coverAt, rangeBits, runBits, offset}
+use Rattle.tables.specs.Covers.{joinOf, coverAt, rangeBits, runBits, offset}
 use Rattle.tables.proofs.Weighing.{per-pos, weigh-ready, weigh-bits}
 use borrow.Author.Needs.{needs}
 use Rattle.tables.proofs.covers.weigh.Statement.{statement}
@@ -110,7 +110,8 @@ returns c = let a = c .before .before .before .before .before .before .before .b
     let s = c .before .before .before .before .before .before .before .wide in
     let s2 = c .before .before .before .before .before .wide2 in
     let v = a .covers .now in
-    let e : joinOf (rangeBits (o .result / a .per) (d .result)) (coverAt v) (take (s2 .result - s .result) (drop (s .result) (a .children .now))) ≡ runBits (a .starts .now) (a .per) (a .begins .now) (a .children .now) v (a .r) =
+    let e : joinOf (rangeBits (o .result / a .per) (d .result)) (coverAt v) (take (s2 .result - s .result) (drop (s .result) (a .children .now)))
+    ≡ runBits (a .starts .now) (a .per) (a .begins .now) (a .children .now) v (a .r) =
     weigh-bits (a .starts .now) (a .begins .now) (a .children .now) v (a .r) (a .per) (o .result) (o2 .result) (d .result) (s .result) (s2 .result)
     (o .ensures .0) (o2 .ensures .0) (d .ensures) (s .ensures ∙ g .ensures) (s2 .ensures ∙ g2 .ensures) in
     (ap (set (a .weights .now) (a .r)) (t .ensures .0 ∙ ap (λ (b : List Bool). count (λ x. x) b) e), rw (sym e) (t .ensures .1))

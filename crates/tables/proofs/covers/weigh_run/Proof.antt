@@ -4,7 +4,7 @@ use mathlib.Core.Bool.{Bool}
 use mathlib.Core.List.{List}
 use lib.ListN.{length}
 use Rattle.lists.specs.Lists.{count}
-use Rattle.tables.specs.Bytes.{bitsIn, joinOf, coverAt, rangeBits}
+use Rattle.tables.specs.Covers.{wordBits, coverWords, bitsIn, joinOf, coverAt, rangeBits}
 use Rattle.tables.proofs.Weighing.{cover-stored}
 use borrow.Author.Needs.{needs}
 use Rattle.tables.proofs.covers.weigh_run.Statement.{statement}
@@ -46,9 +46,10 @@ returns c = let a = c .before .before .before .before .before .before .before .b
     let o = c .before .before .before .before .before .before .before .before .before .before .before .before .own-bits in
     let j = c .before .before .before .before .before .before .before .before .join-children in
     let z = j .last .0 in
-    let e : bitsIn z ≡ joinOf (rangeBits (a .low) (a .high)) (coverAt v) (a .children .now) = j .ensures ∙ ap (λ (b : List Bool). joinOf b (coverAt v) (a .children .now)) (o .ensures) in
-    let l : length z ≡ 16 = j .kept .0 ∙ o .kept .0 in
-    (c .count-bits .ensures ∙ ap (λ (b : List Bool). count (λ x. x) b) e, cover-stored v z (a .r) _ _ l (c .before .before .before .before .before .before .before .before .before .before .before .before .before .before .before .before .pre .3) e (c .before .before .before .before .store-cover .ensures))
+    let e : bitsIn wordBits z ≡ joinOf (rangeBits (a .low) (a .high)) (coverAt v) (a .children .now) = j .ensures ∙ ap (λ (b : List Bool). joinOf b (coverAt v) (a .children .now)) (o .ensures) in
+    let l : length z ≡ coverWords = j .kept .0 ∙ o .kept .0 in
+    let room = c .before .before .before .before .before .before .before .before .before .before .before .before .before .before .before .before .pre .3 in
+    (c .count-bits .ensures ∙ ap (λ (b : List Bool). count (λ x. x) b) e, cover-stored v z (a .r) _ _ l room e (c .before .before .before .before .store-cover .ensures))
 
 pub weigh-run-spec : {M : Type 1} → statement M
 weigh-run-spec =

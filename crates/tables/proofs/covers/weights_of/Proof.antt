@@ -4,7 +4,7 @@ use Prim.Native.Nat.{ℕ, suc, _≤_, _<_, _-_, _^_}
 use native.Mathlib.Omega.{arith}
 use lib.ListN.{length}
 use Rattle.model.specs.Cover.{perBit}
-use Rattle.tables.specs.Bytes.{offset}
+use Rattle.tables.specs.Covers.{offset}
 use Rattle.tables.proofs.Weighing.{per-small}
 use Rattle.tables.proofs.Weighted.{Weighed, weighed-none, weighed-turn, weighed-all}
 use borrow.Author.Needs.{needs}
@@ -12,7 +12,8 @@ use Rattle.tables.proofs.covers.weights_of.Statement.{statement}
 use Rattle.tables.proofs.covers.weights_of.Tie as tie
 
 abbrev Inv-loop : tie.InvT-loop
-Inv-loop weights₀ covers₀ starts begins children n per r₀ weights covers r = (r ≤ n) × ((length weights ≡ length weights₀) × ((length covers ≡ length covers₀) × Weighed starts begins children n r weights covers))
+Inv-loop weights₀ covers₀ starts begins children n per r₀ weights covers r = (r ≤ n) × ((length weights ≡ length weights₀) ×
+    ((length covers ≡ length covers₀) × Weighed starts begins children n r weights covers))
 
 abbrev μ-loop : tie.MeasureT-loop
 μ-loop weights₀ covers₀ starts begins children n per r₀ weights covers r = r

@@ -5,7 +5,7 @@ use Prim.Native.Nat.{ℕ, _+_, _-_, _*_}
 use native.Mathlib.Omega.{arith}
 use lib.ListN.{take, drop}
 use Rattle.tables.specs.Lanes.{lane}
-use Rattle.tables.specs.Bytes.{Weighable, Weighted}
+use Rattle.tables.specs.Covers.{Weighable, Weighted}
 use Rattle.tables.proofs.Laning.{lane-lent}
 use Rattle.tables.proofs.Scratch.{scratch-stored}
 use borrow.Author.Needs.{needs}
@@ -45,7 +45,12 @@ part-weights-of-end-2 c = search needs
 weights-of-requires : tie.Need-weights-of-requires
 weights-of-requires c κs = let a = c .before .before .before .before .before .before .before .before .before .args in
     let w = a .n + 1 in
-    (search needs, search needs, subst (λ (b : List ℕ). Weighable (a .starts .now) b (a .children .now) (a .n)) (sym (lane-lent 6 w (6 * w) (7 * w) (a .tables .now) refl (omega arith))) (c .before .before .before .before .before .before .before .before .before .pre .3))
+    let e = lane-lent 6 w (6 * w) (7 * w) (a .tables .now) refl (omega arith) in (
+      search needs,
+      search needs,
+      subst (λ (b : List ℕ). Weighable (a .starts .now) b (a .children .now) (a .n)) (sym e)
+          (c .before .before .before .before .before .before .before .before .before .pre .3),
+    )
 
 sub-store : tie.Need-sub-store
 sub-store c = search needs
@@ -73,11 +78,12 @@ returns c = let a = c .before .before .before .before .before .before .before .b
     let w = a .n + 1 in
     let T = a .tables .now in
     let p = c .before .before .before .before .before .before .before .before .before .before .before .before .before .before .before .before .before .before .before .before .pre in
-    let made = c .before .before .before .before .before .before .before .before .before .before .weights-of .last .0 in
+    let m = c .before .before .before .before .before .before .before .before .before .before .weights-of in
+    let made = m .last .0 in
     let e : lane 6 w T ≡ take (7 * w - 6 * w) (drop (6 * w) T) = sym (lane-lent 6 w (6 * w) (7 * w) T refl (omega arith)) in
-    let s = scratch-stored 7 w T (a .scratch .now) made (c .before .before .store .last .0) (omega (arith, p .0)) (p .1) (c .before .before .before .before .before .before .before .before .before .before .weights-of .kept .0) (c .before .before .store .ensures) in (
+    let s = scratch-stored 7 w T (a .scratch .now) made (c .before .before .store .last .0) (omega (arith, p .0)) (p .1) (m .kept .0) (c .before .before .store .ensures) in (
       subst (λ (l : List ℕ). Weighted (a .starts .now) (lane 6 w T) (a .children .now) (a .n) l) (sym (s .0))
-          (subst (λ (b : List ℕ). Weighted (a .starts .now) b (a .children .now) (a .n) made) (sym e) (c .before .before .before .before .before .before .before .before .before .before .weights-of .ensures)),
+          (subst (λ (b : List ℕ). Weighted (a .starts .now) b (a .children .now) (a .n) made) (sym e) (m .ensures)),
       s .1,
     )
 

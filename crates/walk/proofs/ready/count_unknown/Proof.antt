@@ -6,7 +6,7 @@ use native.Mathlib.Omega.{arith}
 use lib.ListN.{length, drop}
 use lib.Dec.{leb}
 use Rattle.lists.specs.Lists.{count}
-use Rattle.walk.proofs.Starting.{count-next, count-end}
+use Rattle.lists.proofs.Counts.{count-next, count-end}
 use Rattle.walk.proofs.ready.count_unknown.Statement.{statement}
 use Rattle.walk.proofs.ready.count_unknown.Tie as tie
 

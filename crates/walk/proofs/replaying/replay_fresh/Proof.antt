@@ -3,26 +3,26 @@ use borrow.Author.Needs.{needs}
 use Rattle.walk.proofs.replaying.replay_fresh.Statement.{statement}
 use Rattle.walk.proofs.replaying.replay_fresh.Tie as tie
 
-zeros-2561-requires : tie.Need-zeros-2561-requires
-zeros-2561-requires c κs = search needs
+no-groups-requires : tie.Need-no-groups-requires
+no-groups-requires c κs = search needs
 
-zeros-4104-requires : tie.Need-zeros-4104-requires
-zeros-4104-requires c κs = search needs
+no-tables-requires : tie.Need-no-tables-requires
+no-tables-requires c κs = search needs
 
-sums-513-requires : tie.Need-sums-513-requires
-sums-513-requires c κs = search needs
+no-sums-requires : tie.Need-no-sums-requires
+no-sums-requires c κs = search needs
 
-sums-512-requires : tie.Need-sums-512-requires
-sums-512-requires c κs = search needs
+no-sizes-requires : tie.Need-no-sizes-requires
+no-sizes-requires c κs = search needs
 
-children-2561-requires : tie.Need-children-2561-requires
-children-2561-requires c κs = search needs
+no-children-requires : tie.Need-no-children-requires
+no-children-requires c κs = search needs
 
-bytes-8192-requires : tie.Need-bytes-8192-requires
-bytes-8192-requires c κs = search needs
+no-covers-requires : tie.Need-no-covers-requires
+no-covers-requires c κs = search needs
 
-zeros-513-requires : tie.Need-zeros-513-requires
-zeros-513-requires c κs = search needs
+no-scratch-requires : tie.Need-no-scratch-requires
+no-scratch-requires c κs = search needs
 
 slice-aggregate-replay-all : tie.Need-slice-aggregate-replay-all
 slice-aggregate-replay-all c = search needs
@@ -51,7 +51,7 @@ replay-all-requires c κs =
       p .0,
       (
         p .1,
-        record { groups = c .before .before .before .before .before .before .before .before .before .before .before .before .before .before .before .zeros-2561 .ensures; tables = c .before .before .before .before .before .before .before .before .before .before .before .before .before .before .zeros-4104 .ensures; before = c .before .before .before .before .before .before .before .before .before .before .before .before .before .sums-513 .ensures; sizes = c .before .before .before .before .before .before .before .before .before .before .before .before .sums-512 .ensures; children = c .before .before .before .before .before .before .before .before .before .before .before .children-2561 .ensures; covers = c .before .before .before .before .before .before .before .before .before .before .bytes-8192 .ensures; scratch = c .before .before .before .before .before .before .before .before .before .zeros-513 .ensures },
+        record { groups = c .before .before .before .before .before .before .before .before .before .before .before .before .before .before .before .no-groups .ensures; tables = c .before .before .before .before .before .before .before .before .before .before .before .before .before .before .no-tables .ensures; before = c .before .before .before .before .before .before .before .before .before .before .before .before .before .no-sums .ensures; sizes = c .before .before .before .before .before .before .before .before .before .before .before .before .no-sizes .ensures; children = c .before .before .before .before .before .before .before .before .before .before .before .no-children .ensures; covers = c .before .before .before .before .before .before .before .before .before .before .no-covers .ensures; scratch = c .before .before .before .before .before .before .before .before .before .no-scratch .ensures },
       ),
     )
 
@@ -68,13 +68,13 @@ pub replay-fresh-spec : {M : Type 1} → statement M
 replay-fresh-spec =
     tie.close
     (tie.spec
-    zeros-2561-requires
-    zeros-4104-requires
-    sums-513-requires
-    sums-512-requires
-    children-2561-requires
-    bytes-8192-requires
-    zeros-513-requires
+    no-groups-requires
+    no-tables-requires
+    no-sums-requires
+    no-sizes-requires
+    no-children-requires
+    no-covers-requires
+    no-scratch-requires
     slice-aggregate-replay-all
     slice-aggregate-replay-all-2
     slice-aggregate-replay-all-3

@@ -5,8 +5,8 @@ use Rattle.walk.proofs.WholeReplay.{replay-whole}
 use Rattle.walk.proofs.replaying.replay_held.Statement.{statement}
 use Rattle.walk.proofs.replaying.replay_held.Tie as tie
 
-zeros-1536-requires : tie.Need-zeros-1536-requires
-zeros-1536-requires c κs = search needs
+no-cut-requires : tie.Need-no-cut-requires
+no-cut-requires c κs = search needs
 
 slice-aggregate-cut-held : tie.Need-slice-aggregate-cut-held
 slice-aggregate-cut-held c = search needs
@@ -22,7 +22,7 @@ replay-fresh-requires c κs =
     let a = c .before .before .before .before .before .before .before .before .before .before .before .before .before .before .before .before .args in
     let p = c .before .before .before .before .before .before .before .before .before .before .before .before .before .before .before .before .pre in
     let w = c .before .before .before .before .before .before .before .before .before .before .before .cut-held in
-    let z = c .before .before .before .before .before .before .before .before .before .before .before .before .before .zeros-1536 in
+    let z = c .before .before .before .before .before .before .before .before .before .before .before .before .before .no-cut in
     (cut-tiled (a .t1) p (z .result) _ (w .result) (z .ensures) (w .ensures), cut-long (a .t1) p (z .result) _ (w .result) (z .ensures) (w .ensures))
 
 walked-requires : tie.Need-walked-requires
@@ -39,15 +39,16 @@ returns c =
     let a = c .before .before .before .before .before .before .before .before .before .before .before .before .before .before .before .before .before .before .before .before .before .before .args in
     let p = c .before .before .before .before .before .before .before .before .before .before .before .before .before .before .before .before .before .before .before .before .before .before .pre in
     let w = c .before .before .before .before .before .before .before .before .before .before .before .before .before .before .before .before .before .cut-held in
-    let z = c .before .before .before .before .before .before .before .before .before .before .before .before .before .before .before .before .before .before .before .zeros-1536 in
+    let z = c .before .before .before .before .before .before .before .before .before .before .before .before .before .before .before .before .before .before .before .no-cut in
     let r = c .before .before .before .before .before .replay-fresh in
-    replay-whole (a .t1) p (a .rows .now) (a .steps .now) _ (cut-reads (a .t1) p (z .result) _ (w .result) (z .ensures) (w .ensures)) (r .result) _ _ (r .ensures) (c .walked .result) (c .walked .ensures)
+    replay-whole (a .t1) p (a .rows .now) (a .steps .now) _ (cut-reads (a .t1) p (z .result) _ (w .result) (z .ensures) (w .ensures)) (r .result) _ _ (r .ensures)
+    (c .walked .result) (c .walked .ensures)
 
 pub replay-held-spec : {M : Type 1} → statement M
 replay-held-spec =
     tie.close
     (tie.spec
-    zeros-1536-requires
+    no-cut-requires
     slice-aggregate-cut-held
     cut-held-requires
     slice-aggregate-replay-fresh

@@ -4,26 +4,26 @@ use native.Mathlib.Omega.{arith}
 use Rattle.walk.proofs.walking.walk_fresh.Statement.{statement}
 use Rattle.walk.proofs.walking.walk_fresh.Tie as tie
 
-zeros-2561-requires : tie.Need-zeros-2561-requires
-zeros-2561-requires c κs = search needs
+no-groups-requires : tie.Need-no-groups-requires
+no-groups-requires c κs = search needs
 
-zeros-4104-requires : tie.Need-zeros-4104-requires
-zeros-4104-requires c κs = search needs
+no-tables-requires : tie.Need-no-tables-requires
+no-tables-requires c κs = search needs
 
-sums-513-requires : tie.Need-sums-513-requires
-sums-513-requires c κs = search needs
+no-sums-requires : tie.Need-no-sums-requires
+no-sums-requires c κs = search needs
 
-sums-512-requires : tie.Need-sums-512-requires
-sums-512-requires c κs = search needs
+no-sizes-requires : tie.Need-no-sizes-requires
+no-sizes-requires c κs = search needs
 
-children-2561-requires : tie.Need-children-2561-requires
-children-2561-requires c κs = search needs
+no-children-requires : tie.Need-no-children-requires
+no-children-requires c κs = search needs
 
-bytes-8192-requires : tie.Need-bytes-8192-requires
-bytes-8192-requires c κs = search needs
+no-covers-requires : tie.Need-no-covers-requires
+no-covers-requires c κs = search needs
 
-zeros-513-requires : tie.Need-zeros-513-requires
-zeros-513-requires c κs = search needs
+no-scratch-requires : tie.Need-no-scratch-requires
+no-scratch-requires c κs = search needs
 
 slice-aggregate-walk-range : tie.Need-slice-aggregate-walk-range
 slice-aggregate-walk-range c = search needs
@@ -52,7 +52,7 @@ walk-range-requires c κs =
       p .0,
       (
         (p .1 .0, p .1 .1, omega arith),
-        record { groups = c .before .before .before .before .before .before .before .before .before .before .before .before .before .before .before .zeros-2561 .ensures; tables = c .before .before .before .before .before .before .before .before .before .before .before .before .before .before .zeros-4104 .ensures; before = c .before .before .before .before .before .before .before .before .before .before .before .before .before .sums-513 .ensures; sizes = c .before .before .before .before .before .before .before .before .before .before .before .before .sums-512 .ensures; children = c .before .before .before .before .before .before .before .before .before .before .before .children-2561 .ensures; covers = c .before .before .before .before .before .before .before .before .before .before .bytes-8192 .ensures; scratch = c .before .before .before .before .before .before .before .before .before .zeros-513 .ensures },
+        record { groups = c .before .before .before .before .before .before .before .before .before .before .before .before .before .before .before .no-groups .ensures; tables = c .before .before .before .before .before .before .before .before .before .before .before .before .before .before .no-tables .ensures; before = c .before .before .before .before .before .before .before .before .before .before .before .before .before .no-sums .ensures; sizes = c .before .before .before .before .before .before .before .before .before .before .before .before .no-sizes .ensures; children = c .before .before .before .before .before .before .before .before .before .before .before .no-children .ensures; covers = c .before .before .before .before .before .before .before .before .before .before .no-covers .ensures; scratch = c .before .before .before .before .before .before .before .before .before .no-scratch .ensures },
       ),
     )
 
@@ -69,13 +69,13 @@ pub walk-fresh-spec : {M : Type 1} → statement M
 walk-fresh-spec =
     tie.close
     (tie.spec
-    zeros-2561-requires
-    zeros-4104-requires
-    sums-513-requires
-    sums-512-requires
-    children-2561-requires
-    bytes-8192-requires
-    zeros-513-requires
+    no-groups-requires
+    no-tables-requires
+    no-sums-requires
+    no-sizes-requires
+    no-children-requires
+    no-covers-requires
+    no-scratch-requires
     slice-aggregate-walk-range
     slice-aggregate-walk-range-2
     slice-aggregate-walk-range-3
