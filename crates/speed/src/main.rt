@@ -7,7 +7,11 @@ use libc::STDIN_FILENO;
 use libc::STDOUT_FILENO;
 use model::CausalGraph;
 use model::EventsAnswer;
+use model::MAX_RUNS;
+use model::MAX_STARTS;
 use model::Outcome;
+use script::WORDS;
+use script::Words;
 
 // Where the pushes stand: the graph, the place of the next word, and 1 if the last push was refused.
 struct Built {
@@ -23,6 +27,16 @@ struct Told {
     refused: u64,
 }
 
+// As many words as any graph's replay has.
+const MAX_ROWS: usize = MAX_RUNS * MAX_STARTS / 2;
+
+const MAX_STEPS: usize = 524288;
+
+type Rows = [u32; MAX_ROWS];
+
+type Steps = [u32; MAX_STEPS];
+
+// 1 if a push was refused.
 fn is_refused(answer: EventsAnswer) -> u64 {
     match answer {
         EventsAnswer::Events(_, _) => 0,
@@ -30,6 +44,7 @@ fn is_refused(answer: EventsAnswer) -> u64 {
     }
 }
 
+// 1 if a replay was refused.
 fn is_undone(outcome: Outcome) -> u64 {
     match outcome {
         Outcome::Done => 0,
@@ -37,25 +52,11 @@ fn is_undone(outcome: Outcome) -> u64 {
     }
 }
 
-// Makes the push whose words stand at `b.at`, if all of them are there.
-fn push(b: Built, words: &[u32]) -> Built {
-    let at = b.at;
-    if words.len() < 2 {
-        return b;
-    }
-    if words.len() - 2 < at {
-        return b;
-    }
-    let from = at + 2;
-    let count = script::count_at(words, at + 1);
-    if words.len() - from < count {
-        return b;
-    }
-    let to = from + count;
-    let g = b.graph;
-    let pushed = graph::pushing::push(g, &words[from..to], script::get(words, at));
-    let made = pushed.graph;
-    let answer = pushed.answer;
+// Makes a push of `len` events, whose words end at place `to`.
+fn pushed(g: CausalGraph, parents: &[u32], len: u32, to: usize) -> Built {
+    let p = graph::pushing::push(g, parents, len);
+    let answer = p.answer;
+    let made = p.graph;
     Built {
         graph: made,
         at: to,
@@ -63,8 +64,22 @@ fn push(b: Built, words: &[u32]) -> Built {
     }
 }
 
+// Makes the push whose words stand at `b.at`, if all of them are there.
+fn push(b: Built, words: &Words) -> Built {
+    let at = b.at;
+    let to = script::end_of(words, at);
+    let all = &words[..];
+    if all.len() < to {
+        return b;
+    }
+    if to - at < 2 {
+        return b;
+    }
+    pushed(b.graph, &all[at + 2..to], all[at], to)
+}
+
 // All pushes, from `new`.
-fn build(words: &[u32]) -> Built {
+fn build(words: &Words) -> Built {
     let fresh = graph::fresh::new();
     let mut b = Built {
         graph: fresh,
@@ -79,25 +94,20 @@ fn build(words: &[u32]) -> Built {
     b
 }
 
-fn pushes(words: &[u32]) -> Told {
-    let b = build(words);
-    Told {
-        count: script::wide(script::get(words, 2)),
-        moved: 0,
-        refused: b.refused,
-    }
-}
-
-fn all_pushes(words: &[u32], times: u32) -> Told {
+// The pushes, so many times.
+fn pushes(words: &Words, times: u32) -> Told {
     let mut told = nothing();
     let mut left = times;
     while 0 < left {
-        told = pushes(words);
+        let b = build(words);
+        told.refused = b.refused;
+        told.count = script::wide(script::get(words, 2));
         left -= 1;
     }
     told
 }
 
+// One replay.
 fn replay(g: CausalGraph, rows: &mut [u32], steps: &mut [u32]) -> Told {
     let w = walk::replaying::replay(g, rows, steps);
     let outcome = w.outcome;
@@ -108,7 +118,8 @@ fn replay(g: CausalGraph, rows: &mut [u32], steps: &mut [u32]) -> Told {
     }
 }
 
-fn all_replays(g: CausalGraph, times: u32, rows: &mut [u32], steps: &mut [u32]) -> Told {
+// The replay, so many times.
+fn replays(g: CausalGraph, times: u32, rows: &mut Rows, steps: &mut Steps) -> Told {
     let mut told = nothing();
     let mut left = times;
     while 0 < left {
@@ -118,6 +129,7 @@ fn all_replays(g: CausalGraph, times: u32, rows: &mut [u32], steps: &mut [u32]) 
     told
 }
 
+// Before the first.
 fn nothing() -> Told {
     Told {
         count: 0,
@@ -126,32 +138,46 @@ fn nothing() -> Told {
     }
 }
 
-fn run(words: &[u32], rows: &mut [u32], steps: &mut [u32]) -> Told {
+// Builds the graph, and does what the script says.
+fn run(words: &Words, rows: &mut Rows, steps: &mut Steps) -> Told {
     let times = script::get(words, 0);
     let b = build(words);
     match script::get(words, 1) {
-        1 => all_replays(b.graph, times, rows, steps),
-        2 => all_pushes(words, times),
+        1 => replays(b.graph, times, rows, steps),
+        2 => pushes(words, times),
         _ => nothing(),
     }
 }
 
-fn print(told: Told) {
-    io::print_decimal(STDOUT_FILENO, told.count);
-    io::write_all(STDOUT_FILENO, b" ");
-    io::print_decimal(STDOUT_FILENO, told.moved);
-    io::write_all(STDOUT_FILENO, b" ");
-    io::print_decimal(STDOUT_FILENO, told.refused);
-    io::write_all(STDOUT_FILENO, b"\n");
+// Prints a number and a byte.
+fn print(n: u64, after: u8) {
+    let end = [after];
+    io::print_decimal(STDOUT_FILENO, n);
+    io::write_all(STDOUT_FILENO, &end);
+}
+
+// The rooms. A function hands an array out without what it holds, so that no proof looks at its elements.
+fn word_room() -> Words {
+    [0; WORDS]
+}
+
+fn row_room() -> Rows {
+    [0; MAX_ROWS]
+}
+
+fn step_room() -> Steps {
+    [0; MAX_STEPS]
 }
 
 fn main() {
     let mut bytes = io::large_buffer();
-    let mut words = [0u32; 16384];
-    let mut rows = [0u32; 131328];
-    let mut steps = [0u32; 524288];
+    let mut words = word_room();
+    let mut rows = row_room();
+    let mut steps = step_room();
     io::read_full(STDIN_FILENO, &mut bytes);
     script::decode(&bytes, &mut words);
     let told = run(&words, &mut rows, &mut steps);
-    print(told);
+    print(told.count, b' ');
+    print(told.moved, b' ');
+    print(told.refused, b'\n');
 }

@@ -1,49 +1,58 @@
-// The words on standard input, read at any place.
+// The words on standard input.
+ghost use Prim.Native.Nat.{_≤_};
 
+// As many bytes as the kit's large buffer, and their words.
+const BYTES: usize = 65536;
+
+pub const WORDS: usize = BYTES / 4;
+
+pub type Bytes = [u8; BYTES];
+
+pub type Words = [u32; WORDS];
+
+// A byte as a word.
 fn widened(b: u8) -> u32 {
     b as u32
 }
 
-fn byte(bytes: &[u8], i: usize) -> u32 {
-    if i < bytes.len() {
-        widened(bytes[i])
-    } else {
-        0
+// The little-endian word of the four bytes from place `i` on; 0 if not all of them are there.
+fn word_at(bytes: &Bytes, i: usize) -> u32 {
+    if BYTES - 4 < i {
+        return 0;
     }
+    let low = widened(bytes[i]) | widened(bytes[i + 1]) << 8;
+    low | widened(bytes[i + 2]) << 16 | widened(bytes[i + 3]) << 24
 }
 
-// The little-endian word of the four bytes from place `i` on.
-fn word_at(bytes: &[u8], i: usize) -> u32 {
-    if i < 65533 {
-        let low = byte(bytes, i) | byte(bytes, i + 1) << 8;
-        return low | byte(bytes, i + 2) << 16 | byte(bytes, i + 3) << 24;
-    }
-    0
-}
-
-fn put(list: &mut [u32], i: usize, word: u32) {
-    if i < list.len() {
-        list[i] = word;
-    }
-}
-
-// The words of 65,536 bytes.
-pub fn decode(bytes: &[u8], words: &mut [u32]) {
+// The words of the bytes.
+pub fn decode(bytes: &Bytes, words: &mut Words) {
     let mut i = 0;
-    while i < 16384 {
-        put(words, i, word_at(bytes, 4 * i));
+    while i < WORDS {
+        words[i] = word_at(bytes, 4 * i);
         i += 1;
     }
 }
 
 // The word at place `i`; past the end, 0.
-pub fn get(list: &[u32], i: usize) -> u32 {
-    if i < list.len() { list[i] } else { 0 }
+pub fn get(words: &Words, i: usize) -> u32 {
+    if i < WORDS { words[i] } else { 0 }
 }
 
-// The same, as a count.
-pub fn count_at(list: &[u32], i: usize) -> usize {
-    get(list, i) as usize
+// The end of the push whose words start at place `at`; `at` if its count is past the end.
+pub fn end_of(words: &Words, at: usize) -> usize
+    ensures { λ r. ⌜ at ≤ r ⌝ }
+{
+    if WORDS - 2 < at {
+        return at;
+    }
+    at + 2 + index(get(words, at + 1))
+}
+
+// A word as a count, and as a long number.
+fn index(word: u32) -> usize
+    ensures { λ r. ⌜ r ≤ 4294967295 ⌝ }
+{
+    word as usize
 }
 
 pub fn wide(word: u32) -> u64 {

@@ -1,73 +1,53 @@
-// The calls' answers in a line: the refusal's number or 0, then the values, 0 where refused.
-ghost use mathlib.Core.Path.{_≡_};
-ghost use Rattle.model.specs.Refusals.{number as Refusals·number};
-use crate::output;
+// The calls' answers as the values of a line: the refusal's number or 0, then up to two, 0 where there are none.
+use crate::lines;
+use crate::lines::Said;
+use crate::words;
 use model::BoolAnswer;
 use model::EventAnswer;
 use model::EventsAnswer;
 use model::Outcome;
 use model::Refusal;
 use model::RunAnswer;
+use model::Walked;
+use model::Written;
+use model::number;
 
-// A refusal's number.
-pub fn number(r: Refusal) -> u32
-    ensures { λ n. ⌜ n ≡ Refusals·number r ⌝ }
-{
-    match r {
-        Refusal::Broken => 1,
-        Refusal::NoEvents => 2,
-        Refusal::NotRising => 3,
-        Refusal::UnknownEvent => 4,
-        Refusal::TooManyEvents => 5,
-        Refusal::TooManyRuns => 6,
-        Refusal::TooManyEntries => 7,
-        Refusal::FrontierTooLong => 8,
-        Refusal::Outside => 9,
-        Refusal::Unmarked => 10,
-        Refusal::ListTooShort => 11,
-        Refusal::KnownTooLong => 12,
-        Refusal::RowsTooLong => 13,
-        Refusal::BookTooShort => 14,
-        Refusal::BookTooLong => 15,
-        Refusal::UnknownKind => 16,
+// A refusal.
+fn refused(pattern: u32, r: Refusal) -> Said {
+    lines::three(pattern, words::wide(number(r)), 0, 0)
+}
+
+// One or two values.
+fn given(pattern: u32, first: u32, second: u32) -> Said {
+    lines::three(pattern, 0, words::wide(first), words::wide(second))
+}
+
+// Each kind of answer.
+pub fn outcome(pattern: u32, answer: Outcome) -> Said {
+    match answer {
+        Outcome::Done => lines::named(pattern),
+        Outcome::Refused(r) => refused(pattern, r),
     }
 }
 
-fn two(out: &mut [u8], used: usize, a: u32, b: u32) -> usize {
-    let now = output::word(out, used, a);
-    output::word(out, now, b)
-}
-
-fn three(out: &mut [u8], used: usize, a: u32, b: u32, c: u32) -> usize {
-    let now = two(out, used, a, b);
-    output::word(out, now, c)
-}
-
-pub fn outcome(out: &mut [u8], used: usize, answer: Outcome) -> usize {
+pub fn event(pattern: u32, answer: EventAnswer) -> Said {
     match answer {
-        Outcome::Done => output::word(out, used, 0),
-        Outcome::Refused(r) => output::word(out, used, number(r)),
+        EventAnswer::Event(e) => given(pattern, e.0, 0),
+        EventAnswer::Refused(r) => refused(pattern, r),
     }
 }
 
-pub fn event(out: &mut [u8], used: usize, answer: EventAnswer) -> usize {
+pub fn events(pattern: u32, answer: EventsAnswer) -> Said {
     match answer {
-        EventAnswer::Event(e) => two(out, used, 0, e.0),
-        EventAnswer::Refused(r) => two(out, used, number(r), 0),
+        EventsAnswer::Events(first, end) => given(pattern, first.0, end.0),
+        EventsAnswer::Refused(r) => refused(pattern, r),
     }
 }
 
-pub fn events(out: &mut [u8], used: usize, answer: EventsAnswer) -> usize {
+pub fn run(pattern: u32, answer: RunAnswer) -> Said {
     match answer {
-        EventsAnswer::Events(first, end) => three(out, used, 0, first.0, end.0),
-        EventsAnswer::Refused(r) => three(out, used, number(r), 0, 0),
-    }
-}
-
-pub fn run(out: &mut [u8], used: usize, answer: RunAnswer) -> usize {
-    match answer {
-        RunAnswer::Run(r) => two(out, used, 0, r.0),
-        RunAnswer::Refused(r) => two(out, used, number(r), 0),
+        RunAnswer::Run(r) => given(pattern, r.0, 0),
+        RunAnswer::Refused(r) => refused(pattern, r),
     }
 }
 
@@ -75,23 +55,26 @@ fn bit(b: bool) -> u32 {
     if b { 1 } else { 0 }
 }
 
-pub fn truth(out: &mut [u8], used: usize, answer: BoolAnswer) -> usize {
+pub fn truth(pattern: u32, answer: BoolAnswer) -> Said {
     match answer {
-        BoolAnswer::Told(b) => two(out, used, 0, bit(b)),
-        BoolAnswer::Refused(r) => two(out, used, number(r), 0),
+        BoolAnswer::Told(b) => given(pattern, bit(b), 0),
+        BoolAnswer::Refused(r) => refused(pattern, r),
     }
 }
 
-pub fn event_or_zero(answer: EventAnswer) -> u32 {
-    match answer {
-        EventAnswer::Event(e) => e.0,
-        EventAnswer::Refused(_) => 0,
-    }
+// A written list's: the count stands after the refusal, refused or not.
+pub fn written(pattern: u32, w: Written) -> Said {
+    let answer = w.outcome;
+    let mut s = outcome(pattern, answer);
+    s.b = words::wide_count(w.count);
+    s
 }
 
-pub fn truth_or_zero(answer: BoolAnswer) -> u32 {
-    match answer {
-        BoolAnswer::Told(b) => bit(b),
-        BoolAnswer::Refused(_) => 0,
-    }
+// A walk's or a replay's: so do its two counts.
+pub fn walked(pattern: u32, w: Walked) -> Said {
+    let answer = w.outcome;
+    let mut s = outcome(pattern, answer);
+    s.b = w.count;
+    s.c = w.moved;
+    s
 }

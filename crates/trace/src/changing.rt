@@ -1,38 +1,37 @@
-// The calls that give a graph: each makes the call, puts its line and answers the graph.
+// The calls that give a graph: each answers the graph and what the line says.
 use crate::answers;
-use crate::output;
+use crate::lines;
+use crate::lines::Said;
 use crate::words;
 use model::CausalGraph;
 use model::EventIndex;
 use model::EventRunIndex;
+use model::MAX_ENTRIES;
+use model::MAX_FRONTIER;
+use model::MAX_RUNS;
+use model::MAX_STARTS;
 use model::Pushed;
 use model::Started;
 
-// The current graph after a call, and how many bytes of the output buffer are used.
-pub struct Changed {
+// The current graph after a call, and what the line says.
+pub struct Called {
     pub graph: CausalGraph,
-    pub used: usize,
+    pub said: Said,
 }
 
-pub fn new(out: &mut [u8], used: usize) -> Changed {
-    let graph = graph::fresh::new();
-    let now = output::text(out, used, b"new\n");
-    Changed {
+// A graph with a line.
+pub fn with(graph: CausalGraph, said: Said) -> Called {
+    Called {
         graph: graph,
-        used: now,
+        said: said,
     }
 }
 
-pub fn after(events: u32, frontier: &[u32], out: &mut [u8], used: usize) -> Changed {
+// Each call; `change` says which is which.
+fn after(events: u32, frontier: &[u32]) -> Called {
     let made = graph::fresh::after(EventIndex(events), frontier);
-    let graph = made.graph;
-    let answer = made.outcome;
-    let named = output::text(out, used, b"after");
-    let told = answers::outcome(out, named, answer);
-    Changed {
-        graph: graph,
-        used: output::end(out, told),
-    }
+    let outcome = made.outcome;
+    with(made.graph, answers::outcome(1, outcome))
 }
 
 // By value, or lent where the length is odd: so both forms are run.
@@ -51,84 +50,81 @@ fn either_start(g: CausalGraph, at: EventIndex) -> Started {
     graph::starting::start_run_at(g, at)
 }
 
-pub fn push(g: CausalGraph, parents: &[u32], len: u32, out: &mut [u8], used: usize) -> Changed {
+fn push(g: CausalGraph, len: u32, parents: &[u32]) -> Called {
     let pushed = either_push(g, parents, len);
-    let graph = pushed.graph;
     let answer = pushed.answer;
-    let named = output::text(out, used, b"push");
-    let told = answers::events(out, named, answer);
-    Changed {
-        graph: graph,
-        used: output::end(out, told),
-    }
+    with(pushed.graph, answers::events(2, answer))
 }
 
-pub fn start(g: CausalGraph, at: u32, out: &mut [u8], used: usize) -> Changed {
+fn start(g: CausalGraph, at: u32) -> Called {
     let started = either_start(g, EventIndex(at));
-    let graph = started.graph;
     let answer = started.answer;
-    let named = output::text(out, used, b"start");
-    let told = answers::truth(out, named, answer);
-    Changed {
-        graph: graph,
-        used: output::end(out, told),
-    }
+    with(started.graph, answers::truth(3, answer))
 }
 
 // Lent.
-pub fn take(g: CausalGraph, out: &mut [u8], used: usize) -> Changed {
+fn take(g: CausalGraph) -> Called {
     let taken = calls::lending::take_changed_from(g);
-    let graph = taken.graph;
     let answer = taken.answer;
-    let named = output::text(out, used, b"take");
-    let told = answers::run(out, named, answer);
-    Changed {
-        graph: graph,
-        used: output::end(out, told),
-    }
+    with(taken.graph, answers::run(4, answer))
 }
+
+// Where the lists of a record begin: after the counts, the starts, the parents.
+const STARTS: usize = 5;
+
+const PARENTS: usize = STARTS + 2 * MAX_STARTS;
+
+const FRONTIER: usize = PARENTS + MAX_ENTRIES;
 
 // Words of a list, from place `from` on.
-fn words_513(list: &[u32], from: usize) -> [u32; 513] {
-    let mut a = [0u32; 513];
+fn starts_at(list: &[u32], from: usize) -> [u32; MAX_STARTS] {
+    let mut a = [0u32; MAX_STARTS];
     words::copy(list, from, &mut a);
     a
 }
 
-fn words_2048(list: &[u32], from: usize) -> [u32; 2048] {
-    let mut a = [0u32; 2048];
+fn entries_at(list: &[u32], from: usize) -> [u32; MAX_ENTRIES] {
+    let mut a = [0u32; MAX_ENTRIES];
     words::copy(list, from, &mut a);
     a
 }
 
-fn words_512(list: &[u32], from: usize) -> [u32; 512] {
-    let mut a = [0u32; 512];
+fn runs_at(list: &[u32], from: usize) -> [u32; MAX_RUNS] {
+    let mut a = [0u32; MAX_RUNS];
     words::copy(list, from, &mut a);
     a
 }
 
-// The record whose words follow the operation word.
-fn record(call: &[u32]) -> CausalGraph {
+// A word of a list, as a count.
+fn count_at(list: &[u32], i: usize) -> usize {
+    words::index(words::get(list, i))
+}
+
+// The record that the words are.
+fn record(list: &[u32]) -> CausalGraph {
     CausalGraph {
-        starts: words_513(call, 6),
-        parent_starts: words_513(call, 519),
-        parents: words_2048(call, 1032),
-        frontier: words_512(call, 3080),
-        seen_prefix_len: words_512(call, 3592),
-        critical_versions: words_512(call, 4104),
-        run_count: words::count_at(call, 1),
-        entry_count: words::count_at(call, 2),
-        frontier_count: words::count_at(call, 3),
-        mark_count: words::count_at(call, 4),
-        changed_from: EventRunIndex(words::get(call, 5)),
+        starts: starts_at(list, STARTS),
+        parent_starts: starts_at(list, STARTS + MAX_STARTS),
+        parents: entries_at(list, PARENTS),
+        frontier: runs_at(list, FRONTIER),
+        seen_prefix_len: runs_at(list, FRONTIER + MAX_FRONTIER),
+        critical_versions: runs_at(list, FRONTIER + MAX_FRONTIER + MAX_RUNS),
+        run_count: count_at(list, 0),
+        entry_count: count_at(list, 1),
+        frontier_count: count_at(list, 2),
+        mark_count: count_at(list, 3),
+        changed_from: EventRunIndex(words::get(list, 4)),
     }
 }
 
-pub fn raw(call: &[u32], out: &mut [u8], used: usize) -> Changed {
-    let graph = record(call);
-    let now = output::text(out, used, b"raw\n");
-    Changed {
-        graph: graph,
-        used: now,
+// The call of an operation, by its first argument and the words that follow the arguments.
+pub fn change(g: CausalGraph, operation: u32, first: u32, list: &[u32]) -> Called {
+    match operation {
+        0 => with(graph::fresh::new(), lines::named(0)),
+        1 => after(first, list),
+        2 => push(g, first, list),
+        3 => start(g, first),
+        4 => take(g),
+        _ => with(record(list), lines::named(14)),
     }
 }

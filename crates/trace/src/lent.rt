@@ -1,26 +1,28 @@
-// The calls that write into a lent list: each fills the list with BLANK, makes the call, and puts the line, with the list
-// up to its last word that is no longer BLANK.
+// The calls that write into a lent list, all of whose words are BLANK before. The line has the list up to its last word that is no
+// longer BLANK; then those words are made BLANK again.
 use crate::answers;
-use crate::output;
-use crate::words;
+use crate::lines::Said;
+use crate::script;
+use crate::script::Head;
+use crate::words::least;
 use model::CausalGraph;
 use model::EventRunIndex;
-use model::Walked;
-use model::Written;
 
-const BLANK: u32 = 4294967295;
+pub const BLANK: u32 = 4294967295;
 
-pub fn fill(list: &mut [u32]) {
+// Makes the first `n` words of a list BLANK.
+pub fn clear(list: &mut [u32], n: usize) {
+    let to = least(n, list.len());
     let mut i = 0;
-    while i < list.len() {
+    while i < to {
         list[i] = BLANK;
         i += 1;
     }
 }
 
-// How many words stand before the BLANK ones at the end.
-pub fn filled(list: &[u32]) -> usize {
-    let mut n = list.len();
+// How many of the first `room` words of a list stand before the BLANK ones at their end.
+pub fn filled(list: &[u32], room: usize) -> usize {
+    let mut n = least(room, list.len());
     while 0 < n {
         if list[n - 1] != BLANK {
             return n;
@@ -30,83 +32,54 @@ pub fn filled(list: &[u32]) -> usize {
     0
 }
 
-fn written(list: &[u32], w: Written, out: &mut [u8], used: usize) -> usize {
-    let outcome = w.outcome;
-    let told = answers::outcome(out, used, outcome);
-    let counted = output::count(out, told, w.count);
-    let listed = output::list(out, counted, list, filled(list));
-    output::end(out, listed)
+// Each call answers what its line says.
+fn cut(g: CausalGraph, from: u32, list: &mut [u32]) -> Said {
+    answers::written(
+        5,
+        graph::cut::split_at_critical_versions_from(g, EventRunIndex(from), list),
+    )
 }
 
-pub fn cut(g: CausalGraph, from: u32, list: &mut [u32], out: &mut [u8], used: usize) -> usize {
-    fill(list);
-    let w = graph::cut::split_at_critical_versions_from(g, EventRunIndex(from), list);
-    let named = output::text(out, used, b"cut");
-    written(list, w, out, named)
+fn archive(g: CausalGraph, list: &mut [u32]) -> Said {
+    answers::written(8, graph::beside::archive_points(g, list))
 }
 
-pub fn archive(g: CausalGraph, list: &mut [u32], out: &mut [u8], used: usize) -> usize {
-    fill(list);
-    let w = graph::beside::archive_points(g, list);
-    let named = output::text(out, used, b"archive");
-    written(list, w, out, named)
+fn concurrent(g: CausalGraph, run: u32, list: &mut [u32]) -> Said {
+    answers::written(
+        9,
+        graph::beside::concurrent_runs(g, EventRunIndex(run), list),
+    )
 }
 
-pub fn concurrent(
-    g: CausalGraph,
-    run: u32,
-    list: &mut [u32],
-    out: &mut [u8],
-    used: usize,
-) -> usize {
-    fill(list);
-    let w = graph::beside::concurrent_runs(g, EventRunIndex(run), list);
-    let named = output::text(out, used, b"concurrent");
-    written(list, w, out, named)
+fn walk(g: CausalGraph, h: Head, rows: &mut [u32], steps: &mut [u32]) -> Said {
+    let a = h.words;
+    let first = EventRunIndex(a[1]);
+    let end = EventRunIndex(a[2]);
+    answers::walked(
+        6,
+        walk::walking::walk(g, first, end, a[3], a[4], rows, steps),
+    )
 }
 
-fn walked(rows: &[u32], steps: &[u32], w: Walked, out: &mut [u8], used: usize) -> usize {
-    let outcome = w.outcome;
-    let told = answers::outcome(out, used, outcome);
-    let counted = output::long(out, told, w.count);
-    let moved = output::long(out, counted, w.moved);
-    let listed = output::list(out, moved, rows, filled(rows));
-    let stepped = output::list(out, listed, steps, filled(steps));
-    output::end(out, stepped)
+fn replay(g: CausalGraph, rows: &mut [u32], steps: &mut [u32]) -> Said {
+    answers::walked(7, walk::replaying::replay(g, rows, steps))
 }
 
-fn walk_of(g: CausalGraph, call: &[u32], rows: &mut [u32], steps: &mut [u32]) -> Walked {
-    let first = EventRunIndex(words::get(call, 1));
-    let end = EventRunIndex(words::get(call, 2));
-    let known = words::get(call, 3);
-    walk::walking::walk(g, first, end, known, words::get(call, 4), rows, steps)
+// Makes the call of an operation and its arguments.
+fn make(g: CausalGraph, h: Head, rows: &mut [u32], steps: &mut [u32]) -> Said {
+    let operation = h.operation;
+    match operation {
+        5 => cut(g, h.first, steps),
+        6 => walk(g, h, rows, steps),
+        7 => replay(g, rows, steps),
+        8 => archive(g, steps),
+        _ => concurrent(g, h.first, steps),
+    }
 }
 
-pub fn walk(
-    g: CausalGraph,
-    call: &[u32],
-    rows: &mut [u32],
-    steps: &mut [u32],
-    out: &mut [u8],
-    used: usize,
-) -> usize {
-    fill(rows);
-    fill(steps);
-    let w = walk_of(g, call, rows, steps);
-    let named = output::text(out, used, b"walk");
-    walked(rows, steps, w, out, named)
-}
-
-pub fn replay(
-    g: CausalGraph,
-    rows: &mut [u32],
-    steps: &mut [u32],
-    out: &mut [u8],
-    used: usize,
-) -> usize {
-    fill(rows);
-    fill(steps);
-    let w = walk::replaying::replay(g, rows, steps);
-    let named = output::text(out, used, b"replay");
-    walked(rows, steps, w, out, named)
+// The same, on lists that have the room that the call names.
+pub fn write(g: CausalGraph, h: Head, rows: &mut [u32], steps: &mut [u32]) -> Said {
+    let n = least(script::room(h, script::ROWS), rows.len());
+    let m = least(script::room(h, script::STEPS), steps.len());
+    make(g, h, &mut rows[0..n], &mut steps[0..m])
 }

@@ -4,7 +4,8 @@ mod answers;
 mod changing;
 mod input;
 mod lent;
-mod lookups;
+mod lines;
+mod looking;
 mod making;
 mod output;
 mod reading;
@@ -12,131 +13,73 @@ mod script;
 mod whole;
 mod words;
 
+use input::Bytes;
 use input::Input;
-use model::CausalGraph;
+use making::Made;
+use output::Out;
+use script::Call;
+use script::HEAD;
+use script::MAX_LIST;
+use script::MAX_ROWS;
+use script::MAX_STEPS;
+use script::Rows;
+use script::Steps;
 
-// What goes on from call to call: the graph, how many bytes of the output buffer are used, and where the input stands.
-struct State {
-    graph: CausalGraph,
-    used: usize,
-    at: usize,
-    end: usize,
-    // As in Input.
-    state: usize,
-}
-
-// The same, with another state.
-fn stopped(s: State, state: usize) -> State {
-    let mut t = s;
-    t.state = state;
-    t
-}
-
-// The state after a call: STOPPED if a write failed.
-fn going(used: usize, state: usize) -> usize {
+// Where the input stands after a call: STOPPED if a write failed.
+fn going(used: usize, r: Input) -> Input {
     if used == output::LOST {
-        return input::STOPPED;
+        return input::turned(r, input::STOPPED);
     }
-    state
-}
-
-// Makes the call that was read, and puts its line.
-fn answered(
-    s: State,
-    r: Input,
-    call: &[u32],
-    list: &[u32],
-    rows: &mut [u32],
-    steps: &mut [u32],
-    out: &mut [u8],
-) -> State {
-    let count = script::count(call);
-    if list.len() < count {
-        return stopped(s, input::BAD);
-    }
-    let g = s.graph;
-    let c = making::make(g, call, &list[0..count], rows, steps, out, s.used);
-    let h = c.graph;
-    State {
-        graph: h,
-        used: c.used,
-        at: r.at,
-        end: r.end,
-        state: going(c.used, c.state),
-    }
-}
-
-// Reads a call, makes it and puts its line.
-fn turn(
-    s: State,
-    bytes: &mut [u8],
-    call: &mut [u32],
-    list: &mut [u32],
-    rows: &mut [u32],
-    steps: &mut [u32],
-    out: &mut [u8],
-) -> State {
-    let before = Input {
-        at: s.at,
-        end: s.end,
-        state: s.state,
-    };
-    let r = script::read(bytes, call, list, before);
-    if r.state != input::READING {
-        return stopped(s, r.state);
-    }
-    answered(s, r, call, list, rows, steps, out)
+    r
 }
 
 // Makes the calls until the script ends. A proved loop has to end, and nothing says that a script does: it counts its turns
 // down, from a number that no run uses up.
-fn run(
-    bytes: &mut [u8],
-    call: &mut [u32],
-    list: &mut [u32],
-    rows: &mut [u32],
-    steps: &mut [u32],
-    out: &mut [u8],
-) {
-    let graph = graph::fresh::new();
-    let mut s = State {
-        graph: graph,
+fn run(bytes: &mut Bytes, call: &mut Call, rows: &mut Rows, steps: &mut Steps, out: &mut Out) {
+    let mut m = Made {
+        graph: graph::fresh::new(),
         used: 0,
-        at: 0,
-        end: 0,
-        state: input::READING,
     };
+    let mut r = input::start();
     let mut turns = u64::MAX;
-    while turns > 0 && s.state == input::READING {
-        s = turn(s, bytes, call, list, rows, steps, out);
+    while turns > 0 && r.state == input::READING {
+        r = script::read(bytes, call, r);
+        if r.state == input::READING {
+            m = making::answer(m, call, rows, steps, out);
+            r = going(m.used, r);
+        }
         turns -= 1;
     }
-    finish(s.state, out, s.used);
+    finish(r.state, out, m.used);
 }
 
-// Writes what is not written yet.
-fn finish(state: usize, out: &mut [u8], used: usize) {
+// Writes what is not written yet, after the last line of a bad script.
+fn finish(state: usize, out: &mut Out, used: usize) {
+    let mut now = used;
     if state == input::BAD {
-        let now = output::text(out, used, b"bad script\n");
-        output::flush(out, now);
-        return;
+        now = output::text(out, used, b"bad script\n");
     }
-    output::flush(out, used);
+    output::flush(out, now);
+}
+
+// The rooms: the rows and the steps are BLANK before a call. A function hands an array out without what it holds, so that no proof looks at its elements.
+fn call_room() -> Call {
+    [0; HEAD + MAX_LIST]
+}
+
+fn row_room() -> Rows {
+    [lent::BLANK; MAX_ROWS]
+}
+
+fn step_room() -> Steps {
+    [lent::BLANK; MAX_STEPS]
 }
 
 fn main() {
     let mut bytes = io::large_buffer();
-    let mut call = [0u32; 4616];
-    let mut list = [0u32; 65536];
-    let mut rows = [0u32; 131328];
-    let mut steps = [0u32; 524288];
+    let mut call = call_room();
+    let mut rows = row_room();
+    let mut steps = step_room();
     let mut out = io::large_buffer();
-    run(
-        &mut bytes,
-        &mut call,
-        &mut list,
-        &mut rows,
-        &mut steps,
-        &mut out,
-    );
+    run(&mut bytes, &mut call, &mut rows, &mut steps, &mut out);
 }

@@ -1,163 +1,94 @@
-// One call of the script, by its operation word: `call` is that word and its arguments, `list` the words that it counts.
+// One call of the script: its operation and arguments, and the words that follow them.
 use crate::changing;
-use crate::changing::Changed;
-use crate::input::BAD;
-use crate::input::READING;
+use crate::changing::Called;
 use crate::lent;
-use crate::lookups;
+use crate::lines;
+use crate::lines::Said;
+use crate::looking;
+use crate::output;
+use crate::output::Out;
 use crate::reading;
+use crate::script;
+use crate::script::Call;
+use crate::script::Head;
+use crate::script::Rows;
+use crate::script::Steps;
 use crate::whole;
-use crate::words;
 use model::CausalGraph;
 
-// The current graph after a call, how many bytes of the output buffer are used, and READING or BAD, if there is no such call.
-pub struct Called {
+// The current graph, and how many bytes of the output buffer are used.
+pub struct Made {
     pub graph: CausalGraph,
     pub used: usize,
-    pub state: usize,
 }
 
-// How many bytes of the output buffer are used, and READING or BAD, if there is no such call.
-pub struct Line {
-    pub used: usize,
-    pub state: usize,
-}
-
-fn said(used: usize) -> Line {
-    Line {
-        used: used,
-        state: READING,
+// The calls that write no list.
+fn plain(g: CausalGraph, h: Head, call: &Call) -> Called {
+    let end = script::end(h);
+    let all = &call[..];
+    let list = &all[script::HEAD..end];
+    let operation = h.operation;
+    match operation {
+        0..=4 | 14 => changing::change(g, operation, h.first, list),
+        _ => changing::with(g, looking::look(g, operation, h.first, list)),
     }
 }
 
-fn none(used: usize) -> Line {
-    Line {
-        used: used,
-        state: BAD,
+// Makes a call.
+fn make(g: CausalGraph, h: Head, call: &Call, rows: &mut Rows, steps: &mut Steps) -> Called {
+    let operation = h.operation;
+    match operation {
+        5..=9 => changing::with(g, lent::write(g, h, rows, steps)),
+        _ => plain(g, h, call),
     }
 }
 
-fn cut(g: CausalGraph, call: &[u32], area: &mut [u32], out: &mut [u8], used: usize) -> Line {
-    let room = words::count_at(call, 2);
-    if area.len() < room {
-        return none(used);
+// The list of a line that has one: the rows or the steps, by their column. After it the list is BLANK again.
+fn listed(list: &mut [u32], h: Head, column: usize, out: &mut Out, used: usize) -> usize {
+    if script::entry(h.operation, column) == script::NOWHERE {
+        return used;
     }
-    said(lent::cut(g, words::get(call, 1), &mut area[0..room], out, used))
+    let n = lent::filled(list, script::room(h, column));
+    let now = output::list(out, used, list, n);
+    lent::clear(list, n);
+    now
 }
 
-fn archive(g: CausalGraph, call: &[u32], area: &mut [u32], out: &mut [u8], used: usize) -> Line {
-    let room = words::count_at(call, 1);
-    if area.len() < room {
-        return none(used);
-    }
-    said(lent::archive(g, &mut area[0..room], out, used))
+// The steps of the step reader over the words that follow.
+fn read(h: Head, call: &Call, out: &mut Out, used: usize) -> usize {
+    let end = script::end(h);
+    let all = &call[..];
+    reading::steps(&all[script::HEAD..end], out, used)
 }
 
-fn concurrent(g: CausalGraph, call: &[u32], area: &mut [u32], out: &mut [u8], used: usize) -> Line {
-    let room = words::count_at(call, 2);
-    if area.len() < room {
-        return none(used);
-    }
-    said(lent::concurrent(g, words::get(call, 1), &mut area[0..room], out, used))
-}
-
-fn walk(
-    g: CausalGraph,
-    call: &[u32],
-    rows: &mut [u32],
-    steps: &mut [u32],
-    out: &mut [u8],
-    used: usize,
-) -> Line {
-    let r = words::count_at(call, 5);
-    let s = words::count_at(call, 6);
-    if rows.len() < r {
-        return none(used);
-    }
-    if steps.len() < s {
-        return none(used);
-    }
-    said(lent::walk(g, call, &mut rows[0..r], &mut steps[0..s], out, used))
-}
-
-fn replay(
-    g: CausalGraph,
-    call: &[u32],
-    rows: &mut [u32],
-    steps: &mut [u32],
-    out: &mut [u8],
-    used: usize,
-) -> Line {
-    let r = words::count_at(call, 1);
-    let s = words::count_at(call, 2);
-    if rows.len() < r {
-        return none(used);
-    }
-    if steps.len() < s {
-        return none(used);
-    }
-    said(lent::replay(g, &mut rows[0..r], &mut steps[0..s], out, used))
-}
-
-// The calls that leave the graph as it is.
-fn looked(
-    g: CausalGraph,
-    call: &[u32],
-    list: &[u32],
-    rows: &mut [u32],
-    steps: &mut [u32],
-    out: &mut [u8],
-    used: usize,
-) -> Line {
-    match words::get(call, 0) {
-        5 => cut(g, call, steps, out, used),
-        6 => walk(g, call, rows, steps, out, used),
-        7 => replay(g, call, rows, steps, out, used),
-        8 => archive(g, call, steps, out, used),
-        9 => concurrent(g, call, steps, out, used),
-        10 => said(lookups::run(g, words::get(call, 1), out, used)),
-        11 => said(lookups::containing(g, words::get(call, 1), out, used)),
-        12 => said(lookups::extends(g, list, out, used)),
-        13 => said(whole::graph(g, out, used)),
-        15 => said(reading::steps(list, out, used)),
-        _ => none(used),
+// What follows the values in the lines of a run, the graph and the step reader.
+fn rest(g: CausalGraph, pattern: u32, h: Head, call: &Call, out: &mut Out, used: usize) -> usize {
+    match pattern {
+        10 => looking::parents(g, h.first, out, used),
+        13 => whole::lists(g, out, used),
+        15 => read(h, call, out, used),
+        _ => used,
     }
 }
 
-fn changed(c: Changed) -> Called {
+// Puts a call's name, values and lists.
+fn put(s: Said, h: Head, rows: &mut Rows, steps: &mut Steps, out: &mut Out, used: usize) -> usize {
+    let told = lines::line(out, used, s);
+    let listing = listed(rows, h, script::ROWS, out, told);
+    listed(steps, h, script::STEPS, out, listing)
+}
+
+// Makes the call that was read, and puts its line.
+pub fn answer(m: Made, call: &Call, rows: &mut Rows, steps: &mut Steps, out: &mut Out) -> Made {
+    let h = script::head_of(call);
+    let g = m.graph;
+    let c = make(g, h, call, rows, steps);
     let graph = c.graph;
-    Called {
+    let said = c.said;
+    let told = put(said, h, rows, steps, out, m.used);
+    let all = rest(graph, said.pattern, h, call, out, told);
+    Made {
         graph: graph,
-        used: c.used,
-        state: READING,
-    }
-}
-
-fn unchanged(g: CausalGraph, l: Line) -> Called {
-    Called {
-        graph: g,
-        used: l.used,
-        state: l.state,
-    }
-}
-
-pub fn make(
-    g: CausalGraph,
-    call: &[u32],
-    list: &[u32],
-    rows: &mut [u32],
-    steps: &mut [u32],
-    out: &mut [u8],
-    used: usize,
-) -> Called {
-    let first = words::get(call, 1);
-    match words::get(call, 0) {
-        0 => changed(changing::new(out, used)),
-        1 => changed(changing::after(first, list, out, used)),
-        2 => changed(changing::push(g, list, first, out, used)),
-        3 => changed(changing::start(g, first, out, used)),
-        4 => changed(changing::take(g, out, used)),
-        14 => changed(changing::raw(call, out, used)),
-        _ => unchanged(g, looked(g, call, list, rows, steps, out, used)),
+        used: output::byte(out, all, b'\n'),
     }
 }

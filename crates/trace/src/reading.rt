@@ -1,15 +1,16 @@
 // The step reader over a list of the script: each step that it hands out, and then the end or the refusal.
-use crate::answers;
-use crate::output;
+use crate::lines;
+use crate::lines::Said;
+use crate::lines::three;
+use crate::output::Out;
+use crate::words;
 use model::EventRunIndex;
 use model::NextStep;
 use model::WalkStep;
 
-// Where the reader stands, how many bytes of the output buffer are used, and 1 once it handed out no step.
-struct Reading {
-    at: usize,
-    used: usize,
-    ended: usize,
+// A step of a kind, on runs `a` up to, not including, `b`.
+fn range(kind: u64, a: EventRunIndex, b: EventRunIndex) -> Said {
+    three(lines::STEP, kind, words::wide(a.0), words::wide(b.0))
 }
 
 // The end of the one run r.
@@ -17,65 +18,39 @@ fn past(r: u32) -> u64 {
     r as u64 + 1
 }
 
-fn range(out: &mut [u8], used: usize, kind: u32, a: EventRunIndex, b: EventRunIndex) -> usize {
-    let kinded = output::word(out, used, kind);
-    let first = output::word(out, kinded, a.0);
-    output::word(out, first, b.0)
-}
-
-fn step(out: &mut [u8], used: usize, s: WalkStep) -> usize {
+// A step, by its kind's number.
+fn step(s: WalkStep) -> Said {
     match s {
-        WalkStep::Retreat(a, b) => range(out, used, 0, a, b),
-        WalkStep::Advance(a, b) => range(out, used, 1, a, b),
-        WalkStep::Open(a, b) => range(out, used, 3, a, b),
-        WalkStep::Apply(r) => {
-            let kinded = output::word(out, used, 2);
-            let first = output::word(out, kinded, r.0);
-            output::long(out, first, past(r.0))
-        }
+        WalkStep::Retreat(a, b) => range(0, a, b),
+        WalkStep::Advance(a, b) => range(1, a, b),
+        WalkStep::Apply(r) => three(lines::STEP, 2, words::wide(r.0), past(r.0)),
+        WalkStep::Open(a, b) => range(3, a, b),
     }
 }
 
-fn handed(r: Reading, s: NextStep, at: usize, out: &mut [u8]) -> Reading {
-    let used = r.used;
+// What one reading handed out.
+fn told(s: NextStep) -> Said {
     match s {
-        NextStep::Step(w) => Reading {
-            at: at,
-            used: step(out, used, w),
-            ended: 0,
-        },
-        NextStep::End => Reading {
-            at: at,
-            used: output::text(out, used, b" end"),
-            ended: 1,
-        },
-        NextStep::Refused(f) => {
-            let said = output::text(out, used, b" refused");
-            Reading {
-                at: at,
-                used: output::word(out, said, answers::number(f)),
-                ended: 1,
-            }
-        }
+        NextStep::Step(w) => step(w),
+        NextStep::End => lines::named(lines::END),
+        NextStep::Refused(r) => three(lines::REFUSED, words::wide(model::number(r)), 0, 0),
     }
 }
 
-fn next(r: Reading, list: &[u32], out: &mut [u8]) -> Reading {
-    let n = reader::step_from(list, r.at);
-    let s = n.step;
-    handed(r, s, n.at, out)
-}
-
-pub fn steps(list: &[u32], out: &mut [u8], used: usize) -> usize {
-    let mut r = Reading {
-        at: 0,
-        used: output::text(out, used, b"reader"),
-        ended: 0,
-    };
+// All that the reader hands out.
+pub fn steps(list: &[u32], out: &mut Out, used: usize) -> usize {
+    let mut now = used;
+    let mut at = 0;
+    let mut pattern = lines::STEP;
     let mut left = list.len() / 3 + 1;
-    while left > 0 && r.ended == 0 {
-        r = next(r, list, out);
+    while left > 0 && pattern == lines::STEP {
+        let n = reader::step_from(list, at);
+        let step = n.step;
+        let said = told(step);
+        now = lines::line(out, now, said);
+        at = n.at;
+        pattern = said.pattern;
         left -= 1;
     }
-    output::end(out, r.used)
+    now
 }

@@ -1,63 +1,137 @@
-// The script's calls: how many words each has, and their reading.
+// The script's calls. A call is read to one list: its operation and arguments to the first HEAD places, the words that follow
+// them after those.
+ghost use Prim.Native.Nat.{_≤_};
 use crate::input;
+use crate::input::Bytes;
 use crate::input::Input;
 use crate::words;
+use crate::words::least;
+use model::MAX_ENTRIES;
+use model::MAX_FRONTIER;
+use model::MAX_RUNS;
+use model::MAX_STARTS;
 
-// How many words an operation and its arguments are, without the words that its last argument counts; 0 if it is unknown.
-fn length(operation: u32) -> usize {
-    match operation {
-        0 | 4 | 13 => 1,
-        3 | 8 | 10 | 11 | 12 | 15 => 2,
-        1 | 2 | 5 | 7 | 9 => 3,
-        6 => 7,
-        14 => 4616,
-        _ => 0,
+// The words of an operation and its arguments, and the most that follow them.
+pub const HEAD: usize = 7;
+
+pub const MAX_LIST: usize = 65536;
+
+// The rows of any range, a word more for each run, and the room of the steps or of another list that a call writes.
+pub const MAX_ROWS: usize = MAX_RUNS * MAX_STARTS / 2;
+
+pub const MAX_STEPS: usize = 524288;
+
+// The words of a record: four counts and the first changed run, and then its lists.
+const RECORD: usize = 5 + 2 * MAX_STARTS + MAX_ENTRIES + MAX_FRONTIER + 2 * MAX_RUNS;
+
+pub type Call = [u32; HEAD + MAX_LIST];
+
+pub type Rows = [u32; MAX_ROWS];
+
+pub type Steps = [u32; MAX_STEPS];
+
+// A call's operation, its first argument, and all of its first HEAD words.
+pub struct Head {
+    pub operation: u32,
+    pub first: u32,
+    pub words: [u32; HEAD],
+}
+
+// In place of a place: there is none.
+pub const NOWHERE: usize = usize::MAX;
+
+// Columns of the table below: how many words an operation and its arguments are; the place of the argument that counts the words
+// that follow; that of the rows' room; that of the room of the steps, or of another list that the call writes.
+const LENGTH: usize = 0;
+
+const LIST: usize = 1;
+
+pub const ROWS: usize = 2;
+
+pub const STEPS: usize = 3;
+
+// A digit for each operation and column, a dot for none.
+fn digit(i: usize) -> u8 {
+    let all = b"1...32..32..2...\
+        1...3..27.563.12\
+        2..13..22...2...\
+        21..1...1...21..";
+    if i < all.len() { all[i] } else { b'.' }
+}
+
+// A byte as a place or a count.
+fn wide(b: u8) -> usize {
+    b as usize
+}
+
+// What the table has of an operation in a column; NOWHERE for a dot and an unknown operation.
+pub fn entry(operation: u32, column: usize) -> usize {
+    let d = digit(4 * least(words::index(operation), 16) + least(column, 3));
+    if d == b'.' { NOWHERE } else { wide(d & 7) }
+}
+
+// The head of the call that was read.
+pub fn head_of(call: &Call) -> Head {
+    let mut h = [0u32; HEAD];
+    words::copy(call, 0, &mut h);
+    Head {
+        operation: h[0],
+        first: h[1],
+        words: h,
     }
 }
 
-// Whether an operation's last argument counts the words that follow it.
-fn is_counting(operation: u32) -> bool {
-    match operation {
-        1 | 2 | 12 | 15 => true,
-        _ => false,
+// The word at a place of the head, as a count; 0 if there is none.
+fn argument(h: Head, place: usize) -> usize {
+    let list = h.words;
+    if place < HEAD {
+        words::index(list[place])
+    } else {
+        0
     }
 }
 
-// How many words follow the call's arguments.
-pub fn count(call: &[u32]) -> usize {
-    let operation = words::get(call, 0);
-    if !is_counting(operation) {
-        return 0;
-    }
-    let n = length(operation);
-    if n == 0 {
-        return 0;
-    }
-    words::count_at(call, n - 1)
+// The count or the room that a column tells of.
+pub fn room(h: Head, column: usize) -> usize {
+    argument(h, entry(h.operation, column))
 }
 
-// Reads an operation and its arguments to the start of `call`.
-fn read_call(bytes: &mut [u8], call: &mut [u32], r: Input) -> Input {
-    let now = input::read_operation(bytes, call, r);
-    if now.state != input::READING {
-        return now;
+// How many words follow the arguments: those that are counted, or a record's.
+fn count(h: Head) -> usize {
+    if h.operation == 14 {
+        return RECORD;
     }
-    let n = length(words::get(call, 0));
-    if n == 0 {
-        return input::bad(now);
-    }
-    input::read(bytes, call, 1, n, now)
+    room(h, LIST)
 }
 
-// Reads a call: an operation and its arguments to the start of `call`, the words that it counts to the start of `list`.
-pub fn read(bytes: &mut [u8], call: &mut [u32], list: &mut [u32], r: Input) -> Input {
-    let now = read_call(bytes, call, r);
-    if now.state != input::READING {
-        return now;
-    }
-    let n = count(call);
-    if list.len() < n {
-        return input::bad(now);
-    }
-    input::read(bytes, list, 0, n, now)
+// The end of the words that follow.
+pub fn end(h: Head) -> usize
+    ensures { λ r. ⌜ (7 ≤ r) × (r ≤ 65543) ⌝ }
+{
+    HEAD + least(count(h), MAX_LIST)
+}
+
+// Whether the program has room for the call.
+fn fits(h: Head) -> bool {
+    count(h) <= MAX_LIST && room(h, ROWS) <= MAX_ROWS && room(h, STEPS) <= MAX_STEPS
+}
+
+// Reads an operation and its arguments. Where the first leaves another state than READING, the second reads nothing.
+fn read_head(bytes: &mut Bytes, call: &mut Call, r: Input) -> Input {
+    let named = input::ended(input::read(bytes, call, 0, 1, r));
+    let n = entry(call[0], LENGTH);
+    input::read(
+        bytes,
+        call,
+        1,
+        least(n, HEAD),
+        input::checked(named, n < NOWHERE),
+    )
+}
+
+// Reads a call.
+pub fn read(bytes: &mut Bytes, call: &mut Call, r: Input) -> Input {
+    let named = read_head(bytes, call, r);
+    let h = head_of(call);
+    input::read(bytes, call, HEAD, end(h), input::checked(named, fits(h)))
 }

@@ -1,87 +1,67 @@
-// The line of the whole graph: what the public calls tell, and the record's used parts.
-use crate::answers;
+// The lists of the whole graph, which stand in its line after the values.
 use crate::output;
+use crate::output::Out;
 use crate::words;
 use model::CausalGraph;
-use model::EventAnswer;
+use model::MAX_RUNS;
 
-// The first event held, whether there are no runs, and the frontier.
-fn told(g: CausalGraph, out: &mut [u8], used: usize) -> usize {
-    let first = answers::event_or_zero(graph::lookups::first_held_event(g));
-    let empty = answers::truth_or_zero(graph::lookups::is_empty(g));
-    let frontier = graph::lookups::frontier(g);
-    let one = output::word(out, used, first);
-    let two = output::word(out, one, empty);
-    output::list(out, two, &frontier.events, frontier.count)
+// The starts, one more than the runs, and the seen lengths.
+fn starts(g: CausalGraph, out: &mut Out, used: usize) -> usize {
+    let now = output::list(
+        out,
+        used,
+        &g.starts,
+        words::least(g.run_count, MAX_RUNS) + 1,
+    );
+    output::list(out, now, &g.seen_prefix_len, g.run_count)
 }
 
-// How many starts are used: one more than the runs.
-fn starts_of(runs: usize) -> usize {
-    if runs < 512 { runs + 1 } else { 513 }
-}
-
-// Starts, seen lengths, marks and the first changed run.
-fn kept(g: CausalGraph, out: &mut [u8], used: usize) -> usize {
+// The marks and the first changed run.
+fn marks(g: CausalGraph, out: &mut Out, used: usize) -> usize {
+    let now = output::list(out, used, &g.critical_versions, g.mark_count);
     let changed = g.changed_from;
-    let starts = output::list(out, used, &g.starts, starts_of(g.run_count));
-    let seen = output::list(out, starts, &g.seen_prefix_len, g.run_count);
-    let marks = output::list(out, seen, &g.critical_versions, g.mark_count);
-    let colon = output::colon(out, marks);
-    output::word(out, colon, changed.0)
+    let one = [changed.0];
+    output::list(out, now, &one, 1)
 }
 
-// A run's parents, a stroke before those of any but the first run.
-fn row<'a>(
-    starts: &'a [u32],
-    parents: &'a [u32],
-    run: usize,
-    out: &mut [u8],
-    used: usize,
-) -> usize {
-    let from = words::count_at(starts, run);
-    let to = words::index(words::get_after(starts, run, 1));
+// Before a run's parents: a stroke, but for the first run.
+fn stroke(run: usize, out: &mut Out, used: usize) -> usize {
     if run == 0 {
-        return output::part(out, used, parents, from, to);
+        return used;
     }
-    let apart = output::text(out, used, b" /");
-    output::part(out, apart, parents, from, to)
+    output::mark(out, used, b'/')
 }
 
-fn rows<'a>(
+// The parents of each run.
+fn parents<'a>(
     starts: &'a [u32],
     parents: &'a [u32],
     runs: usize,
-    out: &mut [u8],
+    out: &mut Out,
     used: usize,
 ) -> usize {
-    let mut now = used;
+    let mut now = output::mark(out, used, b':');
     let mut run = 0;
     while run < runs {
-        now = row(starts, parents, run, out, now);
+        let from = words::index(words::get(starts, run));
+        let to = words::index(words::get(starts, run + 1));
+        now = stroke(run, out, now);
+        now = output::part(out, now, parents, from, to);
         run += 1;
     }
     now
 }
 
-fn sound(g: CausalGraph, len: u32, out: &mut [u8], used: usize) -> usize {
-    let zero = output::word(out, used, 0);
-    let one = output::word(out, zero, len);
-    let two = told(g, out, one);
-    let three = kept(g, out, two);
-    let four = output::colon(out, three);
-    rows(&g.parent_starts, &g.parents, g.run_count, out, four)
+// The frontier.
+fn frontier(g: CausalGraph, out: &mut Out, used: usize) -> usize {
+    let f = graph::lookups::frontier(g);
+    output::list(out, used, &f.events, f.count)
 }
 
-// All but the line's first word and its end.
-fn answered(g: CausalGraph, len: EventAnswer, out: &mut [u8], used: usize) -> usize {
-    match len {
-        EventAnswer::Event(e) => sound(g, e.0, out, used),
-        EventAnswer::Refused(r) => output::word(out, used, answers::number(r)),
-    }
-}
-
-pub fn graph(g: CausalGraph, out: &mut [u8], used: usize) -> usize {
-    let named = output::text(out, used, b"graph");
-    let now = answered(g, graph::lookups::len(g), out, named);
-    output::end(out, now)
+// The frontier, what is kept of the runs, and their parents.
+pub fn lists(g: CausalGraph, out: &mut Out, used: usize) -> usize {
+    let one = frontier(g, out, used);
+    let two = starts(g, out, one);
+    let three = marks(g, out, two);
+    parents(&g.parent_starts, &g.parents, g.run_count, out, three)
 }

@@ -1,49 +1,38 @@
-// Words of lent lists, read and written at any place.
+// Words of lent lists, and numbers of one type as those of another.
+ghost use Prim.Native.Nat.{_≤_};
 
 // The word at place `i`; past the end, 0.
 pub fn get(list: &[u32], i: usize) -> u32 {
     if i < list.len() { list[i] } else { 0 }
 }
 
-// The word that stands `i` places after place `from`.
-pub fn get_after(list: &[u32], from: usize, i: usize) -> u32 {
-    if from < list.len() {
-        if i < list.len() - from {
-            return list[from + i];
-        }
-    }
-    0
-}
-
-// Stores a word at place `i`; past the end, nowhere.
-pub fn put(list: &mut [u32], i: usize, word: u32) {
-    if i < list.len() {
-        list[i] = word;
-    }
-}
-
 // Fills a list with the words of another from place `from` on.
 pub fn copy(list: &[u32], from: usize, into: &mut [u32]) {
     let mut i = 0;
     while i < into.len() {
-        into[i] = get_after(list, from, i);
+        into[i] = get(list, std::num::wrapping_add_usize(from, i));
         i += 1;
     }
 }
 
-// The word that stands at place `i`, as a count.
-pub fn count_at(list: &[u32], i: usize) -> usize {
-    index(get(list, i))
+// A number, or `most` if it is above that.
+pub fn least(n: usize, most: usize) -> usize
+    ensures { λ r. ⌜ r ≤ most ⌝ }
+{
+    if n < most { n } else { most }
 }
 
+// A word as a place or a count.
 pub fn index(word: u32) -> usize {
     word as usize
 }
 
+// A word as a long number.
 pub fn wide(word: u32) -> u64 {
     word as u64
 }
 
+// A count as a long number.
 pub fn wide_count(count: usize) -> u64 {
     count as u64
 }

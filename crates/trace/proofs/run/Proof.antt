@@ -1,24 +1,31 @@
--- `trace::run` is safe and ends: the lent lists keep their lengths. The measure is the number of turns that are left. Assumes nothing.
+-- `trace::run` is safe and ends. The measure is the number of turns that are left. Assumes nothing.
 use borrow.Author.Needs.{needs}
-use lib.ListN.{length}
-use mathlib.Core.Path.{_≡_}
 use Rattle.trace.proofs.run.Statement.{statement}
 use Rattle.trace.proofs.run.Tie as tie
 
 abbrev Inv-loop : tie.InvT-loop
-Inv-loop bytes₀ call₀ list₀ rows₀ steps₀ out₀ s₀ turns₀ bytes call list rows steps out s turns = (length bytes ≡ length bytes₀) × (length call ≡ length call₀) × (length list ≡ length list₀) × (length rows ≡ length rows₀) × (length steps ≡ length steps₀) × (length out ≡ length out₀)
+Inv-loop bytes₀ call₀ rows₀ steps₀ out₀ m₀ r₀ turns₀ bytes call rows steps out m r turns = Unit
 
 abbrev μ-loop : tie.MeasureT-loop
-μ-loop bytes₀ call₀ list₀ rows₀ steps₀ out₀ s₀ turns₀ bytes call list rows steps out s turns = turns
+μ-loop bytes₀ call₀ rows₀ steps₀ out₀ m₀ r₀ turns₀ bytes call rows steps out m r turns = turns
 
 new-requires : tie.Need-new-requires Inv-loop μ-loop
 new-requires c κs = search needs
 
+start-requires : tie.Need-start-requires Inv-loop μ-loop
+start-requires c κs = search needs
+
 loop-holds : tie.Need-loop-holds Inv-loop μ-loop
 loop-holds c = search needs
 
-turn-requires : tie.Need-turn-requires Inv-loop μ-loop
-turn-requires c κs = search needs
+read-requires : tie.Need-read-requires Inv-loop μ-loop
+read-requires c κs = search needs
+
+answer-requires : tie.Need-answer-requires Inv-loop μ-loop
+answer-requires c κs = search needs
+
+going-requires : tie.Need-going-requires Inv-loop μ-loop
+going-requires c κs = search needs
 
 sub-turns : tie.Need-sub-turns Inv-loop μ-loop
 sub-turns c = search needs
@@ -32,24 +39,6 @@ loop-again c = search needs
 finish-requires : tie.Need-finish-requires Inv-loop μ-loop
 finish-requires c κs = search needs
 
-same-length : tie.Need-same-length Inv-loop μ-loop
-same-length c = search needs
-
-same-length-2 : tie.Need-same-length-2 Inv-loop μ-loop
-same-length-2 c = search needs
-
-same-length-3 : tie.Need-same-length-3 Inv-loop μ-loop
-same-length-3 c = search needs
-
-same-length-4 : tie.Need-same-length-4 Inv-loop μ-loop
-same-length-4 c = search needs
-
-same-length-5 : tie.Need-same-length-5 Inv-loop μ-loop
-same-length-5 c = search needs
-
-same-length-6 : tie.Need-same-length-6 Inv-loop μ-loop
-same-length-6 c = search needs
-
 returns : tie.Need-returns Inv-loop μ-loop
 returns c = search needs
 
@@ -60,16 +49,13 @@ run-spec =
     Inv-loop
     μ-loop
     new-requires
+    start-requires
     loop-holds
-    turn-requires
+    read-requires
+    answer-requires
+    going-requires
     sub-turns
     loop-less
     loop-again
     finish-requires
-    same-length
-    same-length-2
-    same-length-3
-    same-length-4
-    same-length-5
-    same-length-6
     returns)

@@ -1,13 +1,11 @@
--- `speed::script::decode` is safe and ends: the words keep their number. The measure is what is left of them. Assumes nothing.
+-- `speed::script::decode` is safe and ends. The measure is the number of words that are left. Assumes nothing.
 use borrow.Author.Needs.{needs}
 use Prim.Native.Nat.{_-_}
-use lib.ListN.{length}
-use mathlib.Core.Path.{_≡_}
 use Rattle.speed.proofs.script.decode.Statement.{statement}
 use Rattle.speed.proofs.script.decode.Tie as tie
 
 abbrev Inv-loop : tie.InvT-loop
-Inv-loop bytes words₀ i₀ words i = length words ≡ length words₀
+Inv-loop bytes words₀ i₀ words i = Unit
 
 abbrev μ-loop : tie.MeasureT-loop
 μ-loop bytes words₀ i₀ words i = 16384 - i
@@ -21,8 +19,11 @@ mul-word-at c = search needs
 word-at-requires : tie.Need-word-at-requires Inv-loop μ-loop
 word-at-requires c κs = search needs
 
-put-requires : tie.Need-put-requires Inv-loop μ-loop
-put-requires c κs = search needs
+mul-words : tie.Need-mul-words Inv-loop μ-loop
+mul-words c = search needs
+
+element-write-words : tie.Need-element-write-words Inv-loop μ-loop
+element-write-words c = search needs
 
 add-i : tie.Need-add-i Inv-loop μ-loop
 add-i c = search needs
@@ -32,9 +33,6 @@ loop-less c = search needs
 
 loop-again : tie.Need-loop-again Inv-loop μ-loop
 loop-again c = search needs
-
-same-length : tie.Need-same-length Inv-loop μ-loop
-same-length c = search needs
 
 returns : tie.Need-returns Inv-loop μ-loop
 returns c = search needs
@@ -48,9 +46,9 @@ decode-spec =
     loop-holds
     mul-word-at
     word-at-requires
-    put-requires
+    mul-words
+    element-write-words
     add-i
     loop-less
     loop-again
-    same-length
     returns)

@@ -6,10 +6,13 @@ use Rattle.trace.proofs.lent.filled.Statement.{statement}
 use Rattle.trace.proofs.lent.filled.Tie as tie
 
 abbrev Inv-loop : tie.InvT-loop
-Inv-loop list n₀ n = n ≤ length list
+Inv-loop list room n₀ n = n ≤ length list
 
 abbrev μ-loop : tie.MeasureT-loop
-μ-loop list n₀ n = n
+μ-loop list room n₀ n = n
+
+least-requires : tie.Need-least-requires Inv-loop μ-loop
+least-requires c κs = search needs
 
 loop-holds : tie.Need-loop-holds Inv-loop μ-loop
 loop-holds c = search needs
@@ -44,6 +47,7 @@ filled-spec =
     (tie.spec
     Inv-loop
     μ-loop
+    least-requires
     loop-holds
     sub-if1
     mul-if1

@@ -1,13 +1,11 @@
--- `trace::output::part` is safe and ends: the output buffer keeps its length. The measure is what is left of the part. Assumes nothing.
+-- `trace::output::part` is safe and ends. The measure is what is left of the part. Assumes nothing.
 use borrow.Author.Needs.{needs}
 use Prim.Native.Nat.{_-_}
-use lib.ListN.{length}
-use mathlib.Core.Path.{_≡_}
 use Rattle.trace.proofs.output.part.Statement.{statement}
 use Rattle.trace.proofs.output.part.Tie as tie
 
 abbrev Inv-loop : tie.InvT-loop
-Inv-loop out₀ used list from to now₀ i₀ out now i = length out ≡ length out₀
+Inv-loop out₀ used list from to now₀ i₀ out now i = Unit
 
 abbrev μ-loop : tie.MeasureT-loop
 μ-loop out₀ used list from to now₀ i₀ out now i = to - i
@@ -18,8 +16,11 @@ loop-holds c = search needs
 get-requires : tie.Need-get-requires Inv-loop μ-loop
 get-requires c κs = search needs
 
-word-requires : tie.Need-word-requires Inv-loop μ-loop
-word-requires c κs = search needs
+wide-requires : tie.Need-wide-requires Inv-loop μ-loop
+wide-requires c κs = search needs
+
+number-requires : tie.Need-number-requires Inv-loop μ-loop
+number-requires c κs = search needs
 
 add-i : tie.Need-add-i Inv-loop μ-loop
 add-i c = search needs
@@ -29,9 +30,6 @@ loop-less c = search needs
 
 loop-again : tie.Need-loop-again Inv-loop μ-loop
 loop-again c = search needs
-
-same-length : tie.Need-same-length Inv-loop μ-loop
-same-length c = search needs
 
 returns : tie.Need-returns Inv-loop μ-loop
 returns c = search needs
@@ -44,9 +42,9 @@ part-spec =
     μ-loop
     loop-holds
     get-requires
-    word-requires
+    wide-requires
+    number-requires
     add-i
     loop-less
     loop-again
-    same-length
     returns)

