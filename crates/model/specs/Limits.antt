@@ -1,11 +1,10 @@
 -- 01's limits, each a number with a name. `model::limits` has the same for code; a contract that joins the two is proved only if they
 -- are equal. Assumes nothing.
 use Prim.Native.Nat.{ℕ, _+_}
-use Rattle.lists.specs.Scans.{maxKept}
 
 -- "At most 512 runs": the runs of a graph, and its marks, which are runs
 abbrev pub maxRuns : ℕ
-maxRuns = maxKept
+maxRuns = 512
 
 -- run starts are "one more than runs"
 abbrev pub maxStarts : ℕ
@@ -17,7 +16,7 @@ maxEntries = 2048
 
 -- "512 frontier events"
 abbrev pub maxFrontier : ℕ
-maxFrontier = maxKept
+maxFrontier = 512
 
 -- "`len` would pass 4,294,967,295"
 abbrev pub maxLen : ℕ

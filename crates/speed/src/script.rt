@@ -1,5 +1,5 @@
 // The words on standard input.
-ghost use Prim.Native.Nat.{_≤_};
+ghost use Prim.Native.Nat.{_<_, _≤_, _^_};
 
 // As many bytes as the kit's large buffer, and their words.
 const BYTES: usize = 65536;
@@ -50,7 +50,7 @@ pub fn end_of(words: &Words, at: usize) -> usize
 
 // A word as a count, and as a long number.
 fn index(word: u32) -> usize
-    ensures { λ r. ⌜ r ≤ 4294967295 ⌝ }
+    ensures { λ r. ⌜ r < 2 ^ 32 ⌝ }
 {
     word as usize
 }

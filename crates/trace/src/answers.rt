@@ -12,7 +12,7 @@ use model::Walked;
 use model::Written;
 use model::number;
 
-// A refusal.
+// A refused call: its number, and no values.
 fn refused(pattern: u32, r: Refusal) -> Said {
     lines::three(pattern, words::wide(number(r)), 0, 0)
 }
