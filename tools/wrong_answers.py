@@ -25,6 +25,8 @@ MODEL = [
     ("walking::walk", "writes no steps: demand 3", "no_steps"),
     ("walking::walk", "weighs the oldest first: C1", "oldest_first"),
     ("walking::walk", "covers by event numbers in place of offsets: the cases", "offsets_from_0"),
+    ("reading::read", "a book cut short is whole: F-1's cases", "short_is_whole"),
+    ("reading::read", "no bytes are refused: F-1's cases", "empty_refused"),
     ("answers::number", "11 for 13", "answers.rt", "Refusal::RowsTooLong => 13", "Refusal::RowsTooLong => 11"),
     ("answers::number", "1 and 2 exchanged", "answers.rt", "Refusal::Broken => 1,\n        Refusal::NoEvents => 2,", "Refusal::Broken => 2,\n        Refusal::NoEvents => 1,"),
 ]
@@ -150,6 +152,8 @@ BOOK = [
     ("reading::read", "the header's frontier is not tried, and pushes are made under a header that is refused", "reading.rt", "&words[2..end]", "&words[2..2]"),
     ("reading::read", "a refused header is told as push 0", "reading.rt", "answered(g, BookAnswer::Refused(r))", "answered(g, BookAnswer::PushRefused(r, 0))"),
     ("reading::read", "a refused push does not end it", "reading.rt", "            is_refused: true,\n            answer: BookAnswer::PushRefused(r, k),", "            is_refused: false,\n            answer: BookAnswer::PushRefused(r, k),"),
+    ("reading::read", "no bytes are refused with 14", "reading.rt", "return fresh(BookAnswer::Whole);", "return fresh(BookAnswer::Refused(Refusal::BookTooShort));"),
+    ("reading::read", "a book of one byte is taken for the empty one", "reading.rt", "if bytes.len() == 0 {", "if bytes.len() == 1 {"),
     ("replaying::replayed", "prints no steps", "replaying.rt", "&steps[0..n]", "&steps[0..0]"),
     ("replaying::replayed", "leaves out a line that just fits", "full_buffer"),
     ("replaying::replayed", "moved 0", "replaying.rt", "last_line(outcome, walked.moved)", "last_line(outcome, 0)"),

@@ -18,7 +18,7 @@ use Rattle.model.specs.Print.{Line, stepLine, movedLine, refusedLine, pushRefus
 use Rattle.book.specs.Output.{maxText, ended, printing}
 use Rattle.book.proofs.Decimals.{decimal-length, decimal-three}
 use Rattle.book.proofs.Fits.{printing-all}
-use Rattle.book.proofs.HeldBooks.{book-held}
+use Rattle.model.proofs.BookPrints.{book-held}
 use Rattle.book.proofs.Numbers.{Small, Smalls}
 use Rattle.book.proofs.Whole.{by-answer, replay-text}
 

@@ -6,7 +6,6 @@ pub mod Heading
 pub mod Decimals
 pub mod Lining
 pub mod Fits
-pub mod HeldBooks
 pub mod Numbers
 pub mod Whole
 pub mod Enough

@@ -182,36 +182,40 @@ fn begin(made: Made, bytes: &[u8], words: &[u32], count: u32, from: usize) -> Bo
     }
 }
 
-fn refused(refusal: Refusal) -> BookRead
-    ensures { λ r. ⌜ r ≡ record { graph = newOf; answer = BookAnswer.Refused refusal } ⌝ }
+// Nothing was made: a new graph, and what is answered.
+fn fresh(answer: BookAnswer) -> BookRead
+    ensures { λ r. ⌜ r ≡ record { graph = newOf; answer = answer } ⌝ }
 {
-    answered(graph::fresh::new(), BookAnswer::Refused(refusal))
+    answered(graph::fresh::new(), answer)
 }
 
-// Takes a book that is not too long: its header, read whole and then tried, and the pushes.
+// Takes a book that is neither empty nor too long: its header, read whole and then tried, and the pushes.
 fn read_words(bytes: &[u8], words: &[u32]) -> BookRead
     requires { ⌜ now words ≡ wordsOf (length (now bytes) / 4) (now bytes) ⌝ }
     ensures { λ r. ⌜ r ≡ readHeader (now (bytes .entry)) ⌝ }
 {
     let n = words.len();
     if n < 3 {
-        return refused(Refusal::BookTooShort);
+        return fresh(BookAnswer::Refused(Refusal::BookTooShort));
     }
     let count = words[1] as usize;
     if n - 3 < count {
-        return refused(Refusal::BookTooShort);
+        return fresh(BookAnswer::Refused(Refusal::BookTooShort));
     }
     let end = 2 + count;
     let made = graph::fresh::after(EventIndex(words[0]), &words[2..end]);
     begin(made, bytes, words, words[end], end + 1)
 }
 
-// Reads a book. The graph is what was made up to the first refusal.
+// Reads a book. The graph is what was made up to the first refusal; a book of no bytes is a new graph.
 pub fn read(bytes: &[u8]) -> BookRead
     ensures { λ r. ⌜ r ≡ bookOf (now (bytes .entry)) ⌝ }
 {
+    if bytes.len() == 0 {
+        return fresh(BookAnswer::Whole);
+    }
     if MAX_BOOK < bytes.len() {
-        return refused(Refusal::BookTooLong);
+        return fresh(BookAnswer::Refused(Refusal::BookTooLong));
     }
     let n = bytes.len() / 4;
     let mut words = no_words();

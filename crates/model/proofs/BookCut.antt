@@ -1,28 +1,18 @@
 -- A program that reads no more than 65,537 bytes prints what one that reads on prints: a longer book is refused by its length. Assumes nothing.
 use mathlib.Core.Path.{_≡_, sym, _∙_, ap}
-use mathlib.Core.Bool.{Bool, true, false}
 use mathlib.Core.List.{List, [], _∷_}
 use mathlib.Core.Logic.{_⊎_, inl, inr}
 use Prim.Native.Nat.{ℕ, _<_, _≤_}
 use native.Mathlib.Omega.{arith}
 use lib.ListN.{length, take}
 use lib.Seq.{length-take-le, take-all}
-use borrow.Author.Tests.{lt-ltb}
 use Rattle.lists.proofs.Truth.{lt-or-le}
 use Rattle.model.specs.declared.answers.BookRead.{BookRead}
 use Rattle.model.specs.declared.answers.BookAnswer.the-variants.{Whole, Refused, PushRefused}
-use Rattle.model.specs.Refusals.{refusal, number}
-use Rattle.model.specs.Fresh.{newOf}
-use Rattle.model.specs.Book.{bookRead, readHeader, bookOf}
+use Rattle.model.specs.Refusals.{number}
+use Rattle.model.specs.Book.{bookOf}
 use Rattle.model.specs.Print.{Line, refusedLine, pushRefusedLine, replayLines, printed}
-
--- a book over 65,536 bytes is refused
-read-if : List ℕ → Bool → BookRead
-read-if bs long = elim long [ true ↦ bookRead newOf (Refused (refusal 15)) | false ↦ readHeader bs ]
-
-book-long : (bs : List ℕ) → 65536 < length bs → bookOf bs ≡ bookRead newOf (Refused (refusal 15))
-unfolding bookOf read-if
-book-long bs h = ap (read-if bs) (lt-ltb 65536 (length bs) h)
+use Rattle.model.proofs.BookMade.{book-long}
 
 -- The first 65,537 bytes are read as all of them are
 pub book-cut : (bs : List ℕ) → bookOf (take 65537 bs) ≡ bookOf bs

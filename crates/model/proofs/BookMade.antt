@@ -2,10 +2,12 @@
 use mathlib.Core.Path.{_≡_, refl, ap, _∙_}
 use mathlib.Core.Bool.{Bool, true, false}
 use mathlib.Core.List.{List, [], _∷_}
-use mathlib.Core.Option.{Option, none, some}
-use Prim.Native.Nat.{ℕ, zero, suc}
+use mathlib.Core.Option.{none, some}
+use Prim.Native.Nat.{ℕ, zero, suc, _<_, _≤_}
+use native.Mathlib.Omega.{arith}
 use lib.ListN.{length, getD}
 use lib.Dec.{ltb, eqb}
+use borrow.Author.Tests.{lt-ltb, le-ltb}
 use Rattle.model.specs.declared.record.CausalGraph.{CausalGraph}
 use Rattle.model.specs.declared.answers.BookRead.{BookRead}
 use Rattle.model.specs.declared.answers.BookAnswer.the-variants.{Whole, Refused as RefusedBook, PushRefused}
@@ -14,15 +16,13 @@ use Rattle.model.specs.declared.answers.Outcome.{Outcome}
 use Rattle.model.specs.declared.answers.Outcome.the-variants.{Done, Refused}
 use Rattle.model.specs.declared.answers.EventsAnswer.{EventsAnswer}
 use Rattle.model.specs.declared.answers.EventsAnswer.the-variants.{Events, Refused as RefusedEvents}
+use Rattle.model.specs.Refusals.{refusal}
 use Rattle.model.specs.Fresh.{newOf, afterOf}
 use Rattle.model.specs.Push.{pushOf}
 use Rattle.model.specs.Book.{takeWords, takeCounted, bookRead, endsEarly, readPushes, readHeader, bookOf}
 use Rattle.model.specs.Log.{Fresh, new, after, Call, push, Log, begin, answer, beginLog, note, afterCalls, madeBy}
 use Rattle.model.specs.BookCalls.{pushesIn, isRefused, tried, header, bookHeader, bookStart, bookCalls}
-
--- Words and the bytes after them
-abbrev Parted : Type 0
-Parted = Option (List ℕ × List ℕ)
+use Rattle.model.proofs.BookWords.{Parted, Headed, header-early}
 
 -- One push, if what follows it is so
 module _ (n k : ℕ) (later : (g : CausalGraph) (l : Log) (bs : List ℕ) → readPushes n (suc k) g bs .graph ≡ (afterCalls g l (tried g (pushesIn n bs))) .0)
@@ -69,8 +69,6 @@ pushes-made zero k g l bs = go (eqb (length bs) 0)
 pushes-made (suc n) k g l bs = by-length n k (pushes-made n (suc k)) g l (takeWords 1 bs)
 
 -- The header
-abbrev pub Headed : Type 0
-Headed = Option (ℕ × List ℕ × ℕ × List ℕ)
 
 -- what a header that was read makes, and what the start and the calls are then
 abbrev pub made : Outcome → CausalGraph → ℕ → List ℕ → BookRead
@@ -145,11 +143,47 @@ header-made none = refl
 header-made (some h) =
     outcome-made (afterOf (h .0) (h .1) .outcome) (afterOf (h .0) (h .1) .graph) (beginLog (after (h .0) (h .1)) (afterOf (h .0) (h .1) .outcome)) (h .2) (h .3)
 
+-- A book by its length
+tested : List ℕ → Bool → BookRead
+tested bs t = elim t [ true ↦ bookRead newOf (RefusedBook BookTooLong) | false ↦ readHeader bs ]
+
+pub book-empty : (bs : List ℕ) → length bs ≡ 0 → bookOf bs ≡ bookRead newOf Whole
+unfolding bookOf
+book-empty [] h = refl
+book-empty (b ∷ bs) h = absurd (omega (arith, h))
+
+pub book-long : (bs : List ℕ) → 65536 < length bs → bookOf bs ≡ bookRead newOf (RefusedBook BookTooLong)
+unfolding bookOf tested
+book-long [] h = absurd (omega (arith, h))
+book-long (b ∷ bs) h = ap (tested (b ∷ bs)) (lt-ltb 65536 (length (b ∷ bs)) h)
+
+pub book-in : (bs : List ℕ) → 0 < length bs → length bs ≤ 65536 → bookOf bs ≡ readHeader bs
+unfolding bookOf tested
+book-in [] m h = absurd (omega (arith, m))
+book-in (b ∷ bs) m h = ap (tested (b ∷ bs)) (le-ltb 65536 (length (b ∷ bs)) h)
+
+-- one of one to eleven bytes has no header
+pub book-short : (bs : List ℕ) → 0 < length bs → length bs < 12 → bookOf bs ≡ bookRead newOf (RefusedBook (refusal 14))
+unfolding endsEarly
+book-short bs m h = book-in bs m (omega arith) ∙ header-read bs ∙ ap headed (header-early bs (omega arith))
+
+-- A book's graph is the one that its calls make
+length-made : (bs : List ℕ) (t : Bool) → (tested bs t) .graph ≡
+    (madeBy (startBy (elim t as (λ _. Headed) [ true ↦ none | false ↦ header bs ])) (callsBy (elim t as (λ _. Headed) [ true ↦ none | false ↦ header bs ]))) .0
+unfolding tested bookRead endsEarly
+length-made bs true = header-made none
+length-made bs false = ap (λ (b : BookRead). b .graph) (header-read bs) ∙ header-made (header bs)
+
 pub book-made : (bs : List ℕ) → bookOf bs .graph ≡ (madeBy (bookStart bs) (bookCalls bs)) .0
-unfolding bookOf bookStart bookCalls bookHeader bookRead endsEarly
-book-made bs = go (ltb 65536 (length bs))
-  where
-    go : (t : Bool) → (elim t as (λ _. BookRead) [ true ↦ bookRead newOf (RefusedBook BookTooLong) | false ↦ readHeader bs ]) .graph ≡
-        (madeBy (startBy (elim t as (λ _. Headed) [ true ↦ none | false ↦ header bs ])) (callsBy (elim t as (λ _. Headed) [ true ↦ none | false ↦ header bs ]))) .0
-    go true = header-made none
-    go false = ap (λ (b : BookRead). b .graph) (header-read bs) ∙ header-made (header bs)
+unfolding bookOf bookRead endsEarly bookStart bookCalls bookHeader header takeWords tested
+book-made [] = header-made none
+book-made (b ∷ bs) = length-made (b ∷ bs) (ltb 65536 (length (b ∷ bs)))
+
+-- The book of no bytes is a start and no calls
+pub empty-start : bookStart [] ≡ new
+unfolding bookStart bookHeader header takeWords
+empty-start = refl
+
+pub empty-calls : bookCalls [] ≡ []
+unfolding bookCalls bookHeader header takeWords
+empty-calls = refl

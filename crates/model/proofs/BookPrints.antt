@@ -12,19 +12,26 @@ use Rattle.model.specs.declared.answers.Outcome.the-variants.{Done, Refu
 use Rattle.model.specs.declared.answers.BookAnswer.{BookAnswer}
 use Rattle.model.specs.declared.answers.BookAnswer.the-variants.{Whole, Refused as RefusedBook, PushRefused}
 use Rattle.model.specs.Refusals.{number}
+use Rattle.model.specs.Broken.{Held}
 use Rattle.model.specs.Steps.{Step, words}
 use Rattle.model.specs.Walk.{WalkResult}
 use Rattle.model.specs.Replay.{replayOf}
 use Rattle.model.specs.Book.{bookOf}
 use Rattle.model.specs.Print.{Line, stepLine, movedLine, refusedLine, pushRefusedLine, saidSteps, lastLine, replayLines, printed}
-use Rattle.model.specs.Log.{Log, madeBy}
+use Rattle.model.specs.Log.{Log}
 use Rattle.model.specs.PlainSet.{ReplayFollows}
 use Rattle.model.specs.Claim.{Claimed}
 use Rattle.model.specs.BookCalls.{bookStart, bookCalls, bookLog, LinesFollow, Books}
 use Rattle.model.proofs.Reading.{said-words}
+use Rattle.model.proofs.Good.{made-good}
 use Rattle.model.proofs.Demand.{claim}
-use Rattle.model.proofs.BookMade.{book-made}
+use Rattle.model.proofs.BookMade.{book-short, book-made, empty-start, empty-calls}
 use Rattle.model.proofs.BookCut.{printed-cut}
+use Rattle.model.proofs.Everything.{everything}
+
+-- The graph that a book gives is held
+pub book-held : (bs : List ℕ) → Held (bookOf bs .graph)
+book-held bs = subst (λ (g : CausalGraph). Held g) (sym (book-made bs)) (made-good (bookStart bs) (bookCalls bs) .held)
 
 pub book-claimed : (bs : List ℕ) → Claimed (bookOf bs .graph) (bookLog bs)
 book-claimed bs = subst (λ (g : CausalGraph). Claimed g (bookLog bs)) (sym (book-made bs)) (claim (bookStart bs) (bookCalls bs))
@@ -89,5 +96,22 @@ book-prints bs lines n = go (bookOf bs .answer)
     go (RefusedBook r) e = absurd (not-moved (refusedLine (number r)) n refl (ends [] lines (refusedLine (number r)) (movedLine n) e .1))
     go (PushRefused r k) e = absurd (not-moved (pushRefusedLine (number r) k) n refl (ends [] lines (pushRefusedLine (number r) k) (movedLine n) e .1))
 
+-- The empty file
+empty-prints : printed [] ≡ movedLine 0 ∷ []
+unfolding everything
+empty-prints = refl
+
+empty-whole : bookOf [] .answer ≡ Whole
+unfolding everything
+empty-whole = refl
+
 pub books : Books
-books = record { made = book-made; claimed = book-claimed; prints = book-prints; enough = printed-cut }
+books = record {
+  empty = (empty-whole, empty-start, empty-calls);
+  empty-prints = empty-prints;
+  short = book-short;
+  made = book-made;
+  claimed = book-claimed;
+  prints = book-prints;
+  enough = printed-cut;
+}

@@ -1,4 +1,4 @@
--- 01, "The book and its program": a book's bytes to a graph, on every input. Assumes nothing.
+-- 01, "The book and its program", with 02, F-1: a book's bytes to a graph, on every input. Assumes nothing.
 use mathlib.Core.Bool.{true, false}
 use mathlib.Core.List.{List, [], _∷_}
 use mathlib.Core.Option.{Option, none, some}
@@ -36,7 +36,7 @@ takeCounted bs = elim (takeWords 1 bs) [ none ↦ none | some t ↦ takeWords (g
 unfoldable pub bookRead : CausalGraph → BookAnswer → BookRead
 bookRead g a = record { graph = g; answer = a }
 
--- 14: "book ends early"
+-- 14: "book ends early". 02, F-1, takes the book of no bytes out of it; "Books of one to eleven bytes keep refusal 14"
 unfoldable pub endsEarly : CausalGraph → BookRead
 endsEarly g = bookRead g (RefusedBook (refusal 14))
 
@@ -76,6 +76,7 @@ readHeader bs = elim (takeWords 1 bs) [
   ]
 ]
 
--- A book. 15: "book over 65,536 bytes (tested first)"
+-- A book. 02, F-1: "Let a book of length 0 mean a fresh graph from `new`". 15: "book over 65,536 bytes (tested first)"
 unfoldable pub bookOf : List ℕ → BookRead
-bookOf bs = elim (ltb maxBook (length bs)) [ true ↦ bookRead newOf (RefusedBook (refusal 15)) | false ↦ readHeader bs ]
+bookOf [] = bookRead newOf Whole
+bookOf (b ∷ bs) = elim (ltb maxBook (length (b ∷ bs))) [ true ↦ bookRead newOf (RefusedBook (refusal 15)) | false ↦ readHeader (b ∷ bs) ]

@@ -1,21 +1,23 @@
--- 01, "The book and its program": a book as a start and a list of calls, so that demand 3 is about books and what `replay` prints of them.
--- Assumes nothing.
+-- 01, "The book and its program", with 02, F-1: a book as a start and a list of calls, so that demand 3 is about books and what `replay`
+-- prints of them. Assumes nothing.
 use mathlib.Core.Path.{_≡_}
 use mathlib.Core.Bool.{Bool, true, false}
 use mathlib.Core.List.{List, [], _∷_, _++_, map}
 use mathlib.Core.Option.{Option, none, some}
-use Prim.Native.Nat.{ℕ, zero, suc}
+use Prim.Native.Nat.{ℕ, zero, suc, _<_}
 use lib.ListN.{length, getD, take}
 use lib.Dec.{ltb}
 use Rattle.model.specs.declared.record.CausalGraph.{CausalGraph}
+use Rattle.model.specs.declared.answers.BookAnswer.the-variants.{Whole, Refused as RefusedBook}
 use Rattle.model.specs.declared.answers.Outcome.the-variants.{Done, Refused}
 use Rattle.model.specs.declared.answers.EventsAnswer.the-variants.{Events, Refused as RefusedEvents}
 use Rattle.model.specs.declared.answers.BoolAnswer.the-variants.{Told, Refused as RefusedBool}
 use Rattle.model.specs.declared.answers.RunAnswer.the-variants.{Run, Refused as RefusedRun}
 use Rattle.model.specs.Limits.{maxBook}
-use Rattle.model.specs.Fresh.{afterOf}
+use Rattle.model.specs.Refusals.{refusal}
+use Rattle.model.specs.Fresh.{newOf, afterOf}
 use Rattle.model.specs.Walk.{WalkResult}
-use Rattle.model.specs.Book.{takeWords, takeCounted, bookOf}
+use Rattle.model.specs.Book.{takeWords, takeCounted, bookRead, bookOf}
 use Rattle.model.specs.Print.{Line, stepLine, movedLine, printed}
 use Rattle.model.specs.Log.{Fresh, new, after, Call, push, startRunAt, takeChangedFrom, Answer, answer, Log, madeBy}
 use Rattle.model.specs.PlainSet.{ReplayFollows}
@@ -57,11 +59,11 @@ header bs = elim (takeWords 1 bs) [
 unfoldable pub bookHeader : List ℕ → Option (ℕ × List ℕ × ℕ × List ℕ)
 bookHeader bs = elim (ltb maxBook (length bs)) [ true ↦ none | false ↦ header bs ]
 
--- The start that a book makes: the header's `after`, refused or not; "`new` before the header is in"
+-- The start that a book makes: the header's `after`, refused or not; "`new` before the header is in", so of a book of no bytes too
 unfoldable pub bookStart : List ℕ → Fresh
 bookStart bs = elim (bookHeader bs) [ none ↦ new | some h ↦ after (h .0) (h .1) ]
 
--- The calls that a book makes: the pushes read, a refused one the last; none where the header is refused or cut short
+-- The calls that a book makes: the pushes read, a refused one the last; none where the header is refused, cut short or not there at all
 unfoldable pub bookCalls : List ℕ → List Call
 bookCalls bs = elim (bookHeader bs) [
   | none ↦ []
@@ -81,6 +83,12 @@ pub record LinesFollow (l : Log) (lines : List Line) (n : ℕ) : Type 0 where
 
 -- What holds of every list of bytes
 pub record Books : Type 0 where
+  -- 02, F-1: "demand 3 takes in the empty file too, as a list of no calls": it is whole, and `new` with no calls after it
+  pub empty : (bookOf [] .answer ≡ Whole) × (bookStart [] ≡ new) × (bookCalls [] ≡ [])
+  -- "the program then prints `moved 0` alone"
+  pub empty-prints : printed [] ≡ movedLine 0 ∷ []
+  -- "Books of one to eleven bytes keep refusal 14"
+  pub short : (bs : List ℕ) → 0 < length bs → length bs < 12 → bookOf bs ≡ bookRead newOf (RefusedBook (refusal 14))
   -- the graph of a book, of a refused one too, is the one that its calls make
   pub made : (bs : List ℕ) → bookOf bs .graph ≡ (madeBy (bookStart bs) (bookCalls bs)) .0
   -- so demand 3 holds of what `replay` replays

@@ -1,4 +1,4 @@
--- Document 01's definitions. Each says what is right, by the section of 01 or of a paper that its comment names.
+-- Document 01's definitions, with 02's. Each says what is right, by the section of 01, the request of 02 or the paper that its comment names.
 pub mod Limits
 pub mod EventGraph
 pub mod Refusals
@@ -32,3 +32,4 @@ pub mod BookCalls
 pub mod Meaning
 pub mod TooWeak
 pub mod Cases
+pub mod Changes

@@ -1,22 +1,32 @@
 -- `book::reading::read` meets its contract: the length is tested first; the words that are lent are the book's. Assumes nothing.
 use borrow.Author.Needs.{needs}
-use mathlib.Core.Path.{_∙_}
+use mathlib.Core.Path.{_∙_, sym}
 use Prim.Native.Nat.{_/_}
+use native.Mathlib.Omega.{arith}
 use lib.ListN.{length}
 use Rattle.model.specs.Book.{bookRead}
-use Rattle.book.proofs.Taking.{book-long, book-in}
+use Rattle.model.proofs.BookMade.{book-empty, book-long, book-in}
 use Rattle.book.proofs.Heading.{lent-words}
 use Rattle.book.proofs.reading.read.Statement.{statement}
 use Rattle.book.proofs.reading.read.Tie as tie
 
-refused-requires : tie.Need-refused-requires
-refused-requires c κs = search needs
+fresh-requires : tie.Need-fresh-requires
+fresh-requires c κs = search needs
 
 returns : tie.Need-returns
 unfolding bookRead
 returns c =
     let a = c .before .before .before .args in
-    c .refused .ensures ∙ book-long (a .bytes .now) (c .before .if1 .taken)
+    c .fresh .ensures ∙ sym (book-empty (a .bytes .now) (c .before .if1 .taken))
+
+fresh-requires-2 : tie.Need-fresh-requires-2
+fresh-requires-2 c κs = search needs
+
+returns-2 : tie.Need-returns-2
+unfolding bookRead
+returns-2 c =
+    let a = c .before .before .before .before .args in
+    c .fresh2 .ensures ∙ sym (book-long (a .bytes .now) (c .before .if2 .taken))
 
 no-words-requires : tie.Need-no-words-requires
 no-words-requires c κs = search needs
@@ -40,22 +50,25 @@ read-words-requires : tie.Need-read-words-requires
 read-words-requires c κs =
     let x₁ = c .before .before .before in
     let decode = x₁ .decode in
-    let a = x₁ .before .before .before .before .before .args in
+    let a = x₁ .before .before .before .before .before .before .args in
     lent-words (a .bytes .now) _ _ (length (a .bytes .now) / 4) (decode .ensures)
 
-returns-2 : tie.Need-returns-2
-returns-2 c =
+returns-3 : tie.Need-returns-3
+returns-3 c =
     let x₁ = c .before .before .before .before .before .before .before in
-    let if1 = x₁ .if1 in
-    let a = x₁ .before .before .args in
-    c .read-words .ensures ∙ book-in (a .bytes .now) (if1 .left)
+    let if2 = x₁ .if2 in
+    let if1 = x₁ .before .if1 in
+    let a = x₁ .before .before .before .args in
+    c .read-words .ensures ∙ sym (book-in (a .bytes .now) (omega (arith, if1 .left)) (if2 .left))
 
 pub read-spec : {M : Type 1} → statement M
 read-spec =
     tie.close
     (tie.spec
-    refused-requires
+    fresh-requires
     returns
+    fresh-requires-2
+    returns-2
     no-words-requires
     slice-aggregate-decode
     decode-requires
@@ -63,4 +76,4 @@ read-spec =
     part-read-words-start
     part-read-words-end
     read-words-requires
-    returns-2)
+    returns-3)

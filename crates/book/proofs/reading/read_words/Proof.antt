@@ -7,15 +7,15 @@ use Rattle.book.proofs.Heading.{words-early, words-cut, words-headed, m
 use Rattle.book.proofs.reading.read_words.Statement.{statement}
 use Rattle.book.proofs.reading.read_words.Tie as tie
 
-refused-requires : tie.Need-refused-requires
-refused-requires c κs = search needs
+fresh-requires : tie.Need-fresh-requires
+fresh-requires c κs = search needs
 
 returns : tie.Need-returns
 unfolding bookRead
 returns c =
     let a = c .before .before .before .before .args in
     let pre = c .before .before .before .before .pre in
-    c .refused .ensures ∙ words-early (a .bytes .now) (a .words .now) (pre) (c .before .if1 .taken)
+    c .fresh .ensures ∙ words-early (a .bytes .now) (a .words .now) (pre) (c .before .if1 .taken)
 
 shared-slice-read-count : tie.Need-shared-slice-read-count
 shared-slice-read-count c = search needs
@@ -23,8 +23,8 @@ shared-slice-read-count c = search needs
 cast-count : tie.Need-cast-count
 cast-count c = omega (arith, c .shared-slice-known3 .given 1)
 
-refused-requires-2 : tie.Need-refused-requires-2
-refused-requires-2 c κs = search needs
+fresh-requires-2 : tie.Need-fresh-requires-2
+fresh-requires-2 c κs = search needs
 
 returns-2 : tie.Need-returns-2
 unfolding bookRead
@@ -33,7 +33,7 @@ returns-2 c =
     let if1 = x₁ .if1 in
     let a = x₁ .before .before .before .args in
     let pre = x₁ .before .before .before .pre in
-    c .refused2 .ensures ∙ words-cut (a .bytes .now) (a .words .now) (pre) (if1 .left) (c .before .if2 .taken)
+    c .fresh2 .ensures ∙ words-cut (a .bytes .now) (a .words .now) (pre) (if1 .left) (c .before .if2 .taken)
 
 add-end : tie.Need-add-end
 add-end c = search needs
@@ -83,11 +83,11 @@ pub read-words-spec : {M : Type 1} → statement M
 read-words-spec =
     tie.close
     (tie.spec
-    refused-requires
+    fresh-requires
     returns
     shared-slice-read-count
     cast-count
-    refused-requires-2
+    fresh-requires-2
     returns-2
     add-end
     shared-slice-read-begin

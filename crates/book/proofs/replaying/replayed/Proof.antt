@@ -5,7 +5,7 @@ use Rattle.model.specs.declared.answers.BookRead.{BookRead}
 use Rattle.model.specs.Broken.{Held}
 use Rattle.model.specs.Print.{Line}
 use Rattle.book.specs.Output.{printing, linesOf}
-use Rattle.book.proofs.HeldBooks.{book-held}
+use Rattle.model.proofs.BookPrints.{book-held}
 use Rattle.book.proofs.Whole.{printed-is}
 use borrow.Author.Needs.{needs}
 use Rattle.book.proofs.replaying.replayed.Statement.{statement}

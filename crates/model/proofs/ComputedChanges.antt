@@ -1,0 +1,16 @@
+-- The cases of document 02, by computing. Assumes nothing.
+use mathlib.Core.Path.{refl}
+use Rattle.model.specs.Changes.{Changes}
+use Rattle.model.proofs.Everything.{everything}
+
+pub changes : Changes
+unfolding everything
+changes = record {
+  F1 = refl;
+  F1-graph = refl;
+  F1-text = refl;
+  F1-one = refl;
+  F1-eleven = refl;
+  F1-eleven-text = refl;
+  F1-twelve = refl;
+}
