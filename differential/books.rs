@@ -1,4 +1,4 @@
-//! Holds the replay program against document 01's account of the book: makes books, gives each to the program, and compares what it
+//! Holds the replay program against document 01's account of the book, as document 02 amends it (F-1): makes books, gives each to the program, and compares what it
 //! prints. A book that is taken whole is replayed from the Rust's cuts and walks too. Then failed reads and writes (failing.rs). At the
 //! first difference it prints the book and ends with status 1.
 //!
@@ -27,7 +27,7 @@ const LONGEST: usize = 65536;
 const ROW_WORDS: usize = 8192;
 const STEPS: usize = 4096;
 
-// 01's account of the book, read word by word from a list of bytes.
+// The account of the book, read word by word from a list of bytes.
 
 struct Reader<'a> {
     left: &'a [u8],
@@ -72,6 +72,10 @@ fn account(book: &[u8]) -> Account {
 }
 
 fn read(book: &[u8], a: &mut Account) -> Result<(), String> {
+    // 02, F-1: "Let a book of length 0 mean a fresh graph from `new`".
+    if book.is_empty() {
+        return Ok(());
+    }
     if book.len() > LONGEST {
         return Err("refused 15".into());
     }
@@ -381,7 +385,7 @@ fn report(book: &[u8], wanted: &str, got: &str) -> ! {
     let words: Vec<String> = book.chunks_exact(4).map(|w| u32::from_le_bytes(w.try_into().unwrap()).to_string()).collect();
     println!("A book of {} bytes, its words:\n{}", book.len(), words.join(" "));
     println!("and bytes after them: {:?}", &book[book.len() / 4 * 4..]);
-    println!("-- 01 says:\n{wanted}-- replay prints:\n{got}");
+    println!("-- 01 and 02 say:\n{wanted}-- replay prints:\n{got}");
     exit(1)
 }
 
@@ -449,8 +453,9 @@ fn main() {
         println!("{n:9}  {what}");
     }
     println!("{given} books, {} lines, no difference", lines.lock().unwrap());
+    let trials = |book: &[u8]| failing::trials("replay", &program, book, &expected(book).unwrap(), true);
     let some = book(0, &[], &vec![(1, vec![]); 80]);
-    match failing::trials("replay", &program, &some, &expected(&some).unwrap(), true) {
+    match trials(&some).and_then(|runs| Ok(runs + trials(&[])?)) {
         Ok(runs) => println!("failed reads and writes, and endless inputs: {runs} runs, no difference"),
         Err(why) => {
             println!("DIFFERENCE at a failed read or write, or an endless input: {why}");

@@ -15,6 +15,8 @@ enum Comes {
     InPieces,
     /// All of it, and then neither more nor its end: the next read fails.
     Waits,
+    /// All of it over a connection that the other side then breaks: the next read fails.
+    Breaks,
 }
 
 /// What is printed.
@@ -44,13 +46,14 @@ const fn trial(title: &'static str, line: &'static str, comes: Comes, prints: Pr
     Trial { title, line, comes, prints, told }
 }
 
-const TRIALS: [Trial; 13] = [
+const TRIALS: [Trial; 14] = [
     trial("no failure", r#"exec "$0""#, Comes::Whole, Prints::All, ""),
     trial("input in pieces", r#"exec "$0""#, Comes::InPieces, Prints::All, ""),
     trial("standard input closed", r#"exec "$0" <&-"#, Comes::Whole, Prints::Nothing, "read: Bad file descriptor"),
     trial("a directory as input", r#"exec "$0" </"#, Comes::Whole, Prints::Nothing, "read: Is a directory"),
     trial("input that may not be read", r#"exec "$0" 0>/dev/null"#, Comes::Whole, Prints::Nothing, "read: Bad file descriptor"),
     trial("a read that fails after others", r#"exec "$0""#, Comes::Waits, Prints::Nothing, "read: Resource temporarily unavailable"),
+    trial("a broken connection as input", r#"exec "$0""#, Comes::Breaks, Prints::Nothing, "read: Connection reset by peer"),
     trial("a full device as output", r#"exec "$0" >/dev/full"#, Comes::Whole, Prints::Nothing, "write: No space left on device"),
     trial("output that may not be written", r#"exec "$0" 1</dev/null"#, Comes::Whole, Prints::Nothing, "write: Bad file descriptor"),
     trial(
@@ -76,12 +79,22 @@ fn run(trial: &Trial, command: &str, program: &str, input: &[u8]) -> std::io::Re
     let mut sh = Command::new("sh");
     sh.args(["-c", trial.line, command]).env("PROGRAM", program).stdout(Stdio::piped()).stderr(Stdio::piped());
     let (ours, theirs) = UnixStream::pair()?;
-    if trial.comes == Comes::Waits {
-        theirs.set_nonblocking(true)?;
-        (&ours).write_all(input)?;
-        sh.stdin(OwnedFd::from(theirs));
-    } else {
-        sh.stdin(Stdio::piped());
+    match trial.comes {
+        Comes::Waits => {
+            theirs.set_nonblocking(true)?;
+            (&ours).write_all(input)?;
+            sh.stdin(OwnedFd::from(theirs));
+        }
+        Comes::Breaks => {
+            // A side that ends with something unread breaks the connection.
+            (&theirs).write_all(b"?")?;
+            (&ours).write_all(input)?;
+            drop(ours);
+            sh.stdin(OwnedFd::from(theirs));
+        }
+        Comes::Whole | Comes::InPieces => {
+            sh.stdin(Stdio::piped());
+        }
     }
     let mut child = sh.spawn()?;
     if trial.prints == Prints::Unread {
@@ -89,7 +102,7 @@ fn run(trial: &Trial, command: &str, program: &str, input: &[u8]) -> std::io::Re
     }
     if let Some(mut pipe) = child.stdin.take() {
         // A program that has stopped reading is no failure here.
-        for piece in input.chunks(if trial.comes == Comes::InPieces { 1 } else { input.len() }) {
+        for piece in input.chunks(if trial.comes == Comes::InPieces { 1 } else { input.len().max(1) }) {
             let _ = pipe.write_all(piece);
         }
     }
@@ -98,13 +111,14 @@ fn run(trial: &Trial, command: &str, program: &str, input: &[u8]) -> std::io::Re
     Ok(Ran { status: ended.status, text: text(&ended.stdout), told: text(&ended.stderr) })
 }
 
-/// Runs every trial of the program called `name`, by itself and under its stand-in. `text` is what it prints of `input`; `endless`:
-/// whether an endless input is refused. How many runs there were; if one is wrong, what it did.
+/// Runs every trial of the program called `name`, by itself and under its stand-in. `text` is what it prints of `input` (no write of a
+/// short one is cut); `endless`: whether an endless input is refused. How many runs there were; if one is wrong, what it did.
 pub fn trials(name: &str, program: &str, input: &[u8], text: &str, endless: bool) -> Result<u64, String> {
     let stand_in = Path::new(file!()).parent().unwrap().join("../tools").join(name);
     let stand_in = stand_in.to_str().unwrap();
     let mut runs = 0;
-    for trial in TRIALS.iter().filter(|trial| endless || trial.prints != Prints::TooLong) {
+    let applies = |trial: &&Trial| (endless || trial.prints != Prints::TooLong) && (text.len() > 1024 || trial.prints != Prints::Part);
+    for trial in TRIALS.iter().filter(applies) {
         let told = if trial.told.is_empty() { String::new() } else { format!("{name}: {}\n", trial.told) };
         let killed = trial.prints == Prints::Unread && told.is_empty();
         for command in [program, stand_in] {
