@@ -1,2 +1,2 @@
 -- The laws of reads.
-pub mod Kept
+pub mod Readings

@@ -1,14 +1,15 @@
 -- What reads give. Of the bytes that came no contract can say which they are. Assumes nothing.
-use Prim.Native.Nat.{ℕ, zero, suc, _+_, _<_, _≤_, min}
+use Prim.Native.Nat.{ℕ, zero, suc, _+_, _-_, _<_, _≤_, min}
 use lib.IntN.{ℤ, pos, negsuc}
+use mathlib.Core.Bool.{true, false}
 use mathlib.Core.Path.{_≡_}
 use mathlib.Core.List.{List}
 use lib.ListN.{length, take}
-use Rattle.io.specs.Counts.{Counts}
-use Rattle.stdio.specs.declared.Got.{Got}
-use Rattle.stdio.specs.declared.Got.the-variants.{Bytes as GotBytes, End, Failed as GotFailed}
-use Rattle.stdio.specs.declared.Filled.{Filled}
-use Rattle.stdio.specs.declared.Filled.the-variants.{Bytes, Failed}
+use Rattle.stdio.specs.declared.reading.Got.{Got}
+use Rattle.stdio.specs.declared.reading.Got.the-variants.{Bytes as GotBytes, End, Failed as GotFailed}
+use Rattle.stdio.specs.declared.reading.Filled.{Filled}
+use Rattle.stdio.specs.declared.reading.Filled.the-variants.{Bytes, Failed}
+use Rattle.stdio.specs.declared.reading.Reading.{Reading}
 
 -- a number of bytes that came; none at the end of the input
 unfoldable pub counted : ℕ → Got
@@ -20,17 +21,37 @@ unfoldable pub gotOf : ℤ → ℕ → Got
 gotOf (pos k) n = counted (min k n)
 gotOf (negsuc k) n = GotFailed
 
--- bytes that came are at least one, and stand within the buffer
+-- bytes that came are at least one, and stand within a buffer of n
 abbrev pub Room : ℕ → ℕ → Got → Type 0
 Room at n (GotBytes k) = (0 < k) × (at + k ≤ n)
 Room at n End = Unit
 Room at n GotFailed = Unit
 
--- a read into xs from place `at` on left ys: the bytes before it are as they were
-abbrev pub Came : ℕ → List ℕ → List ℕ → Got → Type 0
-Came at xs ys got = (take at ys ≡ take at xs) × Room at (length xs) got
+-- a reading after one read more
+unfoldable pub afterRead : Reading → Got → Reading
+afterRead r (GotBytes k) = record { count = r .count + k; ended = r .ended; failed = r .failed }
+afterRead r End = record { count = r .count; ended = true; failed = r .failed }
+afterRead r GotFailed = record { count = r .count; ended = r .ended; failed = true }
 
--- so many bytes stand at the start of the buffer
-abbrev pub InBuffer : List ℕ → Filled → Type 0
-InBuffer xs (Bytes n) = Counts n xs
-InBuffer xs Failed = Unit
+-- how many bytes of a buffer of n may still come: none after the end or a failure
+unfoldable pub leftOf : Reading → ℕ → ℕ
+leftOf r n = elim (r .ended) [ true ↦ 0 | false ↦ elim (r .failed) [ true ↦ 0 | false ↦ n - r .count ] ]
+
+-- what a reading gave: so many bytes, or a failure, whatever came before it
+unfoldable pub filledOf : Reading → Filled
+filledOf r = elim (r .failed) [ true ↦ Failed | false ↦ Bytes (r .count) ]
+
+-- no read failed, and n bytes came
+abbrev pub Came : Reading → ℕ → Type 0
+Came r n = filledOf r ≡ Bytes n
+
+-- a read into the buffer xs took the reading r to s and left ys: what came before is as it was
+pub record On (r : Reading) (xs ys : List ℕ) (s : Reading) : Type 0 where
+  pub kept : take (r .count) ys ≡ take (r .count) xs
+  pub within : s .count ≤ length xs
+  pub less : leftOf s (length xs) < leftOf r (length xs)
+
+-- a buffer of n bytes was read into until it was full, the input ended or a read failed
+pub record Full (n : ℕ) (r : Reading) : Type 0 where
+  pub within : r .count ≤ n
+  pub whole : leftOf r n ≡ 0

@@ -113,7 +113,7 @@ fn filled(bytes: &mut Bytes, r: Input) -> Input {
     if r.at < r.end {
         return r;
     }
-    begun(stdio::fill(bytes))
+    begun(stdio::gave(stdio::fill(bytes)))
 }
 
 // Reads a word to place `i` of a call; BAD if the input has no whole word left.

@@ -1,5 +1,7 @@
--- `replay::main` is safe: what was read lies within the buffer. Assumes nothing.
-use Rattle.stdio.proofs.Kept.{held-of}
+-- `replay::main` is safe: what was read lies within the buffer, and is printed where no read failed. Assumes nothing.
+use lib.Seq.{length-take-le}
+use mathlib.Core.Path.{sym}
+use Rattle.stdio.proofs.Readings.{came, came-fits}
 use borrow.Author.Needs.{needs}
 use Rattle.replay.proofs.main.Statement.{statement}
 use Rattle.replay.proofs.main.Tie as tie
@@ -13,17 +15,29 @@ slice-aggregate-fill c = search needs
 fill-requires : tie.Need-fill-requires
 fill-requires c κs = search needs
 
+gave-requires : tie.Need-gave-requires
+gave-requires c κs = search needs
+
 enum-known-filled : tie.Need-enum-known-filled
 enum-known-filled c = search needs
 
 array-share-prefix-bytes : tie.Need-array-share-prefix-bytes
-array-share-prefix-bytes c = let h = held-of _ _ _ (c .before .filled .given .1) (c .before .before .before .before .fill .ensures) in search needs
+array-share-prefix-bytes c =
+    let x = c .before .before .before in
+    let h = came-fits _ _ _ (x .gave .ensures) (c .before .filled .given .1) _ (x .before .before .fill .ensures) in
+    search (needs, h)
 
 slice-aggregate-print : tie.Need-slice-aggregate-print
-slice-aggregate-print c = let h = held-of _ _ _ (c .before .before .filled .given .1) (c .before .before .before .before .before .fill .ensures) in search needs
+slice-aggregate-print c =
+    let x = c .before .before .before .before in
+    let h = came-fits _ _ _ (x .gave .ensures) (c .before .before .filled .given .1) _ (x .before .before .fill .ensures) in
+    sym (length-take-le _ _ h)
 
 print-requires : tie.Need-print-requires
-print-requires c κs = search needs
+print-requires c κs =
+    let x = c .before .before .before .before in
+    let h = came-fits _ _ _ (x .gave .ensures) (c .before .before .filled .given .1) _ (x .before .before .fill .ensures) in
+    came _ _ _ (x .gave .ensures) (c .before .before .filled .given .1) _ (sym (length-take-le _ _ h))
 
 enum-told : tie.Need-enum-told
 enum-told c = search needs
@@ -47,6 +61,7 @@ main-spec =
     no-bytes-requires
     slice-aggregate-fill
     fill-requires
+    gave-requires
     enum-known-filled
     array-share-prefix-bytes
     slice-aggregate-print

@@ -1,4 +1,4 @@
--- `stdio::told` meets its contract: an answer below 0, one that counts nothing, one that counts something. Assumes nothing.
+-- `stdio::reading::told` meets its contract: an answer below 0, one that counts nothing, one that counts something. Assumes nothing.
 use mathlib.Core.Path.{_∙_, ap}
 use borrow.Author.Needs.{needs}
 use lib.IntN.{ℤ}
@@ -7,9 +7,9 @@ use mir.Syntax.{w64}
 use mir.Val.{toZ, ofZ}
 use mir.ValLaws.{toZ-ofZ}
 use Rattle.stdio.specs.Reads.{gotOf}
-use Rattle.stdio.proofs.Kept.{told-failed, told-end, told-bytes}
-use Rattle.stdio.proofs.told.Statement.{statement}
-use Rattle.stdio.proofs.told.Tie as tie
+use Rattle.stdio.proofs.Readings.{told-failed, told-end, told-bytes}
+use Rattle.stdio.proofs.reading.told.Statement.{statement}
+use Rattle.stdio.proofs.reading.told.Tie as tie
 
 returns : tie.Need-returns
 returns c =
