@@ -130,7 +130,7 @@ impl Oracle {
         Ok(same("a cut", self.of_rust(|rust| rust_cut(rust, from)), ranges))
     }
 
-    /// The runs beside a run: neither it nor its ancestors nor its descendants, by the parents of runs.
+    /// The runs beside a run, rising: neither it nor its ancestors nor its descendants, by the parents of runs.
     fn beside(&self, run: usize) -> Vec<u32> {
         let parents = same("parents", self.of_rust(rust_parents), self.model.parents.clone());
         let mut near = vec![false; parents.len()];

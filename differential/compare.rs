@@ -32,7 +32,7 @@ const STREAM: usize = 400000;
 
 /// Lines by operation and what is returned.
 type Counts = BTreeMap<(u32, String), u64>;
-/// Walks and replays that have something of note; how many.
+/// Walks, replays and concurrency lists that have something of note; how many.
 type Notes = BTreeMap<&'static str, u64>;
 
 const NAMES: [&str; 16] = ["new", "after", "push", "start", "take", "cut", "walk", "replay", "archive", "concurrent", "run", "event", "extends", "graph", "raw", "reader"];
@@ -45,18 +45,6 @@ fn bytes(calls: &[Vec<u32>]) -> Vec<u8> {
 fn answer(oracle: &mut Oracle, call: &[u32]) -> String {
     catch_unwind(AssertUnwindSafe(|| oracle.answer(call)))
         .unwrap_or_else(|panic| panic.downcast_ref::<String>().cloned().or(panic.downcast_ref::<&str>().map(|text| text.to_string())).unwrap_or_default())
-}
-
-/// Equal, but for the order of a concurrency list.
-fn agree(a: &str, b: &str) -> bool {
-    let sorted = |line: &str| {
-        let mut parts: Vec<String> = line.split(' ').map(String::from).collect();
-        if line.starts_with("concurrent ") && parts.len() > 4 {
-            parts[4..].sort();
-        }
-        parts
-    };
-    a == b || (a.len() == b.len() && a.starts_with("concurrent ") && sorted(a) == sorted(b))
 }
 
 fn start(trace: &str) -> Child {
@@ -87,14 +75,18 @@ struct Outcome {
     differs: Option<usize>,
 }
 
-/// What is of note in a line of a walk or a replay.
+/// What is of note in a line of a walk, a replay or a concurrency list.
 fn note(notes: &mut Notes, call: &[u32], line: &str) {
-    if ![6, 7].contains(&call[0]) {
+    if ![6, 7, 9].contains(&call[0]) {
         return;
     }
     let words: Vec<u64> = line.split(' ').skip(1).take(3).filter_map(|word| word.parse().ok()).collect();
-    let (refusal, count, moved) = (words[0], words[1], words[2]);
     let mut more = |name: &'static str, times: u64| *notes.entry(name).or_default() += times;
+    if call[0] == 9 {
+        more("concurrency lists of two runs or more, in order", (words[1] > 1) as u64);
+        return;
+    }
+    let (refusal, count, moved) = (words[0], words[1], words[2]);
     more("steps compared", count);
     if call[0] == 7 {
         more("replays with `moved` above 4,294,967,295", (moved > u32::MAX as u64) as u64);
@@ -126,7 +118,7 @@ fn compare(lines: ChildStdout, expected: Receiver<Vec<(Vec<u32>, String)>>) -> O
             outcome.differs = Some(outcome.calls.len() - 1);
             return outcome;
         }
-        if !agree(&line[..line.len() - 1], &expected_line) {
+        if line[..line.len() - 1] != *expected_line {
             outcome.differs = Some(outcome.calls.len());
             outcome.calls.push(call);
             return outcome;
@@ -248,7 +240,7 @@ fn difference(trace: &str, calls: &[Vec<u32>]) -> Option<(usize, String, String)
         Ok(ours) => ours,
         Err(said) => return whole(said),
     };
-    match lines.iter().zip(&ours).position(|(rust, ours)| !agree(rust, ours)) {
+    match lines.iter().zip(&ours).position(|(rust, ours)| rust != ours) {
         Some(at) => Some((at, lines[at].clone(), ours[at].clone())),
         None if lines.len() == ours.len() => None,
         None => whole(format!("{} lines", ours.len())),

@@ -14,7 +14,8 @@ LOGS = os.environ.get("LOGS")
 
 # By the crate that is edited, which may be one below the call's: call, wrong answer, file, old text, new text, and which of its places
 # where the old text stands more than once. Or the name of an edit: one of the crate's must-fail edits, which the gate tries too, or one
-# beside this file, in wrong_answers/CRATE/.
+# beside this file, in wrong_answers/CRATE/. Or a list of edits, file, old text and new text: an edit of the code that asks for other
+# bounds, with the proof of them.
 MODEL = [
     ("pushing::push", "takes a parent that is no known event: C6", "unknown_parent"),
     ("pushing::push", "leaves later parents on a split run's first part: demand 3", "later_parents"),
@@ -25,10 +26,20 @@ MODEL = [
     ("walking::walk", "writes no steps: demand 3", "no_steps"),
     ("walking::walk", "weighs the oldest first: C1", "oldest_first"),
     ("walking::walk", "covers by event numbers in place of offsets: the cases", "offsets_from_0"),
+    ("beside::concurrent_runs", "falling by run number: F-2", "concurrency_falling"),
+    ("beside::concurrent_runs", "run 0 is left out: F-2", "concurrent_left_out"),
     ("reading::read", "a book cut short is whole: F-1's cases", "short_is_whole"),
     ("reading::read", "no bytes are refused: F-1's cases", "empty_refused"),
     ("answers::number", "11 for 13", "answers.rt", "Refusal::RowsTooLong => 13", "Refusal::RowsTooLong => 11"),
     ("answers::number", "1 and 2 exchanged", "answers.rt", "Refusal::Broken => 1,\n        Refusal::NoEvents => 2,", "Refusal::Broken => 2,\n        Refusal::NoEvents => 1,"),
+]
+
+# The last run first, and the proof of the differences that it reads by
+FALLING = [
+    ("src/beside.rt", "EventRunIndex(q as u32), flags[q]", "EventRunIndex((n - 1 - q) as u32), flags[n - 1 - q]"),
+    ("proofs/beside/put_all_free/Proof.antt", "cast-t9 : tie.Need-cast-t9 Inv-loop μ-loop\ncast-t9 c = search needs\n",
+     "".join("%s : tie.Need-%s Inv-loop μ-loop\n%s c = search needs\n\n" % (n, n, n) for n in ["sub-t9", "sub-t10", "cast-t11", "sub-put-free", "sub-put-free-2"])),
+    ("proofs/beside/put_all_free/Proof.antt", "    cast-t9\n", "    sub-t9\n    sub-t10\n    cast-t11\n    sub-put-free\n    sub-put-free-2\n"),
 ]
 
 GRAPH = [
@@ -79,6 +90,8 @@ GRAPH = [
     ("beside::archive_points", "count 0 where the list is too short", "cut.rt", "count: p.count,\n        outcome: Outcome::Refused", "count: 0,\n        outcome: Outcome::Refused"),
     ("beside::concurrent_runs", "all runs, itself too", "beside.rt", "f[at] = 1;", "f[at] = 0;"),
     ("beside::concurrent_runs", "writes the runs that fit where the list is too short", "beside.rt", "if list.len() < k {", "if list.len() < 0 {"),
+    ("beside::concurrent_runs", "run 0 is left out", "beside.rt", "let mut q = 0;\n    while q < n {\n        p = put_free", "let mut q = 1;\n    while q < n {\n        p = put_free"),
+    ("beside::concurrent_runs", "falling by run number", FALLING),
 ]
 
 READER = [
@@ -178,6 +191,8 @@ def edited(text, old, new, which=None):
 
 def edits(crate, name, *texts):
     """Files of the crate, each with the old and the new text."""
+    if isinstance(name, list):
+        return name
     if texts:
         return [("src/" + name, *texts)]
     found = []

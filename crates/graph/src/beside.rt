@@ -10,7 +10,7 @@ ghost use Rattle.lists.specs.Areas.{part};
 ghost use Rattle.model.specs.Limits.{maxRuns};
 ghost use Rattle.model.specs.Record.{view};
 ghost use Rattle.model.specs.Broken.{Held};
-ghost use Rattle.model.specs.Beside.{archivePointsOf, ConcurrencyList};
+ghost use Rattle.model.specs.Beside.{archivePointsOf, concurrencyListOf};
 ghost use Rattle.graph.specs.Cutting.{blank, put, putAll};
 ghost use Rattle.graph.specs.Flags.{row, Rows, flagAll, flagParents, flagDown, flagged, flagChild, flagUp, free, Flags};
 use crate::cut::Put;
@@ -269,7 +269,7 @@ fn put_all_free(flags: &[u32], n: usize, list: &mut [u32]) -> Put
 // `concurrent_runs` on a graph that is known not to be broken.
 fn concurrent_held(g: CausalGraph, run: EventRunIndex, list: &mut [u32]) -> Written
     requires { ⌜ Held g ⌝ }
-    ensures { λ r. ⌜ ConcurrencyList g (run .0) (now (list .entry)) r (now (list .exit)) ⌝ }
+    ensures { λ r. ⌜ (r, now (list .exit)) ≡ concurrencyListOf g (run .0) (now (list .entry)) ⌝ }
 {
     let n = g.run_count;
     if n <= run.0 as usize {
@@ -290,9 +290,9 @@ fn concurrent_held(g: CausalGraph, run: EventRunIndex, list: &mut [u32]) -> Writ
     crate::cut::written(p)
 }
 
-// The runs that are neither ancestor nor descendant of `run`, nor `run` itself, into `list`.
+// The runs that are neither ancestor nor descendant of `run`, nor `run` itself, into `list`, rising.
 pub fn concurrent_runs(g: CausalGraph, run: EventRunIndex, list: &mut [u32]) -> Written
-    ensures { λ r. ⌜ ConcurrencyList g (run .0) (now (list .entry)) r (now (list .exit)) ⌝ }
+    ensures { λ r. ⌜ (r, now (list .exit)) ≡ concurrencyListOf g (run .0) (now (list .entry)) ⌝ }
 {
     if crate::broken::is_broken(g) {
         return Written {

@@ -1,5 +1,5 @@
 -- Lists that rise: between two bounds, and strictly. Assumes nothing.
-use mathlib.Core.Path.{_≡_, refl, sym, ap, _∙_}
+use mathlib.Core.Path.{_≡_, refl, sym, ap, _∙_, subst}
 use mathlib.Core.Logic.{_⊎_, inl, inr}
 use mathlib.Core.Bool.{Bool, true, false, cond}
 use mathlib.Core.List.{List, [], _∷_, _++_, map}
@@ -9,7 +9,7 @@ use lib.ListN.{length, getD, take}
 use lib.Dec.{leb, ltb, eqb}
 use borrow.Author.Tests.{ltb-true, eqb-true, lt-ltb, le-ltb, le-leb, lt-leb, eq-eqb}
 use Rattle.lists.specs.Lists.{bit, all, filter, count, from, mem, rising, below}
-use Rattle.lists.proofs.Truth.{lt-or-le, false-true, and-left, and-right, and-both, or-cases, or-left, or-right}
+use Rattle.lists.proofs.Truth.{lt-or-le, false-true, bool-iff, and-left, and-right, and-both, or-cases, or-left, or-right}
 use Rattle.lists.proofs.Members.{getD-any, mem-filter}
 
 -- The numbers rise from `lo` on, all below n
@@ -197,3 +197,44 @@ unfolding rising from
 rising-from a zero = refl
 rising-from a (suc zero) = refl
 rising-from a (suc (suc n)) = and-both (ltb a (suc a)) (rising (from (suc a) (suc n))) (lt-ltb a (suc a) (omega arith)) (rising-from (suc a) (suc n))
+
+-- Two lists that rise and have the same members are one: the first number is the least,
+first-least : (y : ℕ) (ys : List ℕ) → rising (y ∷ ys) ≡ true → (x : ℕ) → mem x (y ∷ ys) ≡ true → y ≤ x
+unfolding mem
+first-least y ys e x m = go (or-cases (eqb x y) (mem x ys) m)
+  where
+    go : (eqb x y ≡ true) ⊎ (mem x ys ≡ true) → y ≤ x
+    go (inl q) = omega (arith, eqb-true x y q)
+    go (inr k) = omega (arith, rising-above y ys e x k)
+
+-- behind equal first numbers the members are the same,
+members-behind : (x : ℕ) (xs ys : List ℕ) → rising (x ∷ xs) ≡ true → ((z : ℕ) → mem z (x ∷ xs) ≡ mem z (x ∷ ys)) → (z : ℕ) → mem z xs ≡ true → mem z ys ≡ true
+unfolding mem
+members-behind x xs ys e same z m = go (or-cases (eqb z x) (mem z ys) (sym (same z) ∙ or-right (eqb z x) m))
+  where
+    go : (eqb z x ≡ true) ⊎ (mem z ys ≡ true) → mem z ys ≡ true
+    go (inl q) = absurd (omega (arith, eqb-true z x q, rising-above x xs e z m))
+    go (inr k) = k
+
+pub rising-only : (xs ys : List ℕ) → rising xs ≡ true → rising ys ≡ true → ((z : ℕ) → mem z xs ≡ mem z ys) → xs ≡ ys
+unfolding mem
+rising-only [] [] a b same = refl
+rising-only [] (y ∷ ys) a b same = false-true (same y ∙ or-left (mem y ys) (eq-eqb y y refl))
+rising-only (x ∷ xs) [] a b same = false-true (sym (same x) ∙ or-left (mem x xs) (eq-eqb x x refl))
+rising-only (x ∷ xs) (y ∷ ys) a b same =
+    ap (λ (v : ℕ). v ∷ xs) equal ∙
+    ap (λ (l : List ℕ). y ∷ l) (rising-only xs ys (rising-tail x xs a) (rising-tail y ys b)
+    (λ z. bool-iff (mem z xs) (mem z ys) (members-behind x xs ys a alike z) (members-behind x ys xs risen (λ w. sym (alike w)) z)))
+  where
+    equal : x ≡ y
+    equal = omega (
+      arith,
+      first-least y ys b x (sym (same x) ∙ or-left (mem x xs) (eq-eqb x x refl)),
+      first-least x xs a y (same y ∙ or-left (mem y ys) (eq-eqb y y refl)),
+    )
+
+    alike : (z : ℕ) → mem z (x ∷ xs) ≡ mem z (x ∷ ys)
+    alike z = same z ∙ ap (λ (k : ℕ). mem z (k ∷ ys)) (sym equal)
+
+    risen : rising (x ∷ ys) ≡ true
+    risen = subst (λ (k : ℕ). rising (k ∷ ys) ≡ true) (sym equal) b

@@ -13,4 +13,9 @@ changes = record {
   F1-eleven = refl;
   F1-eleven-text = refl;
   F1-twelve = refl;
+  F2 = refl;
+  F2-both-sides = refl;
+  F2-none = refl;
+  F2-short = refl;
+  F2-outside = refl;
 }

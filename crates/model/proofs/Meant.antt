@@ -32,6 +32,7 @@ use Rattle.model.proofs.Chains.{range-chains}
 use Rattle.model.proofs.Rows.{range-rows}
 use Rattle.model.proofs.Keeping.{lower-of}
 use Rattle.model.proofs.Good.{made-good}
+use Rattle.model.proofs.ConcurrencyList.{in-run-order, listed-runs}
 use Rattle.model.proofs.Concurrency.{concurrent-runs}
 use Rattle.model.proofs.Told.{walk-told, replay-told}
 
@@ -144,6 +145,8 @@ meaning = record {
   history = history;
   history-rises = history-rises;
   range-history = range-history;
+  concurrency = in-run-order;
+  concurrency-runs = λ g formed r q lt. listed-runs g (fit-below (g .parents) (formed .parents)) r lt q;
   concurrent = λ f cs.
       let G = made-good f cs in
       concurrent-runs ((madeBy f cs) .0) ((madeBy f cs) .1) (G .fact .inv .tied) (lower-of (view ((madeBy f cs) .0)) ((madeBy f cs) .1) (G .fact .inv));

@@ -1,11 +1,11 @@
--- 01, "Beside it": archive points and the concurrency list, on every input. Assumes nothing.
-use mathlib.Core.Path.{_≡_}
+-- 01, "Beside it": archive points and the concurrency list, in the order of 02's F-2, on every input. Assumes nothing.
 use mathlib.Core.Bool.{Bool, true, false, not, _&&_}
 use mathlib.Core.List.{List, [], _∷_, map}
 use Prim.Native.Nat.{ℕ}
-use lib.ListN.{length, take, drop}
+use lib.ListN.{length}
 use lib.Dec.{leb, ltb, eqb}
-use Rattle.lists.specs.Lists.{bit, count, mem, occurs, upto}
+use Rattle.lists.specs.Lists.{filter, mem, upto}
+use Rattle.lists.specs.Areas.{over}
 use Rattle.model.specs.declared.record.CausalGraph.{CausalGraph}
 use Rattle.model.specs.declared.answers.Written.{Written}
 use Rattle.model.specs.declared.answers.Outcome.{Outcome}
@@ -34,9 +34,9 @@ concurrentRun g r q =
     let hs : List (List ℕ) = histories (g .parents) in
     ltb q (runs g) && not (mem q (at hs r)) && not (mem r (at hs q)) && not (eqb q r)
 
--- how many there are
-unfoldable pub concurrentCount : Graph → ℕ → ℕ
-concurrentCount g r = count (concurrentRun g r) (upto (runs g))
+-- The concurrency list of run r. 02, F-2: it "shall rise by run number"
+unfoldable pub concurrencyList : Graph → ℕ → List ℕ
+concurrencyList g r = filter (concurrentRun g r) (upto (runs g))
 
 -- Refusals 1, 9, 11
 unfoldable pub concurrencyOutcome : CausalGraph → ℕ → List ℕ → Outcome
@@ -44,17 +44,10 @@ concurrencyOutcome g r lent =
     firstOf (
     (broken g, 1) ∷
     (leb (runs (view g)) r, 9) ∷
-    (ltb (length lent) (concurrentCount (view g) r), 11) ∷ [])
+    (ltb (length lent) (length (concurrencyList (view g) r)), 11) ∷ [])
 
--- The list holds "each once", from its start, and the rest keeps its value. "Order left free": the sole freedom
-pub record ConcurrentIn (g : Graph) (r : ℕ) (lent : List ℕ) (answer : Written) (after : List ℕ) : Type 0 where
-  pub written : answer ≡ record { count = concurrentCount g r; outcome = Done }
-  pub once : (q : ℕ) → occurs q (take (answer .count) after) ≡ bit (concurrentRun g r q)
-  pub rest : drop (answer .count) after ≡ drop (answer .count) lent
-
--- The concurrency list of a run into a lent list; under 11 the list is untouched too
-unfoldable pub ConcurrencyList : CausalGraph → ℕ → List ℕ → Written → List ℕ → Type 0
-ConcurrencyList g r lent answer after = elim (concurrencyOutcome g r lent) [
-  | Done ↦ ConcurrentIn (view g) r lent answer after
-  | Refused n ↦ (answer, after) ≡ unwritten n lent
-]
+-- The concurrency list of a run into a lent list, from its start; the rest keeps its value, and under 11 all of it does
+unfoldable pub concurrencyListOf : CausalGraph → ℕ → List ℕ → Written × List ℕ
+concurrencyListOf g r lent =
+    let qs : List ℕ = concurrencyList (view g) r in
+    elim (concurrencyOutcome g r lent) [ Done ↦ (record { count = length qs; outcome = Done }, over qs lent) | Refused n ↦ unwritten n lent ]

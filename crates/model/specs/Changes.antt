@@ -1,11 +1,29 @@
 -- The cases of document 02's change requests, by computing. Assumes nothing.
 use mathlib.Core.Path.{_≡_}
-use mathlib.Core.List.{[], _∷_}
+use mathlib.Core.List.{List, [], _∷_}
+use Prim.Native.Nat.{ℕ}
 use lib.ListN.{replicate}
-use Rattle.model.specs.Answers.{bookNumbers}
+use Rattle.model.specs.declared.record.CausalGraph.{CausalGraph}
+use Rattle.model.specs.declared.answers.Written.{Written}
+use Rattle.model.specs.Answers.{outcomeNumber, bookNumbers}
 use Rattle.model.specs.Fresh.{newOf}
+use Rattle.model.specs.Beside.{concurrencyListOf}
 use Rattle.model.specs.Book.{bookOf}
 use Rattle.model.specs.Print.{ascii, replayText}
+use Rattle.model.specs.Log.{new, push, madeBy}
+use Rattle.model.specs.Cases.{branches}
+
+-- What a call wrote into a lent list: the refusal's number, the count, the list afterwards
+unfoldable pub writtenNumbers : Written × List ℕ → ℕ × ℕ × List ℕ
+writtenNumbers w = (outcomeNumber (w .0 .outcome), w .0 .count, w .1)
+
+-- Three runs of one event: 0 and 1 with no parents, then 2 after 0
+unfoldable pub writers : CausalGraph
+writers = madeBy new (push [] 1 ∷ push [] 1 ∷ push (0 ∷ []) 1 ∷ []) .0
+
+-- The concurrency list of a run, into so many words
+unfoldable pub concurrentWith : CausalGraph → ℕ → ℕ → ℕ × ℕ × List ℕ
+concurrentWith g r room = writtenNumbers (concurrencyListOf g r (replicate room 9))
 
 pub record Changes : Type 0 where
   -- F-1: "a book of length 0" is whole, "a fresh graph from `new`"; "the program then prints `moved 0` alone"
@@ -18,3 +36,10 @@ pub record Changes : Type 0 where
   pub F1-eleven-text : replayText (replicate 11 0) ≡ ascii "refused 14\n"
   -- twelve zero bytes are a header with no events, no frontier and no pushes: the same graph
   pub F1-twelve : bookOf (replicate 12 0) ≡ bookOf []
+  -- F-2: "the list of runs concurrent with a run shall rise by run number"; what lies behind it keeps its value
+  pub F2 : concurrentWith branches 1 3 ≡ (0, 2, 2 ∷ 4 ∷ 9 ∷ [])
+  pub F2-both-sides : concurrentWith writers 1 2 ≡ (0, 2, 0 ∷ 2 ∷ [])
+  pub F2-none : concurrentWith branches 0 0 ≡ (0, 0, [])
+  -- refusals as they were: too short a list stays untouched, and run 5 is none
+  pub F2-short : concurrentWith branches 1 1 ≡ (11, 0, 9 ∷ [])
+  pub F2-outside : concurrentWith branches 5 1 ≡ (9, 0, 9 ∷ [])

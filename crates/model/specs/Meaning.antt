@@ -13,7 +13,7 @@ use Rattle.model.specs.Graph.{Graph, runs, start, firstHeld, len, contai
 use Rattle.model.specs.Record.{view, Sized}
 use Rattle.model.specs.Broken.{broken, WellFormed, Held}
 use Rattle.model.specs.History.{at, runGraph, histories}
-use Rattle.model.specs.Beside.{concurrentRun}
+use Rattle.model.specs.Beside.{concurrentRun, concurrencyList}
 use Rattle.model.specs.Choice.{Range, rangeOf, isReady, newlyReady}
 use Rattle.model.specs.Steps.{Step, retreat, advance, opened, apply, words}
 use Rattle.model.specs.Walk.{WalkResult, walkOf}
@@ -24,13 +24,20 @@ use Rattle.model.specs.Log.{Fresh, Call, Log, madeBy, runCount, runStart
 abbrev pub RunBefore : Graph → ℕ → ℕ → Type 0
 RunBefore g q r = HappenedBefore (runGraph (g .parents)) q r
 
--- The concurrency list on the log: q is concurrent with run r exactly if it is a run whose first event is concurrent with r's first, in
--- the paper's sense; and then all events of the one are concurrent with all events of the other
+-- 02, F-2: the concurrency list of run r "shall rise by run number. Its members do not change": each run that is concurrent with r stands in
+-- it once, no other number does, and it rises; so it is the only such list
+pub record InRunOrder (g : Graph) (r : ℕ) : Type 0 where
+  pub once : (q : ℕ) → occurs q (concurrencyList g r) ≡ bit (concurrentRun g r q)
+  pub rises : rising (concurrencyList g r) ≡ true
+  pub only : (qs : List ℕ) → rising qs ≡ true → ((q : ℕ) → mem q qs ≡ concurrentRun g r q) → qs ≡ concurrencyList g r
+
+-- The concurrency list on the log: q stands in that of run r exactly if it is a run whose first event is concurrent with r's first, in the
+-- paper's sense; and then all events of the one are concurrent with all events of the other
 pub record ConcurrentRuns (g : CausalGraph) (l : Log) : Type 0 where
   pub starts : (r q : ℕ) → r < runCount l →
-      (concurrentRun (view g) r q ≡ true) ↔ ((q < runCount l) × Concurrent (eventGraph l) (runStart l r) (runStart l q))
-  pub events : (r q d e : ℕ) → r < runCount l → concurrentRun (view g) r q ≡ true → inRuns l r (suc r) d ≡ true → inRuns l q (suc q) e ≡ true →
-      Concurrent (eventGraph l) d e
+      (mem q (concurrencyList (view g) r) ≡ true) ↔ ((q < runCount l) × Concurrent (eventGraph l) (runStart l r) (runStart l q))
+  pub events : (r q d e : ℕ) → r < runCount l → mem q (concurrencyList (view g) r) ≡ true → inRuns l r (suc r) d ≡ true →
+      inRuns l q (suc q) e ≡ true → Concurrent (eventGraph l) d e
 
 -- The chains of runs a to b-1, numbered from 0 within the range
 pub record Chains (g : Graph) (a b : ℕ) (chains : List (List ℕ)) : Type 0 where
@@ -95,7 +102,11 @@ pub record Meaning : Type 0 where
   -- in a range it is exactly the runs of the range that happened before it in the whole graph: no path leads out of the range and back
   pub range-history : (g : Graph) → WellFormed g → (a b : ℕ) → a ≤ b → b ≤ runs g → (q r : ℕ) → r < b - a →
       (mem q (at ((rangeOf g a b) .history) r) ≡ true) ↔ RunBefore g (a + q) (a + r)
-  -- the concurrency list is the paper's, on the log of the calls that made the graph
+  -- the concurrency list rises; in a well-formed graph it holds "all runs neither ancestor nor descendant nor itself"
+  pub concurrency : (g : Graph) (r : ℕ) → InRunOrder g r
+  pub concurrency-runs : (g : Graph) → WellFormed g → (r q : ℕ) → r < runs g →
+      (mem q (concurrencyList g r) ≡ true) ↔ ((q < runs g) × Concurrent (runGraph (g .parents)) r q)
+  -- and it is the paper's, on the log of the calls that made the graph
   pub concurrent : (f : Fresh) (cs : List Call) → ConcurrentRuns ((madeBy f cs) .0) ((madeBy f cs) .1)
   -- the chains and the rows of a range
   pub chains : (g : Graph) → WellFormed g → (a b : ℕ) → a ≤ b → b ≤ runs g → Chains g a b ((rangeOf g a b) .chains)
