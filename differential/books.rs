@@ -1,6 +1,6 @@
-//! Holds the replay program against document 01's account of the book, as document 02 amends it (F-1): makes books, gives each to the program, and compares what it
-//! prints. A book that is taken whole is replayed from the Rust's cuts and walks too. Then failed reads and writes (failing.rs). At the
-//! first difference it prints the book and ends with status 1.
+//! Holds the replay program against document 01's account of the book, as document 02 amends it (F-1): makes books, gives each to the
+//! program, and compares what it prints. A book that is taken whole is replayed from the Rust's cuts and walks too. Then failed reads and
+//! writes (failing.rs). At the first difference it prints the book and ends with status 1.
 //!
 //! books REPLAY [RANDOM [SEED]]   REPLAY: the program; RANDOM: how many random books; SEED: a number
 

@@ -15,10 +15,8 @@ use Rattle.lists.specs.declared.Kept.{Kept}
 use Rattle.lists.proofs.Counts.{filter-same}
 use Rattle.lists.proofs.Pads.{get-pad, length-pad}
 use Rattle.model.specs.declared.record.CausalGraph.{CausalGraph}
-use Rattle.model.specs.declared.answers.Written.{Written}
 use Rattle.model.specs.declared.answers.Refusal.{Refusal}
 use Rattle.model.specs.declared.answers.Refusal.the-variants.{Broken, Outside, ListTooShort}
-use Rattle.model.specs.declared.answers.Outcome.{Outcome}
 use Rattle.model.specs.declared.answers.Outcome.the-variants.{Done, Refused}
 use Rattle.model.specs.Refusals.{firstOf}
 use Rattle.model.specs.Graph.{runs}
@@ -64,22 +62,10 @@ module _ (g : CausalGraph) (held : Held g) (r : ℕ) where
       filter-same (λ q. eqb (getD flags q 0) 0) (concurrentRun (view g) r) 0 (runs (view g)) (runs (view g)) (omega arith) (λ q h. f .each q h)
 
 module _ (g : CausalGraph) (r : ℕ) (lent : List ℕ) where
-  outcome-is : (o : Outcome) → concurrencyOutcome g r lent ≡ o → concurrencyListOf g r lent ≡
-      elim o as (λ _. Written × List ℕ) [
-        | Done ↦ (record { count = length (concurrencyList (view g) r); outcome = Done }, over (concurrencyList (view g) r) lent)
-        | Refused n ↦ unwritten n lent
-      ]
-  unfolding concurrencyListOf
-  outcome-is o e = ap
-      (λ (o : Outcome). elim o as (λ _. Written × List ℕ) [
-        | Done ↦ (record { count = length (concurrencyList (view g) r); outcome = Done }, over (concurrencyList (view g) r) lent)
-        | Refused n ↦ unwritten n lent
-      ]) e
-
   -- Refused
   concurrent-refused : (n : Refusal) → concurrencyOutcome g r lent ≡ Refused n → (record { count = 0; outcome = Refused n }, lent) ≡ concurrencyListOf g r lent
-  unfolding unwritten
-  concurrent-refused n e = sym (outcome-is (Refused n) e)
+  unfolding concurrencyListOf unwritten
+  concurrent-refused n e = rw (e, concurrencyListOf) refl
 
   pub concurrent-broken : broken g ≡ true → (record { count = 0; outcome = Refused Broken }, lent) ≡ concurrencyListOf g r lent
   unfolding concurrencyOutcome firstOf
@@ -101,9 +87,8 @@ module _ (g : CausalGraph) (r : ℕ) (lent : List ℕ) where
       -- Done
       pub concurrent-done : length (free flags (g .«run_count»)) ≤ length lent → (p : Put) (l : List ℕ) →
           (p, l) ≡ putAll 1 (blank, lent) (map (λ q. q ∷ []) (free flags (g .«run_count»))) → (writtenOf p, l) ≡ concurrencyListOf g r lent
-      unfolding concurrencyOutcome firstOf
+      unfolding concurrencyListOf concurrencyOutcome firstOf
       concurrent-done s p l e =
-          words-fit (free flags (g .«run_count»)) lent p l s e ∙
-          (ap (λ (qs : List ℕ). (record { count = length qs; outcome = Done }, over qs lent)) (free-list g held r flags f) ∙
-          sym (outcome-is Done
-          (rw (not-broken g held, runs-view g held, lt-leb (g .«run_count») r lt, ← free-list g held r flags f, le-ltb (length lent) (length (free flags (g .«run_count»))) s))))
+          let done : concurrencyOutcome g r lent ≡ Done =
+          rw (not-broken g held, runs-view g held, lt-leb (g .«run_count») r lt, ← free-list g held r flags f, le-ltb (length lent) (length (free flags (g .«run_count»))) s) in
+          words-fit (free flags (g .«run_count»)) lent p l s e ∙ rw (free-list g held r flags f, done, concurrencyListOf) refl

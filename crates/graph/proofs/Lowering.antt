@@ -8,12 +8,10 @@ use native.Mathlib.Numerals.{add-one}
 use lib.ListN.{length, drop, getD, drop-of-length-le}
 use lib.Seq.{drop-cons, drop-append-le}
 use lib.Dec.{leb, ltb}
-use Rattle.lists.specs.Lists.{all, filter, mem, least, from, upto}
+use Rattle.lists.specs.Lists.{all, filter, mem, least}
 use Rattle.lists.proofs.Truth.{lt-not, and-true}
-use Rattle.lists.proofs.Members.{mem-filter, getD-mem}
-use Rattle.lists.proofs.Counts.{mem-from}
-use Rattle.lists.proofs.Members.{all-both}
-use Rattle.lists.proofs.Members.{mem-first, mem-rest}
+use Rattle.lists.proofs.Members.{getD-mem, all-both, mem-first, mem-rest}
+use Rattle.lists.proofs.Passing.{passing}
 use Rattle.lists.proofs.Pads.{get-pad}
 use Rattle.model.specs.declared.record.CausalGraph.{CausalGraph}
 use Rattle.model.specs.Graph.{Graph, runs, start, marked, marks}
@@ -46,10 +44,8 @@ lower-is xs s d p (m ∷ ms) h =
 
 -- A marked run is one of the runs
 pub mark-run : (a : Graph) (r : ℕ) → mem r (marks a) ≡ true → (r < runs a) × (marked a r ≡ true)
-unfolding marks upto
-mark-run a r m =
-    let w = mem-filter (marked a) r (from 0 (runs a)) m in
-    (omega (arith, mem-from r 0 (runs a) (w .0) .1), w .1)
+unfolding marks
+mark-run a r m = (passing (marked a) (runs a) r) .0 m
 
 -- A marked run keeps its mark exactly if the new run has seen its start
 joined-mark : (a : Graph) → WellFormed a → (ps : List ℕ) (n r : ℕ) → mem r (marks a) ≡ true →

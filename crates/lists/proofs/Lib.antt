@@ -7,6 +7,7 @@ pub mod Members
 pub mod Counts
 pub mod Each
 pub mod Rising
+pub mod Passing
 pub mod Bounds
 -- Lists of any items
 pub mod Inserts

@@ -6,11 +6,11 @@ use mathlib.Core.List.{List}
 use Prim.Native.Nat.{ℕ, _<_}
 use lib.Dec.{ltb, eqb}
 use borrow.Author.Tests.{ltb-true, lt-ltb, eq-eqb, ne-eqb, not-true}
-use Rattle.lists.specs.Lists.{bit, filter, upto, mem, occurs, rising}
+use Rattle.lists.specs.Lists.{bit, upto, mem, occurs, rising}
 use Rattle.lists.proofs.Truth.{false-true, not-so, bool-iff, and-left, and-right}
-use Rattle.lists.proofs.Members.{mem-filter, filter-mem}
-use Rattle.lists.proofs.Counts.{occurs-filter, occurs-upto, upto-mem}
-use Rattle.lists.proofs.Rising.{rising-filter, rising-from, rising-only}
+use Rattle.lists.proofs.Counts.{occurs-filter, occurs-upto}
+use Rattle.lists.proofs.Rising.{rising-only}
+use Rattle.lists.proofs.Passing.{passing, passing-rises}
 use Rattle.model.specs.EventGraph.{Concurrent}
 use Rattle.model.specs.Graph.{Graph, runs}
 use Rattle.model.specs.History.{at, runGraph, histories}
@@ -18,22 +18,33 @@ use Rattle.model.specs.Beside.{concurrentRun, concurrencyList}
 use Rattle.model.specs.Meaning.{InRunOrder}
 use Rattle.model.proofs.Histories.{Below, Reach, history-iff}
 
+-- "neither ancestor nor descendant nor itself", by computing
+record Tests (g : Graph) (r q : ℕ) : Type 0 where
+  run : q < runs g
+  not-ancestor : mem q (at (histories (g .parents)) r) ≡ false
+  not-descendant : mem r (at (histories (g .parents)) q) ≡ false
+  not-itself : eqb q r ≡ false
+
 module _ (g : Graph) (r : ℕ) where
-  -- Only a run is concurrent with another
-  concurrent-run : (q : ℕ) → concurrentRun g r q ≡ true → q < runs g
+  tests : (q : ℕ) → concurrentRun g r q ≡ true → Tests g r q
   unfolding concurrentRun
-  concurrent-run q h =
-      let hs = histories (g .parents) in
+  tests q h =
+      let hs : List (List ℕ) = histories (g .parents) in
       let abc = and-left (ltb q (runs g) && not (mem q (at hs r)) && not (mem r (at hs q))) (not (eqb q r)) h in
       let ab = and-left (ltb q (runs g) && not (mem q (at hs r))) (not (mem r (at hs q))) abc in
-      ltb-true q (runs g) (and-left (ltb q (runs g)) (not (mem q (at hs r))) ab)
+      record {
+        run = ltb-true q (runs g) (and-left (ltb q (runs g)) (not (mem q (at hs r))) ab);
+        not-ancestor = not-true (mem q (at hs r)) (and-right (ltb q (runs g)) (not (mem q (at hs r))) ab);
+        not-descendant = not-true (mem r (at hs q)) (and-right (ltb q (runs g) && not (mem q (at hs r))) (not (mem r (at hs q))) abc);
+        not-itself = not-true (eqb q r) (and-right (ltb q (runs g) && not (mem q (at hs r)) && not (mem r (at hs q))) (not (eqb q r)) h);
+      }
 
   -- The list holds just the concurrent runs
-  pub listed : (q : ℕ) → mem q (concurrencyList g r) ≡ concurrentRun g r q
+  listed : (q : ℕ) → mem q (concurrencyList g r) ≡ concurrentRun g r q
   unfolding concurrencyList
-  listed q = bool-iff (mem q (filter (concurrentRun g r) (upto (runs g)))) (concurrentRun g r q)
-      (λ m. mem-filter (concurrentRun g r) q (upto (runs g)) m .1)
-      (λ h. filter-mem (concurrentRun g r) q (upto (runs g)) (upto-mem q (runs g) (concurrent-run q h)) h)
+  listed q = bool-iff (mem q (concurrencyList g r)) (concurrentRun g r q)
+      (λ m. (passing (concurrentRun g r) (runs g) q) .0 m .1)
+      (λ h. (passing (concurrentRun g r) (runs g) q) .1 (tests q h .run, h))
 
   -- each once
   once : (q : ℕ) → occurs q (concurrencyList g r) ≡ bit (concurrentRun g r q)
@@ -43,13 +54,13 @@ module _ (g : Graph) (r : ℕ) where
       (ap (λ (n : ℕ). cond (concurrentRun g r q) n 0) (occurs-upto q (runs g)) ∙ go (concurrentRun g r q) refl)
     where
       go : (t : Bool) → concurrentRun g r q ≡ t → cond t (bit (ltb q (runs g))) 0 ≡ bit t
-      go true h = ap bit (lt-ltb q (runs g) (concurrent-run q h))
+      go true h = ap bit (lt-ltb q (runs g) (tests q h .run))
       go false h = refl
 
   -- lowest first
   rises : rising (concurrencyList g r) ≡ true
-  unfolding concurrencyList upto
-  rises = rising-filter (concurrentRun g r) (upto (runs g)) (rising-from 0 (runs g))
+  unfolding concurrencyList
+  rises = passing-rises (concurrentRun g r) (runs g)
 
   pub in-run-order : InRunOrder g r
   in-run-order = record { once = once; rises = rises; only = λ qs e same. rising-only qs (concurrencyList g r) e rises (λ q. same q ∙ sym (listed q)) }
@@ -65,19 +76,13 @@ module _ (g : Graph) (below : Below (g .parents)) (r : ℕ) (lt : r < runs g) wh
   in-history q s h = history-iff (g .parents) below q s h
 
   there : (q : ℕ) → concurrentRun g r q ≡ true → (q < runs g) × Concurrent (runGraph (g .parents)) r q
-  unfolding concurrentRun
   there q h =
-      let d = and-right (ltb q (runs g) && not (mem q (at hs r)) && not (mem r (at hs q))) (not (eqb q r)) h in
-      let abc = and-left (ltb q (runs g) && not (mem q (at hs r)) && not (mem r (at hs q))) (not (eqb q r)) h in
-      let c = and-right (ltb q (runs g) && not (mem q (at hs r))) (not (mem r (at hs q))) abc in
-      let ab = and-left (ltb q (runs g) && not (mem q (at hs r))) (not (mem r (at hs q))) abc in
-      let b = and-right (ltb q (runs g)) (not (mem q (at hs r))) ab in
-      let a : q < runs g = concurrent-run g r q h in (
-        a,
+      let T : Tests g r q = tests g r q h in (
+        T .run,
         record {
-          other = λ e. false-true (sym (not-true (eqb q r) d) ∙ eq-eqb q r (sym e));
-          not-before = λ k. false-true (sym (not-true (mem r (at hs q)) c) ∙ (in-history r q a) .1 k);
-          not-after = λ k. false-true (sym (not-true (mem q (at hs r)) b) ∙ (in-history q r lt) .1 k);
+          other = λ e. false-true (sym (T .not-itself) ∙ eq-eqb q r (sym e));
+          not-before = λ k. false-true (sym (T .not-descendant) ∙ (in-history r q (T .run)) .1 k);
+          not-after = λ k. false-true (sym (T .not-ancestor) ∙ (in-history q r lt) .1 k);
         },
       )
 

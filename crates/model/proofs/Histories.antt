@@ -9,12 +9,11 @@ use lib.ListN.{length, getD, take, drop, length-append, List·getD-append, List�
 use lib.Seq.{getD-append-seam, getD-take, getD-drop}
 use lib.Dec.{leb, eqb}
 use borrow.Author.Tests.{leb-true, eqb-true, le-leb, eq-eqb}
-use Rattle.lists.specs.Lists.{any, filter, from, upto, mem, rising}
+use Rattle.lists.specs.Lists.{any, filter, upto, mem, rising}
 use Rattle.lists.specs.Scans.{groupsFit}
 use Rattle.lists.proofs.Truth.{lt-or-le, false-true, or-cases, or-left, or-right}
 use Rattle.lists.proofs.Members.{mem-filter, filter-mem, mem-map, map-mem, any-intro, any-elim, any-same}
-use Rattle.lists.proofs.Counts.{mem-from, upto-mem}
-use Rattle.lists.proofs.Rising.{rising-filter, rising-from}
+use Rattle.lists.proofs.Passing.{passing, passing-rises}
 use Rattle.model.specs.EventGraph.{HappenedBefore, parent, further, Lower}
 use Rattle.model.specs.Graph.{Graph}
 use Rattle.model.specs.History.{at, runGraph, reached, historiesFrom, histories}
@@ -87,17 +86,16 @@ module _ (pss : List (List ℕ)) (b : Below pss) where
 
   -- A run's history is below it
   pub history-below : (m i : ℕ) → i < length pss → mem m (at H i) ≡ true → m < i
-  unfolding upto
-  history-below m i lt h = omega (arith, mem-from m 0 i (mem-filter (reached H (at pss i)) m (from 0 i) (rw (here i lt) at h) .0) .1)
+  history-below m i lt h = (passing (reached H (at pss i)) i m) .0 (rw (here i lt) at h) .0
 
   history-in : (m i p : ℕ) → i < length pss → mem p (at pss i) ≡ true → m < i → eqb m p || mem m (at H p) ≡ true → mem m (at H i) ≡ true
   unfolding reached
   history-in m i p lt q l h =
-      rw (here i lt) (filter-mem (reached H (at pss i)) m (upto i) (upto-mem m i l) (any-intro (λ p. eqb m p || mem m (at H p)) (at pss i) p q h))
+      rw (here i lt) ((passing (reached H (at pss i)) i m) .1 (l, any-intro (λ p. eqb m p || mem m (at H p)) (at pss i) p q h))
 
   history-out : (m i : ℕ) → i < length pss → mem m (at H i) ≡ true → (p : ℕ) × (mem p (at pss i) ≡ true) × (eqb m p || mem m (at H p) ≡ true)
   unfolding reached
-  history-out m i lt h = any-elim (λ p. eqb m p || mem m (at H p)) (at pss i) (mem-filter (reached H (at pss i)) m (upto i) (rw (here i lt) at h) .1)
+  history-out m i lt h = any-elim (λ p. eqb m p || mem m (at H p)) (at pss i) ((passing (reached H (at pss i)) i m) .0 (rw (here i lt) at h) .1)
 
   reach-history : {m i : ℕ} → i < length pss → Reach pss m i → mem m (at H i) ≡ true
   reach-history {m} {i} lt (parent q) = history-in m i m lt q (b i m q) (or-left (mem m (at H m)) (eq-eqb m m refl))
@@ -118,11 +116,11 @@ module _ (pss : List (List ℕ)) (b : Below pss) where
 
   -- A run's history rises
   pub history-rises : (i : ℕ) → rising (at H i) ≡ true
-  unfolding upto at
+  unfolding at
   history-rises i = go (lt-or-le i (length pss))
     where
       go : (i < length pss) ⊎ (length pss ≤ i) → rising (at H i) ≡ true
-      go (inl lt) = rw (here i lt) (rising-filter (reached H (at pss i)) (from 0 i) (rising-from 0 i))
+      go (inl lt) = rw (here i lt) (passing-rises (reached H (at pss i)) i)
       go (inr le) = let out : length H ≤ i = omega (arith, history-length pss) in rw (List·getD-eq-default H [] out) (unfold rising in refl)
 
   -- A run's history, by computing, is the runs that happened before it

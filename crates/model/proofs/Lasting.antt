@@ -9,10 +9,10 @@ use lib.ListN.{getD, take, drop, length-take, length-map, List·getD-append, Lis
 use lib.Seq.{drop-append-le, getD-take}
 use lib.Dec.{leb, ltb, eqb}
 use borrow.Author.Tests.{leb-true, eqb-true, lt-ltb, le-leb}
-use Rattle.lists.specs.Lists.{all, filter, upto, mem, insertAt, least}
+use Rattle.lists.specs.Lists.{all, filter, mem, insertAt, least}
 use Rattle.lists.proofs.Truth.{false-true, bool-iff, and-left}
-use Rattle.lists.proofs.Members.{mem-filter, filter-mem, map-leaves, all-from-on, all-both}
-use Rattle.lists.proofs.Counts.{upto-mem}
+use Rattle.lists.proofs.Members.{filter-mem, map-leaves, all-from-on, all-both}
+use Rattle.lists.proofs.Passing.{passing-test}
 use Rattle.lists.proofs.Bounds.{least-le, least-mem}
 use Rattle.lists.proofs.Inserts.{insert-before, all-insert}
 use Rattle.model.specs.Graph.{Graph, runs, start, len, marked, marks}
@@ -93,9 +93,7 @@ grown-marked g ps n w q lt = ap (λ (k : ℕ). all (λ s. leb k s) (drop q (g .s
 -- A mark is listed exactly where it is
 pub marks-list : (g : Graph) (q : ℕ) → q < runs g → mem q (marks g) ≡ marked g q
 unfolding marks
-marks-list g q b =
-    bool-iff (mem q (marks g)) (marked g q) (λ m. mem-filter (marked g) q (upto (runs g)) m .1)
-    (λ m. filter-mem (marked g) q (upto (runs g)) (upto-mem q (runs g) b) m)
+marks-list g q b = passing-test (marked g) (runs g) q b
 
 -- `changed_from` is no part of a run's state
 pub lowered-state : (g h : Graph) (q : ℕ) → runState h q ≡ runState (lowered g h) q

@@ -8,11 +8,11 @@ use native.Mathlib.Omega.{arith}
 use lib.ListN.{length, getD, List·getD-eq-default}
 use lib.Dec.{ltb}
 use borrow.Author.Tests.{ltb-true, ltb-false, lt-ltb, le-ltb, not-true}
-use Rattle.lists.specs.Lists.{from, upto, mem, rising, largest}
+use Rattle.lists.specs.Lists.{mem, rising, largest}
 use Rattle.lists.proofs.Truth.{lt-or-le, false-true, and-left, and-right, or-cases, or-first, or-last, or-left, or-right}
-use Rattle.lists.proofs.Members.{mem-index, mem-filter, filter-mem}
-use Rattle.lists.proofs.Counts.{mem-from, from-mem, upto-mem}
-use Rattle.lists.proofs.Rising.{rising-filter, rising-from}
+use Rattle.lists.proofs.Members.{mem-index}
+use Rattle.lists.proofs.Counts.{mem-from, from-mem}
+use Rattle.lists.proofs.Passing.{passing, passing-rises}
 use Rattle.lists.proofs.Bounds.{largest-most, largest-get}
 use Rattle.model.specs.EventGraph.{HappenedBefore, parent, further, Lower}
 use Rattle.model.specs.Graph.{Graph, runs, start, len}
@@ -111,7 +111,7 @@ module _ (w : Range) (known first : ℕ) (visited : List ℕ) where
   -- The newly ready are the ready runs that are not listed yet, in run order
   newly : (listed : List ℕ) (r : ℕ) →
       (mem r (newlyReady w known first visited listed) ≡ true) ↔ ((r < length (w .parents)) × Ready w known first visited r × (mem r listed ≡ false))
-  unfolding newlyReady upto
+  unfolding newlyReady
   newly listed r = (there, back)
     where
       test : ℕ → Bool
@@ -119,20 +119,19 @@ module _ (w : Range) (known first : ℕ) (visited : List ℕ) where
 
       there : mem r (newlyReady w known first visited listed) ≡ true → (r < length (w .parents)) × Ready w known first visited r × (mem r listed ≡ false)
       there m =
-          let f = mem-filter test r (from 0 (length (w .parents))) m in (
-            omega (arith, (mem-from r 0 (length (w .parents)) (f .0)) .1),
+          let f = (passing test (length (w .parents)) r) .0 m in (
+            f .0,
             ready-there r (and-left (isReady w known first visited r) (not (mem r listed)) (f .1)),
             not-true (mem r listed) (and-right (isReady w known first visited r) (not (mem r listed)) (f .1)),
           )
 
       back : (r < length (w .parents)) × Ready w known first visited r × (mem r listed ≡ false) → mem r (newlyReady w known first visited listed) ≡ true
-      back h = filter-mem test r (from 0 (length (w .parents))) (upto-mem r (length (w .parents)) (h .0)) (rw (ready-back r (h .1), h .2))
+      back h = (passing test (length (w .parents)) r) .1 (h .0, rw (ready-back r (h .1), h .2))
 
   -- They rise
   newly-rises : (listed : List ℕ) → rising (newlyReady w known first visited listed) ≡ true
-  unfolding newlyReady upto
-  newly-rises listed =
-      rising-filter (λ r. isReady w known first visited r && not (mem r listed)) (from 0 (length (w .parents))) (rising-from 0 (length (w .parents)))
+  unfolding newlyReady
+  newly-rises listed = passing-rises (λ r. isReady w known first visited r && not (mem r listed)) (length (w .parents))
 
 -- What the definitions mean
 pub meaning : Meaning
@@ -145,9 +144,9 @@ meaning = record {
   history = history;
   history-rises = history-rises;
   range-history = range-history;
-  concurrency = in-run-order;
+  concurrency-order = in-run-order;
   concurrency-runs = λ g formed r q lt. listed-runs g (fit-below (g .parents) (formed .parents)) r lt q;
-  concurrent = λ f cs.
+  concurrency-log = λ f cs.
       let G = made-good f cs in
       concurrent-runs ((madeBy f cs) .0) ((madeBy f cs) .1) (G .fact .inv .tied) (lower-of (view ((madeBy f cs) .0)) ((madeBy f cs) .1) (G .fact .inv));
   chains = range-chains;

@@ -17,7 +17,6 @@ use Rattle.model.specs.declared.record.EventIndex.{EventIndex}
 use Rattle.model.specs.declared.answers.Pushed.{Pushed}
 use Rattle.model.specs.declared.answers.EventsAnswer.{EventsAnswer}
 use Rattle.model.specs.declared.answers.EventsAnswer.the-variants.{Events, Refused as RefusedEvents}
-use Rattle.model.specs.declared.answers.Refusal.{Refusal}
 use Rattle.model.specs.declared.answers.Refusal.the-variants.{Broken}
 use Rattle.model.specs.declared.answers.Outcome.{Outcome}
 use Rattle.model.specs.declared.answers.Outcome.the-variants.{Done, Refused}

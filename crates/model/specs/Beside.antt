@@ -46,7 +46,7 @@ concurrencyOutcome g r lent =
     (leb (runs (view g)) r, 9) ∷
     (ltb (length lent) (length (concurrencyList (view g) r)), 11) ∷ [])
 
--- The concurrency list of a run into a lent list, from its start; the rest keeps its value, and under 11 all of it does
+-- The concurrency list of a run into a lent list, from its start; the rest keeps its value, and under a refusal, 11 too, all of it does
 unfoldable pub concurrencyListOf : CausalGraph → ℕ → List ℕ → Written × List ℕ
 concurrencyListOf g r lent =
     let qs : List ℕ = concurrencyList (view g) r in

@@ -103,11 +103,11 @@ pub record Meaning : Type 0 where
   pub range-history : (g : Graph) → WellFormed g → (a b : ℕ) → a ≤ b → b ≤ runs g → (q r : ℕ) → r < b - a →
       (mem q (at ((rangeOf g a b) .history) r) ≡ true) ↔ RunBefore g (a + q) (a + r)
   -- the concurrency list rises; in a well-formed graph it holds "all runs neither ancestor nor descendant nor itself"
-  pub concurrency : (g : Graph) (r : ℕ) → InRunOrder g r
+  pub concurrency-order : (g : Graph) (r : ℕ) → InRunOrder g r
   pub concurrency-runs : (g : Graph) → WellFormed g → (r q : ℕ) → r < runs g →
       (mem q (concurrencyList g r) ≡ true) ↔ ((q < runs g) × Concurrent (runGraph (g .parents)) r q)
   -- and it is the paper's, on the log of the calls that made the graph
-  pub concurrent : (f : Fresh) (cs : List Call) → ConcurrentRuns ((madeBy f cs) .0) ((madeBy f cs) .1)
+  pub concurrency-log : (f : Fresh) (cs : List Call) → ConcurrentRuns ((madeBy f cs) .0) ((madeBy f cs) .1)
   -- the chains and the rows of a range
   pub chains : (g : Graph) → WellFormed g → (a b : ℕ) → a ≤ b → b ≤ runs g → Chains g a b ((rangeOf g a b) .chains)
   pub rows : (g : Graph) → WellFormed g → (a b : ℕ) → a ≤ b → b ≤ runs g → (r : ℕ) → r < b - a → Row (rangeOf g a b) r

@@ -11,8 +11,7 @@ use lib.Seq.{getD-set-same, getD-set-other}
 use Rattle.lists.specs.Lists.{count, mem, ceil, upto}
 use Rattle.lists.specs.Areas.{part}
 use Rattle.lists.proofs.Truth.{eq-or-not}
-use Rattle.lists.proofs.Members.{mem-filter}
-use Rattle.lists.proofs.Counts.{mem-from}
+use Rattle.lists.proofs.Passing.{passing}
 use Rattle.model.specs.History.{at}
 use Rattle.model.specs.Cover.{perBit, ownBits, coversFrom, weights}
 use Rattle.tables.specs.Tables.{Children, childrenOf}
@@ -144,8 +143,6 @@ weighable-of starts begins children n pss few rise listed number below = record 
   inside = λ r h. listed .inside r (omega (arith, number));
   later = λ r x h m.
       let g : r < length pss = omega (arith, number) in
-      let k = mem-filter (λ y. mem r (at pss y)) x (upto (length pss)) (ap (mem x) (sym (listed .each r g)) ∙ m) in
-      let low : r < x = below x r (k .1) in
-      let high = mem-from x 0 (length pss) (k .0) in
-      (low, omega (arith, high .1, number));
+      let k = (passing (λ y. mem r (at pss y)) (length pss) x) .0 (ap (mem x) (sym (listed .each r g)) ∙ m) in
+      (below x r (k .1), omega (arith, k .0, number));
 }

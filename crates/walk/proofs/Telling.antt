@@ -10,15 +10,15 @@ use lib.ListN.{length, take, length-append}
 use lib.Dec.{leb, ltb, eqb}
 use borrow.Author.Tests.{lt-ltb, le-ltb, le-leb, lt-leb, eq-eqb, ne-eqb}
 use Rattle.lists.specs.Lists.{bit, mem, filter, from, upto, reverse}
-use Rattle.lists.proofs.Truth.{lt-or-le, not-so, and-true, and-false}
-use Rattle.lists.proofs.Members.{mem-filter}
-use Rattle.lists.proofs.Counts.{mem-from, from-mem, upto-mem}
+use Rattle.lists.proofs.Truth.{lt-or-le, not-so, and-false}
+use Rattle.lists.proofs.Counts.{mem-from, from-mem}
+use Rattle.lists.proofs.Passing.{passing, passing-test}
 use Rattle.model.specs.History.{at}
 use Rattle.model.specs.Choice.{Range, isReady, newlyReady, choice, chosen, weighAll}
 use Rattle.model.proofs.Choosing.{readyAfter}
 use Rattle.tables.specs.Tables.{childrenOf}
 use Rattle.walk.specs.Readiness.{Wakes, wakeAll, wokenOf, leftAfter}
-use Rattle.walk.proofs.Distinct.{Once, few, from-once, filter-once, filter-test, filter-agree}
+use Rattle.walk.proofs.Distinct.{Once, few, from-once, filter-once, filter-agree}
 use Rattle.walk.proofs.Waiting.{leftOf, waits, Going, ready-unknown, ready-unvisited, left-other, left-first}
 use Rattle.walk.proofs.Newly.{last, waits-step, newly-children, newly-both, going-next}
 use Rattle.walk.proofs.Waking.{Says, says-same, wake-list, wake-keeps}
@@ -79,14 +79,12 @@ module _ (w : Range) (known first : ℕ) (visited ready : List ℕ) (r : ℕ) (G
   kids-once = filter-once (λ x. mem r (at (w .parents) x)) (from 0 n) (from-once 0 n)
 
   kids-under : (x : ℕ) → mem x kids ≡ true → x < n
-  unfolding childrenOf upto
-  kids-under x m = omega (arith, mem-from x 0 n (mem-filter (λ x. mem r (at (w .parents) x)) x (from 0 n) m .0))
+  unfolding childrenOf
+  kids-under x m = (passing (λ x. mem r (at (w .parents) x)) n x) .0 m .0
 
   is-kid : (x : ℕ) → x < n → mem x kids ≡ mem r (at (w .parents) x)
   unfolding childrenOf
-  is-kid x l =
-      filter-test (λ x. mem r (at (w .parents) x)) x (upto n) ∙
-      (ap (λ t. mem r (at (w .parents) x) && t) (upto-mem x n l) ∙ and-true (mem r (at (w .parents) x)))
+  is-kid x l = passing-test (λ x. mem r (at (w .parents) x)) n x l
 
   -- The children woken
   children-told : length rest + length (filter (λ x. eqb (before x) 1) kids) ≤ length (s .2) →

@@ -10,12 +10,12 @@ use lib.Dec.{leb, ltb, eqb}
 use borrow.Author.Tests.{lt-ltb, le-ltb, ltb-true, ltb-false, eq-eqb, ne-eqb, eqb-true, le-leb, lt-leb, not-true}
 use Rattle.lists.specs.Lists.{bit, all, mem, count, from, upto}
 use Rattle.lists.proofs.Truth.{lt-or-le, eq-or-not, not-so, and-left, and-right, and-true, and-false, and-assoc, or-first, or-last, or-false}
-use Rattle.lists.proofs.Members.{mem-filter}
-use Rattle.lists.proofs.Counts.{mem-from, from-mem, from-length, upto-mem, count-same}
+use Rattle.lists.proofs.Counts.{mem-from, from-mem, from-length, count-same}
+use Rattle.lists.proofs.Passing.{passing, passing-test}
 use Rattle.model.specs.EventGraph.{available}
 use Rattle.model.specs.History.{at}
 use Rattle.model.specs.Choice.{Range, passed, isReady, newlyReady}
-use Rattle.walk.proofs.Distinct.{Once, from-once, filter-once, filter-test, all-none, count-seen, count-whole, count-out}
+use Rattle.walk.proofs.Distinct.{Once, from-once, filter-once, all-none, count-seen, count-whole, count-out}
 
 zero-both : (a b : ℕ) → eqb a 0 && eqb b 0 ≡ eqb (a + b) 0
 zero-both a b = go (eq-or-not a 0) (eq-or-not b 0)
@@ -97,10 +97,7 @@ module _ (w : Range) (known first : ℕ) where
   pub newly-test : (visited ready : List ℕ) (x : ℕ) → x < length (w .parents) →
       mem x (newlyReady w known first visited ready) ≡ isReady w known first visited x && not (mem x ready)
   unfolding newlyReady
-  newly-test visited ready x l =
-      let new : Bool = isReady w known first visited x && not (mem x ready) in
-      filter-test (λ r. isReady w known first visited r && not (mem r ready)) x (upto (length (w .parents))) ∙
-      (ap (λ t. new && t) (upto-mem x (length (w .parents)) l) ∙ and-true new)
+  newly-test visited ready x l = passing-test (λ r. isReady w known first visited r && not (mem r ready)) (length (w .parents)) x l
 
   pub newly-once : (visited ready : List ℕ) → Once (newlyReady w known first visited ready)
   unfolding newlyReady upto
@@ -108,10 +105,8 @@ module _ (w : Range) (known first : ℕ) where
       filter-once (λ r. isReady w known first visited r && not (mem r ready)) (from 0 (length (w .parents))) (from-once 0 (length (w .parents)))
 
   pub newly-under : (visited ready : List ℕ) (x : ℕ) → mem x (newlyReady w known first visited ready) ≡ true → x < length (w .parents)
-  unfolding newlyReady upto
-  newly-under visited ready x m =
-      let all : List ℕ = from 0 (length (w .parents)) in
-      omega (arith, mem-from x 0 (length (w .parents)) (mem-filter (λ r. isReady w known first visited r && not (mem r ready)) x all m .0))
+  unfolding newlyReady
+  newly-under visited ready x m = (passing (λ r. isReady w known first visited r && not (mem r ready)) (length (w .parents)) x) .0 m .0
 
   -- At the start
   pub left-start : leftOf [] ≡ first - known
