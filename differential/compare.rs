@@ -15,6 +15,7 @@ mod model;
 mod record;
 mod records;
 mod scripts;
+mod starts;
 mod walks;
 
 use answers::{answer_script, Oracle};
@@ -32,7 +33,7 @@ const STREAM: usize = 400000;
 
 /// Lines by operation and what is returned.
 type Counts = BTreeMap<(u32, String), u64>;
-/// Walks, replays and concurrency lists that have something of note; how many.
+/// Walks, replays, concurrency lists and run starts that have something of note; how many.
 type Notes = BTreeMap<&'static str, u64>;
 
 const NAMES: [&str; 16] = ["new", "after", "push", "start", "take", "cut", "walk", "replay", "archive", "concurrent", "run", "event", "extends", "graph", "raw", "reader"];
@@ -152,6 +153,8 @@ pub struct Feed {
     stream: Option<Stream>,
     /// Calls and lines that are not given to the trace program yet; all of them if there is none.
     waiting: Vec<(Vec<u32>, String)>,
+    /// The Rust's line for the last call.
+    last: String,
     sent: usize,
     scripts: u64,
     counts: Counts,
@@ -160,7 +163,7 @@ pub struct Feed {
 
 impl Feed {
     fn new(trace: &str) -> Self {
-        Feed { oracle: Oracle::new(), trace: trace.into(), stream: None, waiting: vec![], sent: 0, scripts: 0, counts: Counts::new(), notes: Notes::new() }
+        Feed { oracle: Oracle::new(), trace: trace.into(), stream: None, waiting: vec![], last: String::new(), sent: 0, scripts: 0, counts: Counts::new(), notes: Notes::new() }
     }
 
     /// The current graph by 01's model; of a broken record, the graph before it.
@@ -176,6 +179,7 @@ impl Feed {
             }
         }
         let line = answer(&mut self.oracle, &call);
+        self.last.clone_from(&line);
         self.waiting.push((call, line));
         self.sent += 1;
         if self.waiting.len() >= 1000 && !self.trace.is_empty() {
@@ -183,9 +187,14 @@ impl Feed {
         }
     }
 
-    /// The Rust's line for the last call, while it waits.
+    /// The Rust's line for the last call.
     pub fn last_line(&self) -> &str {
-        self.waiting.last().map_or("", |(_, line)| line)
+        &self.last
+    }
+
+    /// What is of note, so many times more.
+    pub fn noted(&mut self, name: &'static str, times: u64) {
+        *self.notes.entry(name).or_default() += times;
     }
 
     fn flush(&mut self) {
@@ -441,6 +450,11 @@ fn main() {
     part("all lists of four calls from `new`, of three from each `after` of up to 2 events", &|feed| scripts::small(feed, 4));
     part("all graphs of up to six single events, asked everything", &|feed| scripts::all_graphs(feed, 6));
     part(&format!("{count} random scripts from seed {seed}, one in forty at the limits"), &|feed| scripts::random(feed, count, seed));
+    part("run starts told true, made again: all lists of five calls from `new`, of four from each `after` of 1 or 2 events", &|feed| starts::small(feed, 5, 2));
+    part("run starts told true, made again: random scripts, and with the tables full", &|feed| {
+        starts::random(feed, (count / 10).max(1), seed);
+        starts::full(feed)
+    });
     if scripts::WALKS {
         part("walks and replays in every room from 0 to enough", &|feed| walks::in_every_room(feed, (count / 40).max(1), seed));
         part("walks of random graphs, one in a hundred of about 512 runs", &|feed| walks::random(feed, (count / 2).max(1), seed));

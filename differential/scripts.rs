@@ -37,7 +37,7 @@ pub fn upto(end: u32) -> Vec<u32> {
 }
 
 /// The rising lists of numbers below `end`.
-fn subsets(end: u32) -> Vec<Vec<u32>> {
+pub fn subsets(end: u32) -> Vec<Vec<u32>> {
     (0..1u32 << end).map(|bits| (0..end).filter(|&n| bits >> n & 1 == 1).collect()).collect()
 }
 
@@ -242,17 +242,21 @@ fn room(r: &mut Random, need: u32) -> u32 {
     }
 }
 
-/// One call that changes the graph, or is to be refused, and the graph after it.
-pub fn change(feed: &mut Feed, r: &mut Random, longest: u32) {
-    let graph = feed.graph();
-    let call = match r.below(20) {
+/// A call that changes the graph, or is to be refused.
+pub fn changing(graph: &Graph, r: &mut Random, longest: u32) -> Vec<u32> {
+    match r.below(20) {
         0..14 => {
             let len = length(r, graph, longest);
             push(&parents(r, graph), len)
         }
         14..18 => vec![3, if r.one_in(20) { LAST } else { event(r, graph) }],
         _ => vec![4],
-    };
+    }
+}
+
+/// One such call, and the graph after it.
+pub fn change(feed: &mut Feed, r: &mut Random, longest: u32) {
+    let call = changing(feed.graph(), r, longest);
     feed.call(call);
     feed.call(vec![13]);
 }
@@ -303,7 +307,7 @@ fn calls(feed: &mut Feed, r: &mut Random, count: u32, longest: u32) {
 }
 
 /// `new`, or an `after` with few or many events, now and then refused.
-fn begin(feed: &mut Feed, r: &mut Random, near_the_end: bool) {
+pub fn begin(feed: &mut Feed, r: &mut Random, near_the_end: bool) {
     if !near_the_end && r.one_in(2) {
         return feed.call(new());
     }

@@ -28,6 +28,8 @@ MODEL = [
     ("walking::walk", "covers by event numbers in place of offsets: the cases", "offsets_from_0"),
     ("beside::concurrent_runs", "falling by run number: F-2", "concurrency_falling"),
     ("beside::concurrent_runs", "run 0 is left out: F-2", "concurrent_left_out"),
+    ("starting::start_run_at", "a split gives the second part its own start as seen: F-4", "second_part_seen"),
+    ("starting::start_run_at", "splits a marked run though the next is marked: F-4, C9", "next_run_marked"),
     ("reading::read", "a book cut short is whole: F-1's cases", "short_is_whole"),
     ("reading::read", "no bytes are refused: F-1's cases", "empty_refused"),
     ("answers::number", "11 for 13", "answers.rt", "Refusal::RowsTooLong => 13", "Refusal::RowsTooLong => 11"),
@@ -117,6 +119,10 @@ CALLS = [
     ("calls::made_by", "a run start at another event", "another_event"),
     ("calls::made_by", "an after is made as new", "lib.rt", "if op == 0 {\n        return graph::fresh::new();", "if op == 1 {\n        return graph::fresh::new();"),
     ("calls::made_by", "the start is read as a call too", "lib.rt", "calls(begin(words), words, start)", "calls(begin(words), words, 0)"),
+    ("calls::start_again", "the later run start gets the graph of the first", "lib.rt", "(again_lent, given, at)", "(again_lent, started.graph, at)"),
+    ("calls::start_again", "makes the calls before once more, not those between", "lib.rt", "calls(started.graph, between, 0)", "calls(started.graph, words, 0)"),
+    ("calls::start_again", "tells the first answer twice", "lib.rt", "again: again,", "again: first,"),
+    ("calls::start_again", "always gives back the graph that it was given", "lib.rt", "left: left,", "left: given,"),
 ]
 
 MOVES = [

@@ -7,7 +7,7 @@ use native.Mathlib.Omega.{arith}
 use lib.ListN.{length, length-append}
 use lib.Seq.{take-append-seam, drop-append-seam}
 use Rattle.model.specs.Log.{Fresh, new, after, Call, push, startRunAt, takeChangedFrom}
-use Rattle.calls.specs.Words.{operation, listIn, listed, startSize, startOf, callOperation, callSize, callOf, callsAfter, freshIn, callsIn, startWords, callWords, mixedWords, allWords}
+use Rattle.calls.specs.Words.{operation, listIn, listed, startSize, startOf, callOperation, callSize, callOf, callsAfter, freshIn, callsIn, startWords, callWords, mixedWords, allWords, EveryList}
 use Rattle.calls.proofs.Reading.{whole-all}
 use Rattle.calls.proofs.Making.{after-add, front-next}
 
@@ -88,7 +88,7 @@ said ws h = go (startSize ws) h
     go (suc n) h = (refl, refl)
 
 -- So demand 3's lists are all among those that `made_by` makes, whichever of their calls are lent
-pub mixed-said : (f : Fresh) (cs : List (Bool × Call)) →
+mixed-said : (f : Fresh) (cs : List (Bool × Call)) →
     (freshIn (startWords f ++ mixedWords cs) ≡ f) × (callsIn (startWords f ++ mixedWords cs) ≡ map (λ c. c .1) cs)
 mixed-said f cs =
     let ws : List ℕ = startWords f ++ mixedWords cs in
@@ -99,6 +99,9 @@ mixed-said f cs =
     let rest : callsAfter (startSize ws) ws ≡ calls cs =
     ap (λ k. callsAfter k ws) (size ∙ plus) ∙ after-add n 0 ws ∙ ap (callsAfter 0) (drop-append-seam (startWords f) (mixedWords cs)) ∙ calls-back cs in
     (said ws some .0 ∙ start-front f (mixedWords cs), said ws some .1 ∙ rest)
+
+pub every-list : EveryList
+every-list = record { from-start = mixed-said; alone = calls-back }
 
 -- and all by value
 by-value : (cs : List Call) → calls (map (λ c. (false, c)) cs) ≡ cs

@@ -2,4 +2,5 @@
 pub mod Reading
 pub mod Making
 pub mod Covering
+pub mod Again
 pub mod Local

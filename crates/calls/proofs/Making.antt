@@ -102,7 +102,7 @@ module _ (ws : List ℕ) (at size : ℕ) (e : size ≡ callSize (drop at ws)) wh
   calls-fit h = omega (arith, call-in (drop at ws), length-drop at ws)
 
 -- The graph does not hang on the log
-log-free : (g : CausalGraph) (l : Log) (cs : List Call) → afterCalls g l cs .0 ≡ graphAfter g cs
+pub log-free : (g : CausalGraph) (l : Log) (cs : List Call) → afterCalls g l cs .0 ≡ graphAfter g cs
 unfolding afterCalls graphAfter
 log-free g l [] = refl
 log-free g l (c ∷ cs) = log-free (answer g c .1) (note l c (answer g c .0)) cs

@@ -1,2 +1,3 @@
 -- Calls given as words.
 pub mod Words
+pub mod Again

@@ -1,5 +1,6 @@
 -- Calls given as words, as in the trace program's scripts: which start and which calls a list of words is. Every list of words is read,
 -- up to its end, to an operation that is none of these, or to a call that is cut off. Assumes nothing.
+use mathlib.Core.Path.{_≡_}
 use mathlib.Core.Bool.{Bool, false, cond}
 use mathlib.Core.List.{List, [], _∷_, _++_, map}
 use Prim.Native.Nat.{ℕ, zero, suc, _+_, _-_}
@@ -85,3 +86,10 @@ mixedWords (c ∷ cs) = callWords (c .0) (c .1) ++ mixedWords cs
 
 unfoldable pub allWords : List Call → List ℕ
 allWords cs = mixedWords (map (λ c. (false, c)) cs)
+
+-- "every list" of demand 3 and of 02: every start with every list of calls, each by value or lent, is what some words say, and so is every list
+-- of calls alone
+pub record EveryList : Type 0 where
+  pub from-start : (f : Fresh) (cs : List (Bool × Call)) → let ws : List ℕ = startWords f ++ mixedWords cs in
+      (freshIn ws ≡ f) × (callsIn ws ≡ map (λ c. c .1) cs)
+  pub alone : (cs : List (Bool × Call)) → callsAfter 0 (mixedWords cs) ≡ map (λ c. c .1) cs

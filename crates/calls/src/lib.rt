@@ -10,7 +10,9 @@ ghost use Rattle.model.specs.Log.{begin as Log·begin, answer, madeBy};
 ghost use Rattle.model.specs.Push.{pushOf};
 ghost use Rattle.model.specs.Start.{startRunAtOf, takeChangedFromOf};
 ghost use Rattle.calls.specs.Words.{listIn, whole as Words·whole, listed as Words·listed, startSize, startOf};
-ghost use Rattle.calls.specs.Words.{callOperation, callSize, callOf, callsAfter, freshIn, callsIn, graphAfter};
+ghost use Rattle.calls.specs.Words.{callOperation, callSize, callOf, callsAfter, freshIn, callsIn, graphAfter, EveryList};
+ghost use Rattle.calls.specs.Again.{StartsAgain};
+use model::BoolAnswer;
 use model::CausalGraph;
 use model::EventIndex;
 
@@ -168,4 +170,43 @@ pub fn made_by(words: &[u32]) -> CausalGraph
         return graph::fresh::new();
     }
     calls(begin(words), words, start)
+}
+
+// Words can say every list of calls, so that what is said of words is about all of them: a claim, as the contract of a function with nothing
+// to do.
+pub fn every_list()
+    ensures { λ _. ⌜ EveryList ⌝ }
+{}
+
+// What two run starts at one event answered, the graph that the later one was given, and the one that it left.
+pub struct StartedAgain {
+    pub first: BoolAnswer,
+    pub given: CausalGraph,
+    pub again: BoolAnswer,
+    pub left: CausalGraph,
+}
+
+// The calls that `words` says, a run start at `at`, the calls that `between` says, and a run start at `at` again; each of the two by value or
+// lent.
+pub fn start_again(
+    words: &[u32],
+    at: EventIndex,
+    between: &[u32],
+    first_lent: bool,
+    again_lent: bool,
+) -> StartedAgain
+    ensures { λ r. ⌜ StartsAgain (now (words .entry)) (at .0) (now (between .entry)) r ⌝ }
+{
+    let started = either::start_run_at(first_lent, made_by(words), at);
+    let first = started.answer;
+    let given = calls(started.graph, between, 0);
+    let started_again = either::start_run_at(again_lent, given, at);
+    let again = started_again.answer;
+    let left = started_again.graph;
+    StartedAgain {
+        first: first,
+        given: given,
+        again: again,
+        left: left,
+    }
 }

@@ -1,7 +1,7 @@
 -- Demand 3 of calls, books, full replays and walks that ran. Assumes nothing.
 use mathlib.Core.Path.{_≡_}
-use mathlib.Core.Bool.{Bool, false}
-use mathlib.Core.List.{List, [], _∷_, _++_, map}
+use mathlib.Core.Bool.{false}
+use mathlib.Core.List.{List, [], _∷_, _++_}
 use Prim.Native.Nat.{ℕ, _+_, _≤_}
 use lib.ListN.{length, take}
 use Rattle.model.specs.declared.record.CausalGraph.{CausalGraph}
@@ -10,22 +10,18 @@ use Rattle.model.specs.Walk.{WalkResult, walkOf}
 use Rattle.model.specs.Replay.{replayOf}
 use Rattle.model.specs.Book.{bookOf}
 use Rattle.model.specs.Print.{Line, movedLine, printed, replayText}
-use Rattle.model.specs.Log.{Fresh, Call, Log, madeBy, runCount}
+use Rattle.model.specs.Log.{Log, madeBy, runCount}
 use Rattle.model.specs.PlainSet.{ReplayFollows, WalkFollows}
 use Rattle.model.specs.Claim.{RowRoom, StepRoom}
 use Rattle.model.specs.BookCalls.{bookLog, LinesFollow}
-use Rattle.calls.specs.Words.{freshIn, callsIn, startWords, mixedWords}
+use Rattle.calls.specs.Words.{freshIn, callsIn}
 use Rattle.book.specs.declared.printing.Printed.{Printed}
 use Rattle.book.specs.Output.{maxText, printing}
 
--- The graph that the calls of a list of words left, and the plain log that was fed these calls and their answers
+-- The graph that the calls of a list of words left, and the plain log that was fed these calls and their answers. Words say "every list":
+-- `EveryList` of crates/calls
 abbrev pub calledBy : List ℕ → CausalGraph × Log
 calledBy ws = madeBy (freshIn ws) (callsIn ws)
-
--- "One claim over every list": every start with every list of calls, each by value or lent, is what some words say
-abbrev pub EveryList : Type 0
-EveryList = (f : Fresh) (cs : List (Bool × Call)) → let ws : List ℕ = startWords f ++ mixedWords cs in
-    (freshIn ws ≡ f) × (callsIn ws ≡ map (λ c. c .1) cs)
 
 -- The graph that a book gives, and the plain log of its calls
 abbrev pub bookBy : List ℕ → CausalGraph × Log

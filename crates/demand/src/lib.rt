@@ -1,16 +1,11 @@
 // Demand 3 of code that runs: a list of calls, or a book, and then a full replay or a walk of the graph that was left. The contracts say
 // what is left in the lent lists, and that it follows on the plain log of the same calls.
-ghost use Rattle.demand.specs.Running.{calledBy, EveryList, bookBy, Replayed, WalkedOver, BookPrinted};
+ghost use Rattle.demand.specs.Running.{calledBy, bookBy, Replayed, WalkedOver, BookPrinted};
 use book::Printed;
 use model::EventRunIndex;
 use model::Walked;
 
-// Words can say every list of calls, so that what follows is about all of them: a claim, as the contract of a function with nothing to do.
-pub fn every_list()
-    ensures { λ _. ⌜ EveryList ⌝ }
-{}
-
-// The calls that the words say, and then a full replay.
+// The calls that the words say, and then a full replay. Words can say every list of calls: `calls::every_list`.
 pub fn replay_calls(words: &[u32], rows: &mut [u32], steps: &mut [u32]) -> Walked
     ensures { λ r. ⌜ Replayed (calledBy (now (words .entry)))
         (now (rows .entry)) (now (steps .entry)) (r, now (rows .exit), now (steps .exit)) ⌝ }

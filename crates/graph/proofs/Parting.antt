@@ -26,7 +26,7 @@ use Rattle.model.specs.declared.record.CausalGraph.{CausalGraph}
 use Rattle.model.specs.Graph.{runs, start, entries, marks}
 use Rattle.model.specs.Record.{view, store}
 use Rattle.model.specs.Broken.{Held}
-use Rattle.model.specs.Split.{renumber, split}
+use Rattle.model.specs.Split.{renumber, secondSeen, split}
 use Rattle.model.proofs.Stored.{entries-flat}
 use Rattle.model.proofs.FormedSplits.{renumber-below, renumber-from, split-runs, split-entries}
 use Rattle.model.proofs.FormedReads.{parents-first}
@@ -112,11 +112,8 @@ splitIn g r at k =
     }
 
 module _ (g : CausalGraph) (held : Held g) (r at : ℕ) (in-runs : r < g .«run_count») where
-  second : ℕ
-  second = cond (eqb (getD (view g .seen) r 0) (start (view g) r)) at (getD (view g .seen) r 0)
-
-  second-is : cond (eqb (getD (g .«seen_prefix_len») r 0) (getD (g .starts) r 0)) at (getD (g .«seen_prefix_len») r 0) ≡ second
-  unfolding second
+  second-is : cond (eqb (getD (g .«seen_prefix_len») r 0) (getD (g .starts) r 0)) at (getD (g .«seen_prefix_len») r 0) ≡ secondSeen (view g) r at
+  unfolding secondSeen
   second-is = rw (seen-view g held r in-runs, start-view g held r (omega arith))
 
   starts-put : insertIn (g .«run_count» + 1) (r + 1) at (grow 0 0) (g .starts) ≡ pad 513 (insertAt (suc r) at (view g .starts))
@@ -125,11 +122,11 @@ module _ (g : CausalGraph) (held : Held g) (r at : ℕ) (in-runs : r < g .«run_
       ∙ ap (pad 513) (insert-keep (r + 1) at (view g .starts))
       ∙ rw (add-one r)
 
-  seen-put : insertIn (g .«run_count») (r + 1) (cond (eqb (getD (g .«seen_prefix_len») r 0) (getD (g .starts) r 0)) at (getD (g .«seen_prefix_len») r 0)) (grow 0 0) (g .«seen_prefix_len») ≡ pad 512 (insertAt (suc r) second (view g .seen))
+  seen-put : insertIn (g .«run_count») (r + 1) (cond (eqb (getD (g .«seen_prefix_len») r 0) (getD (g .starts) r 0)) at (getD (g .«seen_prefix_len») r 0)) (grow 0 0) (g .«seen_prefix_len») ≡ pad 512 (insertAt (suc r) (secondSeen (view g) r at) (view g .seen))
   seen-put =
       ap (λ (v : ℕ). insertIn (g .«run_count») (r + 1) v (grow 0 0) (g .«seen_prefix_len»)) second-is
-      ∙ insert-area 512 (g .«run_count») (r + 1) second (grow 0 0) (g .«seen_prefix_len») (view g .seen) (seen-pad g held) (omega (arith, seen-count g held)) (omega arith)
-      ∙ ap (pad 512) (insert-keep (r + 1) second (view g .seen))
+      ∙ insert-area 512 (g .«run_count») (r + 1) (secondSeen (view g) r at) (grow 0 0) (g .«seen_prefix_len») (view g .seen) (seen-pad g held) (omega (arith, seen-count g held)) (omega arith)
+      ∙ ap (pad 512) (insert-keep (r + 1) (secondSeen (view g) r at) (view g .seen))
       ∙ rw (add-one r)
 
   -- the rows of the split graph
@@ -168,20 +165,20 @@ module _ (g : CausalGraph) (held : Held g) (r at : ℕ) (in-runs : r < g .«run_
       (k : Kept) →
       k ≡ keptIn (marksOf 0 (take (g .«run_count» + 1 + 1) (splitIn g r at k .starts)) (take (g .«run_count» + 1) (splitIn g r at k .«seen_prefix_len»))) →
       k ≡ keptIn (marks (split (view g) r at))
-  unfolding split second new-rows
+  unfolding split new-rows
   marks-put k e =
       let n₁ : g .«run_count» + 1 + 1 ≡ length (insertAt (suc r) at (view g .starts)) = omega (arith, insert-length (suc r) at (view g .starts), starts-count g held) in
-      let n₂ : g .«run_count» + 1 ≡ length (insertAt (suc r) second (view g .seen)) = omega (arith, insert-length (suc r) second (view g .seen), seen-count g held) in
+      let n₂ : g .«run_count» + 1 ≡ length (insertAt (suc r) (secondSeen (view g) r at) (view g .seen)) = omega (arith, insert-length (suc r) (secondSeen (view g) r at) (view g .seen), seen-count g held) in
       let n₃ : length (split (view g) r at .parents) ≡ suc (g .«run_count») = unfold runs in (split-runs (view g) r at ∙ ap suc (runs-view g held)) in
       let m = marks-of (split (view g) r at) (omega (arith, n₁, n₂)) (omega (arith, n₂, n₃)) in
-      e ∙ rw (starts-put, seen-put, take-pad (g .«run_count» + 1 + 1) 513 (insertAt (suc r) at (view g .starts)) n₁, take-pad (g .«run_count» + 1) 512 (insertAt (suc r) second (view g .seen)) n₂) (ap keptIn (sym m))
+      e ∙ rw (starts-put, seen-put, take-pad (g .«run_count» + 1 + 1) 513 (insertAt (suc r) at (view g .starts)) n₁, take-pad (g .«run_count» + 1) 512 (insertAt (suc r) (secondSeen (view g) r at) (view g .seen)) n₂) (ap keptIn (sym m))
 
   -- A split in the record's arrays is a split of the graph
   pub split-stored :
       (k : Kept) →
       k ≡ keptIn (marksOf 0 (take (g .«run_count» + 1 + 1) (splitIn g r at k .starts)) (take (g .«run_count» + 1) (splitIn g r at k .«seen_prefix_len»))) →
       splitIn g r at k ≡ store (split (view g) r at)
-  unfolding store split keptIn second new-rows
+  unfolding store split keptIn new-rows
   split-stored k e =
       let m = marks-put k e in
       let n : g .«run_count» + 1 ≡ runs (split (view g) r at) = omega (arith, split-runs (view g) r at, runs-view g held) in

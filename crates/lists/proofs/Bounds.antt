@@ -1,9 +1,9 @@
 -- Lists below a bound, and the largest and the least of a list. Assumes nothing.
-use mathlib.Core.Path.{_≡_, refl}
+use mathlib.Core.Path.{_≡_, refl, subst}
 use mathlib.Core.Logic.{_⊎_, inl, inr}
 use mathlib.Core.Bool.{true, _||_}
 use mathlib.Core.List.{List, [], _∷_, _++_}
-use Prim.Native.Nat.{ℕ, zero, suc, _≤_, _<_, min}
+use Prim.Native.Nat.{ℕ, zero, suc, _≤_, _<_, min, max}
 use native.Mathlib.Omega.{arith}
 use lib.ListN.{length, getD}
 use lib.Dec.{ltb, eqb}
@@ -31,19 +31,24 @@ below-snoc n v [] b h = and-both (ltb v n) true (lt-ltb v n h) refl
 below-snoc n v (x ∷ l) b h = and-both (ltb x n) (below n (l ++ v ∷ [])) (and-left (ltb x n) (below n l) b)
     (below-snoc n v l (and-right (ltb x n) (below n l) b) h)
 
--- The largest is at least what all are, and at most what all are
-pub largest-least : (lo d : ℕ) (xs : List ℕ) → lo ≤ d → ((x : ℕ) → mem x xs ≡ true → lo ≤ x) → lo ≤ largest d xs
+-- The largest is one of the numbers, or what stands in where there are none: what holds of these holds of it
+pub largest-has : (P : ℕ → Type 0) (d : ℕ) (xs : List ℕ) → P d → ((x : ℕ) → mem x xs ≡ true → P x) → P (largest d xs)
 unfolding largest mem
-largest-least lo d [] k h = k
-largest-least lo d (x ∷ []) k h = h x (rw (eq-eqb x x refl))
-largest-least lo d (x ∷ y ∷ ys) k h = omega (arith, h x (rw (eq-eqb x x refl)))
+largest-has P d [] k h = k
+largest-has P d (x ∷ []) k h = h x (rw (eq-eqb x x refl))
+largest-has P d (x ∷ y ∷ ys) k h =
+    go (largest d (y ∷ ys)) (lt-or-le x (largest d (y ∷ ys))) (h x (rw (eq-eqb x x refl))) (largest-has P d (y ∷ ys) k (λ z m. h z (or-right (eqb z x) m)))
+  where
+    go : (l : ℕ) → (x < l) ⊎ (l ≤ x) → P x → P l → P (max x l)
+    go l (inl c) p q = let e : l ≡ max x l = omega arith in subst P e q
+    go l (inr c) p q = let e : x ≡ max x l = omega arith in subst P e p
+
+-- so it is at least what all are, and at most what all are
+pub largest-least : (lo d : ℕ) (xs : List ℕ) → lo ≤ d → ((x : ℕ) → mem x xs ≡ true → lo ≤ x) → lo ≤ largest d xs
+largest-least lo d xs k h = largest-has (λ x. lo ≤ x) d xs k h
 
 pub largest-most : (hi d : ℕ) (xs : List ℕ) → d ≤ hi → ((x : ℕ) → mem x xs ≡ true → x ≤ hi) → largest d xs ≤ hi
-unfolding largest mem
-largest-most hi d [] k h = k
-largest-most hi d (x ∷ []) k h = h x (rw (eq-eqb x x refl))
-largest-most hi d (x ∷ y ∷ ys) k h =
-    omega (arith, h x (rw (eq-eqb x x refl)), largest-most hi d (y ∷ ys) k (λ z m. h z (or-right (eqb z x) m)))
+largest-most hi d xs k h = largest-has (λ x. x ≤ hi) d xs k h
 
 -- No number of it is larger
 pub largest-get : (xs : List ℕ) (i : ℕ) → getD xs i 0 ≤ largest 0 xs

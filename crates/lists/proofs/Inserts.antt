@@ -42,6 +42,14 @@ module _ {ℓ} {A : Type ℓ} where
   insert-after (suc i) (suc j) x d [] h k = absurd (omega arith)
   insert-after (suc i) (suc j) x d (y ∷ l) h k = insert-after i j x d l (omega arith) (omega arith)
 
+  -- so they are the items from the next place on
+  pub insert-drop : (i j : ℕ) (x : A) (l : List A) → i ≤ j → i ≤ length l → drop (suc j) (insertAt i x l) ≡ drop j l
+  unfolding insertAt
+  insert-drop zero j x l h k = refl
+  insert-drop (suc i) zero x l h k = absurd (omega arith)
+  insert-drop (suc i) (suc j) x [] h k = absurd (omega arith)
+  insert-drop (suc i) (suc j) x (y ∷ l) h k = insert-drop i j x l (omega arith) (omega arith)
+
   -- One put into the first of two lists
   pub insert-append : (i : ℕ) (x : A) (l r : List A) → i ≤ length l → insertAt i x (l ++ r) ≡ insertAt i x l ++ r
   unfolding insertAt

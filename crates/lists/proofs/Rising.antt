@@ -10,7 +10,7 @@ use lib.Dec.{leb, ltb, eqb}
 use borrow.Author.Tests.{ltb-true, eqb-true, lt-ltb, le-ltb, le-leb, lt-leb, eq-eqb}
 use Rattle.lists.specs.Lists.{bit, all, filter, count, from, mem, rising, below}
 use Rattle.lists.proofs.Truth.{lt-or-le, false-true, bool-iff, and-left, and-right, and-both, or-cases, or-left, or-right}
-use Rattle.lists.proofs.Members.{getD-any, mem-filter}
+use Rattle.lists.proofs.Members.{getD-mem, getD-any, mem-filter}
 
 -- The numbers rise from `lo` on, all below n
 abbrev pub Up : ℕ → List ℕ → ℕ → Type 0
@@ -140,6 +140,13 @@ rising-above x (y ∷ l) e z m = go (or-cases (eqb z y) (mem z l) m) (λ k. risi
     go : (eqb z y ≡ true) ⊎ (mem z l ≡ true) → (mem z l ≡ true → y < z) → x < z
     go (inl q) ih = omega (arith, less, eqb-true z y q)
     go (inr k) ih = omega (arith, less, ih k)
+
+-- Of two of its numbers the later is larger
+pub rising-less : (l : List ℕ) → rising l ≡ true → (i j : ℕ) → i < j → j < length l → getD l i 0 < getD l j 0
+rising-less [] e i j h k = absurd (omega arith)
+rising-less (x ∷ l) e i zero h k = absurd (omega arith)
+rising-less (x ∷ l) e zero (suc j) h k = rising-above x l e (getD l j 0) (getD-mem l j 0 (omega arith))
+rising-less (x ∷ l) e (suc i) (suc j) h k = rising-less l (rising-tail x l e) i j (omega arith) (omega arith)
 
 pub rising-cons : (x : ℕ) (l : List ℕ) → rising l ≡ true → ((z : ℕ) → mem z l ≡ true → x < z) → rising (x ∷ l) ≡ true
 unfolding rising mem

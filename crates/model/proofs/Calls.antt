@@ -39,6 +39,16 @@ pub record Kept (P : Graph → Log → Type 0) (g : CausalGraph) (l : Log) : Typ
   pub held : Held g
   pub fact : P (view g) l
 
+-- A run start, by whether the graph is broken, what its tests come to, and whether there is room for a split
+abbrev pub startedBy : CausalGraph → ℕ → Bool → Starting → Outcome → Started
+startedBy g at b s o = elim b as (λ _. Started) [
+  | true ↦ startRefused g Broken
+  | false ↦ elim s as (λ _. Started) [
+    | answers t ↦ told g t
+    | splitting ↦ elim o as (λ _. Started) [ Done ↦ told (store (split (view g) (containing (view g) at) at)) true | Refused r ↦ startRefused g r ]
+  ]
+]
+
 module _ (P : Graph → Log → Type 0) (K : Keeps P) where
   stored : (g : Graph) (l : Log) → P g l → Kept P (store g) l
   stored g l p = record {
@@ -67,17 +77,8 @@ module _ (P : Graph → Log → Type 0) (K : Keeps P) where
     unfolding startRunAtOf startHeldOf told startRefused note
     start-keeps at = go (broken g) (starting (view g) at) refl (splitOutcome (view g)) refl
       where
-        out : Bool → Starting → Outcome → Started
-        out b s o = elim b as (λ _. Started) [
-          | true ↦ startRefused g Broken
-          | false ↦ elim s as (λ _. Started) [
-            | answers t ↦ told g t
-            | splitting ↦ elim o as (λ _. Started) [ Done ↦ told (store (split (view g) (containing (view g) at) at)) true | Refused r ↦ startRefused g r ]
-          ]
-        ]
-
         go : (b : Bool) (s : Starting) → starting (view g) at ≡ s → (o : Outcome) → splitOutcome (view g) ≡ o →
-            Kept P ((out b s o) .graph) (note l (startRunAt at) ((out b s o) .answer))
+            Kept P ((startedBy g at b s o) .graph) (note l (startRunAt at) ((startedBy g at b s o) .answer))
         go true s e o q = G
         go false (answers true) e o q = record { held = G .held; fact = K .tells (view g) l (G .fact) at e }
         go false (answers false) e o q = G

@@ -18,4 +18,13 @@ changes = record {
   F2-none = refl;
   F2-short = refl;
   F2-outside = refl;
+  F4 = refl;
+  F4-again = refl;
+  F4-starts = refl;
+  F4-unmarked = refl;
+  F4-false = refl;
+  F4-marked = refl;
+  F4-by-hand = refl;
+  F4-by-hand-true = refl;
+  F4-by-hand-false = refl;
 }

@@ -4,7 +4,7 @@ use mathlib.Core.Bool.{Bool, true, false, not, _||_}
 use Prim.Native.Nat.{ℕ, suc, _+_, _<_}
 use native.Mathlib.Omega.{arith}
 use lib.Dec.{leb, eqb}
-use borrow.Author.Tests.{ltb-false, leb-false, eqb-true, eqb-false}
+use borrow.Author.Tests.{ltb-false, leb-false, eqb-true, eqb-false, lt-leb, eq-eqb, not-true}
 use Rattle.lists.proofs.Truth.{lt-of-ne, false-true, or-first, or-last}
 use Rattle.model.specs.declared.answers.Outcome.the-variants.{Done}
 use Rattle.model.specs.Graph.{Graph, runs, start, firstHeld, len, entries, containing, marked}
@@ -55,20 +55,30 @@ starting-inside g at e =
     go false false true d q = false-true (ap splits-run q)
     go false false false d q = (refl, refl, refl)
 
--- One told true is past the first held event, before `len` and at a run's start
-pub starting-told : (g : Graph) (at : ℕ) → starting g at ≡ answers true → (firstHeld g < at) × (at < len g) × (start g (containing g at) ≡ at)
+-- One told true is past the first held event, before `len` and at the start of an unmarked run
+pub starting-told : (g : Graph) (at : ℕ) → starting g at ≡ answers true →
+    (firstHeld g < at) × (at < len g) × (start g (containing g at) ≡ at) × (marked g (containing g at) ≡ false)
 unfolding starting
 starting-told g at e =
     let r = containing g at in
     let w = go (leb at (firstHeld g) || leb (len g) at) (eqb (start g r) at) (alone g r) (not (marked g r)) e in
     let i = not-outside g at (w .0) in
-    (i .0, i .1, eqb-true (start g r) at (w .1))
+    (i .0, i .1, eqb-true (start g r) at (w .1), not-true (marked g r) (w .2))
   where
-    go : (a b c d : Bool) → started a b c d ≡ answers true → (a ≡ false) × (b ≡ true)
+    go : (a b c d : Bool) → started a b c d ≡ answers true → (a ≡ false) × (b ≡ true) × (d ≡ true)
     go true b c d q = false-true (ap tells-true q)
-    go false true c d q = (refl, refl)
+    go false true c d q = (refl, refl, ap tells-true q)
     go false false true d q = false-true (ap tells-true q)
     go false false false d q = false-true (ap tells-true q)
+
+-- and one there is told true
+pub starting-tells : (g : Graph) (at : ℕ) → firstHeld g < at → at < len g → start g (containing g at) ≡ at → marked g (containing g at) ≡ false →
+    starting g at ≡ answers true
+unfolding starting
+starting-tells g at past inside begins unmarked =
+    let r = containing g at in
+    let within : leb at (firstHeld g) || leb (len g) at ≡ false = rw (lt-leb at (firstHeld g) past, lt-leb (len g) at inside) refl in
+    λ i. started (within i) (eq-eqb (start g r) at begins i) (alone g r) (not (unmarked i))
 
 -- One that splits lies inside a run, after the run's first event
 pub start-inside : (g : Graph) → WellFormed g → (at : ℕ) → starting g at ≡ splitting →

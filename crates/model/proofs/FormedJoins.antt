@@ -14,7 +14,7 @@ use Rattle.lists.proofs.Between.{cond-within}
 use Rattle.lists.proofs.Members.{mem-filter, map-mem}
 use Rattle.lists.proofs.Counts.{length-snoc, sum-snoc}
 use Rattle.lists.proofs.Rising.{rising-snoc, rising-filter, rising-map, rising-take}
-use Rattle.lists.proofs.Bounds.{below-of, below-at, below-getD, below-snoc, largest-least, largest-most, least-le}
+use Rattle.lists.proofs.Bounds.{below-of, below-at, below-getD, below-snoc, largest-has, least-le}
 use Rattle.model.specs.Graph.{Graph, runs, start, firstHeld, len, entries, containing, marks, held}
 use Rattle.lists.specs.Scans.{groupsFit, between}
 use Rattle.model.specs.Broken.{WellFormed, frontierFits}
@@ -73,6 +73,29 @@ pub joined-entries : (g : Graph) (ps : List ℕ) (n : ℕ) → entries (joined g
 unfolding entries joined parentRuns
 joined-entries g ps n =
     omega (arith, sum-snoc (λ qs. length qs) (g .parents) (map (containing g) (held g ps)), length-map (held g ps) (containing g))
+
+-- What a new run takes from its held parents
+module _ (g : Graph) (formed : WellFormed g) (ps : List ℕ) (inside : Inside g (held g ps)) where
+  -- Its parent runs are below it
+  pub parentRuns-below : (r : ℕ) → mem r (parentRuns g ps) ≡ true → r < runs g
+  unfolding parentRuns
+  parentRuns-below r m =
+      let w : (e : ℕ) × (mem e (held g ps) ≡ true) × (r ≡ containing g e) = map-mem (containing g) r (held g ps) m in
+      let i = inside .1 (w .0) (w .1) in
+      omega (arith, w .2, containing-in g formed (w .0) (i .0) (i .1) .0)
+
+  -- What it has seen lies between the first held event and `len`
+  pub newSeen-within : (firstHeld g ≤ newSeen g ps) × (newSeen g ps ≤ len g)
+  unfolding newSeen
+  newSeen-within =
+      cond-within (firstHeld g) (len g) (len g) _ (same ps (g .frontier)) (first-len g formed, omega arith)
+      (largest-has (λ x. (firstHeld g ≤ x) × (x ≤ len g)) (firstHeld g) (map (seenAfter g) (parentRuns g ps)) (omega arith, first-len g formed) one)
+    where
+      one : (x : ℕ) → mem x (map (seenAfter g) (parentRuns g ps)) ≡ true → (firstHeld g ≤ x) × (x ≤ len g)
+      one x m =
+          let w : (r : ℕ) × (mem r (parentRuns g ps) ≡ true) × (x ≡ seenAfter g r) = map-mem (seenAfter g) x (parentRuns g ps) m in
+          let s = seenAfter-within g formed (w .0) (parentRuns-below (w .0) (w .1)) in
+          (omega (arith, w .2, s .0), omega (arith, w .2, s .1))
 
 -- What the frontier becomes, in either case
 module _ (g : Graph) (formed : WellFormed g) (ps : List ℕ) (n : ℕ) (some : 0 < n) where
@@ -148,72 +171,48 @@ module _ (g : Graph) (formed : WellFormed g) (ps : List ℕ) (n : ℕ) (some : 0
   unfolding firstHeld start joined
   joined-first = List·getD-append (g .starts) ((len g + n) ∷ []) 0 0 (omega (arith, formed .starts-count))
 
-  module _ (inside : Inside g (held g ps)) where
-    -- Its parent runs are below it
-    pub parentRuns-below : (r : ℕ) → mem r (parentRuns g ps) ≡ true → r < runs g
+  module _ (inside : Inside g (held g ps)) (ended : (p : ℕ) → mem p (held g ps) ≡ true → ends g p ≡ true) where
+    -- Its parent runs rise
+    pub parentRuns-rising : rising (parentRuns g ps) ≡ true
     unfolding parentRuns
-    parentRuns-below r m =
-        let w : (e : ℕ) × (mem e (held g ps) ≡ true) × (r ≡ containing g e) = map-mem (containing g) r (held g ps) m in
-        let i = inside .1 (w .0) (w .1) in
-        omega (arith, w .2, containing-in g formed (w .0) (i .0) (i .1) .0)
-
-    -- What it has seen lies between the first held event and `len`
-    pub newSeen-within : (firstHeld g ≤ newSeen g ps) × (newSeen g ps ≤ len g)
-    unfolding newSeen
-    newSeen-within =
-        let after : List ℕ = map (seenAfter g) (parentRuns g ps) in
-        let low = largest-least (firstHeld g) (firstHeld g) after (omega arith) (λ x m. one x m .0) in
-        let high = largest-most (len g) (firstHeld g) after (first-len g formed) (λ x m. one x m .1) in
-        cond-within (firstHeld g) (len g) (len g) _ (same ps (g .frontier)) (first-len g formed, omega arith) (low, high)
+    parentRuns-rising = rising-map (containing g) (held g ps) less (inside .0)
       where
-        one : (x : ℕ) → mem x (map (seenAfter g) (parentRuns g ps)) ≡ true → (firstHeld g ≤ x) × (x ≤ len g)
-        one x m =
-            let w : (r : ℕ) × (mem r (parentRuns g ps) ≡ true) × (x ≡ seenAfter g r) = map-mem (seenAfter g) x (parentRuns g ps) m in
-            let s = seenAfter-within g formed (w .0) (parentRuns-below (w .0) (w .1)) in
-            (omega (arith, w .2, s .0), omega (arith, w .2, s .1))
+        less : (x y : ℕ) → mem x (held g ps) ≡ true → mem y (held g ps) ≡ true → x < y → containing g x < containing g y
+        less x y m k l = containing-less g formed x y (inside .1 x m .0) l (inside .1 y k .1) (ended x m)
 
-    module _ (ended : (p : ℕ) → mem p (held g ps) ≡ true → ends g p ≡ true) where
-      -- and rise
-      pub parentRuns-rising : rising (parentRuns g ps) ≡ true
-      unfolding parentRuns
-      parentRuns-rising = rising-map (containing g) (held g ps) less (inside .0)
-        where
-          less : (x y : ℕ) → mem x (held g ps) ≡ true → mem y (held g ps) ≡ true → x < y → containing g x < containing g y
-          less x y m k l = containing-less g formed x y (inside .1 x m .0) l (inside .1 y k .1) (ended x m)
+    joined-parents : groupsFit 0 (g .parents ++ parentRuns g ps ∷ []) ≡ true
+    joined-parents =
+        let z : 0 + length (g .parents) ≡ runs g = unfold runs in omega arith in
+        parents-snoc 0 (g .parents) (parentRuns g ps) (formed .parents) parentRuns-rising
+        (rw z (below-of (runs g) (parentRuns g ps) (parentRuns-below g formed ps inside)))
 
-      joined-parents : groupsFit 0 (g .parents ++ parentRuns g ps ∷ []) ≡ true
-      joined-parents =
-          let z : 0 + length (g .parents) ≡ runs g = unfold runs in omega arith in
-          parents-snoc 0 (g .parents) (parentRuns g ps) (formed .parents) parentRuns-rising
-          (rw z (below-of (runs g) (parentRuns g ps) parentRuns-below))
+    -- A new run keeps the graph well-formed
+    pub joined-formed : WellFormed (joined g ps n)
+    joined-formed = record {
+      starts-count = rw (joined-runs g ps n) (unfold joined in length-snoc (g .starts) (len g + n) ∙ ap suc (formed .starts-count));
+      seen-count = rw (joined-runs g ps n) (unfold joined in length-snoc (g .seen) (newSeen g ps) ∙ ap suc (formed .seen-count));
+      starts = unfold joined in rising-snoc (g .starts) (len g + n) (formed .starts) starts-below;
+      parents = unfold joined in joined-parents;
+      frontier = rw joined-len (unfold joined in frontier-after (runs (joined g ps n)));
+      seen = rw joined-first (unfold joined in seen-is);
+      changed = rw (joined-runs g ps n) (unfold joined in changed-is);
+    }
+      where
+        starts-below : below (len g + n) (g .starts) ≡ true
+        starts-below = below-getD (len g + n) (g .starts) (λ i h. omega (arith, some, starts-len i (omega (arith, formed .starts-count))))
 
-      -- A new run keeps the graph well-formed
-      pub joined-formed : WellFormed (joined g ps n)
-      joined-formed = record {
-        starts-count = rw (joined-runs g ps n) (unfold joined in length-snoc (g .starts) (len g + n) ∙ ap suc (formed .starts-count));
-        seen-count = rw (joined-runs g ps n) (unfold joined in length-snoc (g .seen) (newSeen g ps) ∙ ap suc (formed .seen-count));
-        starts = unfold joined in rising-snoc (g .starts) (len g + n) (formed .starts) starts-below;
-        parents = unfold joined in joined-parents;
-        frontier = rw joined-len (unfold joined in frontier-after (runs (joined g ps n)));
-        seen = rw joined-first (unfold joined in seen-is);
-        changed = rw (joined-runs g ps n) (unfold joined in changed-is);
-      }
-        where
-          starts-below : below (len g + n) (g .starts) ≡ true
-          starts-below = below-getD (len g + n) (g .starts) (λ i h. omega (arith, some, starts-len i (omega (arith, formed .starts-count))))
+        counts : length (g .starts) ≡ suc (length (g .seen))
+        counts = omega (arith, formed .starts-count, formed .seen-count)
 
-          counts : length (g .starts) ≡ suc (length (g .seen))
-          counts = omega (arith, formed .starts-count, formed .seen-count)
+        seen-end : newSeen g ps ≤ getD (g .starts) (length (g .seen)) 0
+        seen-end = rw (formed .seen-count) (unfold len start in newSeen-within g formed ps inside .1)
 
-          seen-end : newSeen g ps ≤ getD (g .starts) (length (g .seen)) 0
-          seen-end = rw (formed .seen-count) (unfold len start in newSeen-within .1)
+        seen-is : between (firstHeld g) (g .starts ++ (len g + n) ∷ []) (g .seen ++ newSeen g ps ∷ []) ≡ true
+        seen-is =
+            seen-snoc (firstHeld g) (len g + n) (newSeen g ps) (g .starts) (g .seen) counts (formed .seen) (newSeen-within g formed ps inside .0) seen-end
 
-          seen-is : between (firstHeld g) (g .starts ++ (len g + n) ∷ []) (g .seen ++ newSeen g ps ∷ []) ≡ true
-          seen-is =
-              seen-snoc (firstHeld g) (len g + n) (newSeen g ps) (g .starts) (g .seen) counts (formed .seen) (newSeen-within .0) seen-end
-
-          changed-is : min (runs g) (g .changed) ≤ suc (runs g)
-          changed-is = omega arith
+        changed-is : min (runs g) (g .changed) ≤ suc (runs g)
+        changed-is = omega arith
 
 -- Lowering `changed_from` keeps the rest
 pub lowered-formed : (g h : Graph) → WellFormed h → WellFormed (lowered g h)

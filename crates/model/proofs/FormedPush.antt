@@ -123,7 +123,7 @@ module _ (g : Graph) (formed : WellFormed g) (ps : List ℕ) (n : ℕ) (ok : Acc
   unfolding held
   held-same = ap (λ (f : ℕ). filter (λ e. leb f e) ps) (pushed-splits .same-first)
 
-  inside-after : Inside (splitAfter g (held g ps)) (held (splitAfter g (held g ps)) ps)
+  pub inside-after : Inside (splitAfter g (held g ps)) (held (splitAfter g (held g ps)) ps)
   inside-after = held-inside (splitAfter g (held g ps)) ps (ok .rises) (rw (pushed-splits .same-len) (ok .known))
 
   ended-after : (p : ℕ) → mem p (held (splitAfter g (held g ps)) ps) ≡ true → ends (splitAfter g (held g ps)) p ≡ true

@@ -1,20 +1,22 @@
 -- What a well-formed graph has: starts that rise to `len`, the run of each held event, parents below their run, bounds on what runs have
--- seen. Assumes nothing.
+-- seen, and when a run is marked. Assumes nothing.
 use mathlib.Core.Path.{_≡_, refl, sym, _∙_}
+use mathlib.Core.Logic.{_⊎_, inl, inr}
 use mathlib.Core.Bool.{true, _&&_}
 use mathlib.Core.List.{List, [], _∷_}
 use Prim.Native.Nat.{ℕ, zero, suc, _+_, _-_, _≤_, _<_}
 use native.Mathlib.Omega.{arith}
-use lib.ListN.{length, getD}
+use lib.ListN.{length, getD, drop, length-drop}
+use lib.Seq.{getD-drop}
 use lib.Dec.{leb, ltb, eqb}
 use borrow.Author.Tests.{ltb-true, ltb-false, leb-true, leb-false, eqb-true, lt-ltb, le-ltb, le-leb, lt-leb, ne-eqb}
 use Rattle.lists.specs.Lists.{count, mem, rising, below}
-use Rattle.lists.proofs.Truth.{false-true, and-left, and-right, and-both}
+use Rattle.lists.proofs.Truth.{lt-eq-gt, false-true, and-left, and-right, and-both}
 use Rattle.lists.proofs.Between.{cond-within}
-use Rattle.lists.proofs.Members.{mem-index, getD-mem}
-use Rattle.lists.proofs.Rising.{rising-getD, rising-count}
+use Rattle.lists.proofs.Members.{mem-index, getD-mem, getD-all}
+use Rattle.lists.proofs.Rising.{rising-getD, rising-less, rising-count}
 use Rattle.lists.proofs.Bounds.{below-at}
-use Rattle.model.specs.Graph.{Graph, runs, start, firstHeld, len, containing}
+use Rattle.model.specs.Graph.{Graph, runs, start, firstHeld, len, containing, marked}
 use Rattle.lists.specs.Scans.{between, groupsFit}
 use Rattle.model.specs.Broken.{WellFormed, frontierFits}
 use Rattle.model.specs.Split.{ends}
@@ -56,6 +58,11 @@ module _ (g : Graph) (formed : WellFormed g) where
   unfolding start
   start-mono r q h k = rising-getD (g .starts) (formed .starts) r q h (omega (arith, formed .starts-count))
 
+  -- and each is above the one before
+  pub start-less : (r q : ℕ) → r < q → q ≤ runs g → start g r < start g q
+  unfolding start
+  start-less r q h k = rising-less (g .starts) (formed .starts) r q h (omega (arith, formed .starts-count))
+
   pub start-len : (r : ℕ) → r ≤ runs g → start g r ≤ len g
   unfolding len
   start-len r h = start-mono r (runs g) h (omega arith)
@@ -94,6 +101,17 @@ module _ (g : Graph) (formed : WellFormed g) where
         leb-false (start g (suc (n - 1))) e (start-count (suc (n - 1)) e (omega arith) ∙ le-ltb (suc (n - 1)) _ (omega arith)),
       )
 
+  -- A run's first event lies in it
+  pub containing-start : (r : ℕ) → r < runs g → containing g (start g r) ≡ r
+  containing-start r lt =
+      let c = containing-in (start g r) (first-start r (omega arith)) (omega (arith, start-less r (suc r) (omega arith) lt, start-len (suc r) lt)) in
+      same (containing g (start g r)) (c .0) (c .1) (c .2) (lt-eq-gt (containing g (start g r)) r)
+    where
+      same : (q : ℕ) → q < runs g → start g q ≤ start g r → start g r < start g (suc q) → (q < r) ⊎ ((q ≡ r) ⊎ (r < q)) → q ≡ r
+      same q b lo hi (inl c) = absurd (omega (arith, start-mono (suc q) r c (omega arith)))
+      same q b lo hi (inr (inl c)) = c
+      same q b lo hi (inr (inr c)) = absurd (omega (arith, start-less r q c (omega arith)))
+
   -- Where a run ends after p, a later event lies in a later run
   pub containing-less : (p q : ℕ) → firstHeld g ≤ p → p < q → q < len g → ends g p ≡ true → containing g p < containing g q
   unfolding containing ends start
@@ -108,6 +126,13 @@ module _ (g : Graph) (formed : WellFormed g) where
   -- What a run has seen lies between the first held event and its start
   pub seen-within : (r : ℕ) → r < runs g → (firstHeld g ≤ getD (g .seen) r 0) × (getD (g .seen) r 0 ≤ start g r)
   seen-within r h = unfold start in between-at (firstHeld g) (g .starts) (g .seen) (formed .seen) r (omega (arith, formed .seen-count))
+
+  -- A run that starts where every run from it on has seen to, or before, is marked
+  pub marked-of : (r : ℕ) → ((q : ℕ) → r ≤ q → q < runs g → start g r ≤ getD (g .seen) q 0) → marked g r ≡ true
+  unfolding marked
+  marked-of r h = getD-all (λ s. leb (start g r) s) (drop r (g .seen)) (λ i lt.
+      rw (getD-drop r (g .seen) i 0)
+      (le-leb (start g r) (getD (g .seen) (r + i) 0) (h (r + i) (omega arith) (omega (arith, length-drop r (g .seen), formed .seen-count)))))
 
   -- and "seen after" it between the first held event and `len`
   pub seenAfter-within : (r : ℕ) → r < runs g → (firstHeld g ≤ seenAfter g r) × (seenAfter g r ≤ len g)

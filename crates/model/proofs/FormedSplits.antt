@@ -7,7 +7,7 @@ use Prim.Native.Nat.{ℕ, zero, suc, _+_, _≤_, _<_}
 use native.Mathlib.Omega.{arith}
 use lib.ListN.{length, getD, length-map}
 use lib.Dec.{leb, eqb}
-use borrow.Author.Tests.{leb-true, lt-ltb, le-ltb, le-leb, ne-eqb}
+use borrow.Author.Tests.{lt-ltb, le-ltb, le-leb, ne-eqb}
 use Rattle.lists.specs.Lists.{sum, insertAt, mem, rising, below}
 use Rattle.lists.proofs.Truth.{lt-or-le, and-left, and-right, and-both}
 use Rattle.lists.proofs.Members.{mem-one, map-mem}
@@ -17,8 +17,8 @@ use Rattle.lists.proofs.Inserts.{insert-length, insert-before, insert-after, in
 use Rattle.model.specs.Graph.{Graph, runs, start, firstHeld, len, entries}
 use Rattle.lists.specs.Scans.{groupsFit, between}
 use Rattle.model.specs.Broken.{WellFormed, frontierFits}
-use Rattle.model.specs.Split.{renumber, split, ends}
-use Rattle.model.proofs.FormedReads.{parents-row, parents-first}
+use Rattle.model.specs.Split.{renumber, secondSeen, split, ends}
+use Rattle.model.proofs.FormedReads.{parents-row, parents-first, seen-within}
 
 -- Runs from the split one on move up one, the others stay
 pub renumber-below : (r p : ℕ) → p < r → renumber r p ≡ p
@@ -106,28 +106,28 @@ parents-insert k (suc i) r (ps ∷ pss) h q e =
     (renumber-stay r k ps (omega arith) (w .1))
     (parents-insert (suc k) i r pss (omega arith) (omega arith) (w .2))
 
--- What the two parts have seen
-seen-insert :
-    (f i at : ℕ) (xs ss : List ℕ) →
-    i < length xs →
-    i < length ss →
-    between f xs ss ≡ true →
-    getD xs i 0 < at →
-    between f (insertAt (suc i) at xs) (insertAt (suc i) (cond (eqb (getD ss i 0) (getD xs i 0)) at (getD ss i 0)) ss) ≡ true
-unfolding between insertAt
-seen-insert f i at [] ss h k e a = absurd (omega arith)
-seen-insert f i at (x ∷ xs) [] h k e a = absurd (omega arith)
-seen-insert f zero at (x ∷ xs) (s ∷ ss) h k e a =
-    let p : leb f s && leb s x ≡ true = and-left (leb f s && leb s x) (between f xs ss) e in
-    let q = one (eqb s x) (leb-true f s (and-left (leb f s) (leb s x) p)) (leb-true s x (and-right (leb f s) (leb s x) p)) in
-    and-both (leb f s && leb s x) _ p (and-both _ (between f xs ss) q (and-right (leb f s && leb s x) (between f xs ss) e))
+-- The second part of a split has seen up to its own start, or what the first has
+pub second-has : (P : ℕ → Type 0) (g : Graph) (r at : ℕ) → P at → P (getD (g .seen) r 0) → P (secondSeen g r at)
+unfolding secondSeen
+second-has P g r at p q = go (eqb (getD (g .seen) r 0) (start g r))
   where
-    one : (t : Bool) → f ≤ s → s ≤ x → leb f (cond t at s) && leb (cond t at s) at ≡ true
-    one true l m = and-both (leb f at) (leb at at) (le-leb f at (omega arith)) (le-leb at at (omega arith))
-    one false l m = and-both (leb f s) (leb s at) (le-leb f s l) (le-leb s at (omega arith))
-seen-insert f (suc i) at (x ∷ xs) (s ∷ ss) h k e a =
-    and-both (leb f s && leb s x) _ (and-left (leb f s && leb s x) (between f xs ss) e)
-    (seen-insert f i at xs ss (omega arith) (omega arith) (and-right (leb f s && leb s x) (between f xs ss) e) a)
+    go : (t : Bool) → P (cond t at (getD (g .seen) r 0))
+    go true = p
+    go false = q
+
+-- Seen lengths with that of the second part put in
+seen-insert : (f i at s : ℕ) (xs ss : List ℕ) → i < length xs → i < length ss → between f xs ss ≡ true → (f ≤ s) × (s ≤ at) →
+    between f (insertAt (suc i) at xs) (insertAt (suc i) s ss) ≡ true
+unfolding between insertAt
+seen-insert f i at s [] ss h k e b = absurd (omega arith)
+seen-insert f i at s (x ∷ xs) [] h k e b = absurd (omega arith)
+seen-insert f zero at s (x ∷ xs) (y ∷ ss) h k e b =
+    let p : leb f y && leb y x ≡ true = and-left (leb f y && leb y x) (between f xs ss) e in
+    let q : leb f s && leb s at ≡ true = and-both (leb f s) (leb s at) (le-leb f s (b .0)) (le-leb s at (b .1)) in
+    and-both (leb f y && leb y x) _ p (and-both (leb f s && leb s at) (between f xs ss) q (and-right (leb f y && leb y x) (between f xs ss) e))
+seen-insert f (suc i) at s (x ∷ xs) (y ∷ ss) h k e b =
+    and-both (leb f y && leb y x) _ (and-left (leb f y && leb y x) (between f xs ss) e)
+    (seen-insert f i at s xs ss (omega arith) (omega arith) (and-right (leb f y && leb y x) (between f xs ss) e) b)
 
 -- The frontier's clause asks only whether there are runs
 frontier-runs : (n m l : ℕ) (f : List ℕ) → 0 < n → 0 < m → frontierFits n l f ≡ frontierFits m l f
@@ -165,7 +165,7 @@ module _ (g : Graph) (formed : WellFormed g) (r at : ℕ) (inside : r < runs g) 
 
   split-seen : length (split g r at .seen) ≡ suc (length (g .seen))
   unfolding split
-  split-seen = insert-length (suc r) (cond (eqb (getD (g .seen) r 0) (start g r)) at (getD (g .seen) r 0)) (g .seen)
+  split-seen = insert-length (suc r) (secondSeen g r at) (g .seen)
 
   split-frontier-fits : frontierFits (runs (split g r at)) (len g) (split g r at .frontier) ≡ true
   unfolding split
@@ -173,9 +173,11 @@ module _ (g : Graph) (formed : WellFormed g) (r at : ℕ) (inside : r < runs g) 
       ∙ formed .frontier
 
   split-seen-fits : start g r < at → between (firstHeld g) (split g r at .starts) (split g r at .seen) ≡ true
-  unfolding split start
+  unfolding split
   split-seen-fits a =
-      seen-insert (firstHeld g) r at (g .starts) (g .seen) (omega (arith, formed .starts-count)) (omega (arith, formed .seen-count)) (formed .seen) a
+      let o = seen-within g formed r inside in
+      seen-insert (firstHeld g) r at (secondSeen g r at) (g .starts) (g .seen) (omega (arith, formed .starts-count)) (omega (arith, formed .seen-count)) (formed .seen)
+      (second-has (λ s. (firstHeld g ≤ s) × (s ≤ at)) g r at (omega (arith, o .0, o .1), omega arith) (o .0, omega (arith, o .1)))
 
   split-starts : start g r < at → at < start g (suc r) → rising (insertAt (suc r) at (g .starts)) ≡ true
   unfolding start

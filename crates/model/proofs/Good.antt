@@ -23,7 +23,8 @@ use Rattle.model.proofs.FormedCalls.{start-inside, start-formed, start-
 use Rattle.model.proofs.Runs.{first-next}
 use Rattle.model.proofs.Seen.{Inv}
 use Rattle.model.proofs.Keeping.{len-is, first-is, fresh-inv, taken-inv, push-inv, start-split, start-told}
-use Rattle.model.proofs.Takes.{Since, split-zero, push-zero, since-split, since-push}
+use Rattle.model.proofs.Persisting.{Persists, push-persists, start-persists}
+use Rattle.model.proofs.Takes.{Since, zero-persists, since-persists}
 use Rattle.model.proofs.Fronts.{Childless, fresh-childless, edge-childless, split-childless, push-childless}
 use Rattle.model.proofs.Calls.{Keeps, Kept, calls-keep, takeless-keep, begin-keeps, calls-append}
 
@@ -81,25 +82,13 @@ pub made-good : (f : Fresh) (cs : List Call) → Kept Good ((madeBy f cs) .0) ((
 unfolding madeBy
 made-good f cs = calls-keep Good keeps-good good-taken cs ((begin f) .1) (beginLog f ((begin f) .0)) (begin-keeps Good keeps-good good-fresh f)
 
--- Every run below `changed_from` is as it was in the graph a
-since-keeps : (a : Graph) → Keeps (λ g l. Good g l × Since a g)
-since-keeps a = record {
+-- Beside it, what splits, growth and new runs keep
+good-with : (P : Graph → Type 0) → Persists P → Keeps (λ g l. Good g l × P g)
+good-with P K = record {
   formed = λ g l G. G .0 .formed;
   limits = λ g l G. G .0 .limits;
-  pushes = λ g l G ps n e. (good-push g l (G .0) ps n e, since-push a g ps n (G .0 .formed) e (G .1));
-  splits = λ g l G at e q.
-      let i = start-inside g (G .0 .formed) at e in
-      (good-split g l (G .0) at e q, since-split a g (containing g at) at (G .0 .formed) (i .0) (i .1) (i .2) (G .1));
-  tells = λ g l G at e. (good-told g l (G .0) at e, G .1);
-}
-
--- `changed_from` stays 0 until a take
-zero-keeps : Keeps (λ g l. Good g l × (g .changed ≡ 0))
-zero-keeps = record {
-  formed = λ g l G. G .0 .formed;
-  limits = λ g l G. G .0 .limits;
-  pushes = λ g l G ps n e. (good-push g l (G .0) ps n e, push-zero g ps n (G .1));
-  splits = λ g l G at e q. (good-split g l (G .0) at e q, split-zero g (containing g at) at (G .1));
+  pushes = λ g l G ps n e. (good-push g l (G .0) ps n e, push-persists P K g ps n (G .0 .formed) e (G .1));
+  splits = λ g l G at e q. (good-split g l (G .0) at e q, start-persists P K g at (G .0 .formed) e (G .1));
   tells = λ g l G at e. (good-told g l (G .0) at e, G .1);
 }
 
@@ -107,16 +96,37 @@ zero-fresh : (events : ℕ) (frontier : List ℕ) → fresh events frontier .cha
 unfolding fresh
 zero-fresh events frontier = refl
 
-made-append : (f : Fresh) (cs ds : List Call) → madeBy f (cs ++ ds) ≡ afterCalls ((madeBy f cs) .0) ((madeBy f cs) .1) ds
+pub made-append : (f : Fresh) (cs ds : List Call) → madeBy f (cs ++ ds) ≡ afterCalls ((madeBy f cs) .0) ((madeBy f cs) .1) ds
 unfolding madeBy
 made-append f cs ds = calls-append cs ds ((begin f) .1) (beginLog f ((begin f) .0))
+
+-- Where takes keep a fact too, it holds after every further list of calls, and after every list if it holds of fresh graphs
+module _ (P : Graph → Type 0) (K : Persists P) (takes : (g : Graph) → P g → P (taken g)) where
+  abbrev With : Graph → Log → Type 0
+  With g l = Good g l × P g
+
+  takes-with : (g : Graph) (l : Log) → With g l → With (taken g) l
+  takes-with g l G = (good-taken g l (G .0), takes g (G .1))
+
+  pub later-with : (f : Fresh) (cs ds : List Call) → P (view ((madeBy f cs) .0)) → P (view ((madeBy f (cs ++ ds)) .0))
+  later-with f cs ds p =
+      let k = made-good f cs in
+      subst (λ (m : CausalGraph × Log). P (view (m .0))) (sym (made-append f cs ds))
+      ((calls-keep With (good-with P K) takes-with ds ((madeBy f cs) .0) ((madeBy f cs) .1) (record { held = k .held; fact = (k .fact, p) })) .fact .1)
+
+  pub made-with : ((events : ℕ) (frontier : List ℕ) → P (fresh events frontier)) → (f : Fresh) (cs : List Call) → P (view ((madeBy f cs) .0))
+  unfolding madeBy
+  made-with h f cs =
+      (calls-keep With (good-with P K) takes-with cs ((begin f) .1) (beginLog f ((begin f) .0))
+      (begin-keeps With (good-with P K) (λ events frontier e. (good-fresh events frontier e, h events frontier)) f)) .fact .1
 
 -- `changed_from` is 0 until the first take
 pub before-take : (f : Fresh) (ds : List Call) → takeless ds → (madeBy f ds) .0 .«changed_from» .0 ≡ 0
 unfolding madeBy view
 before-take f ds h =
-    (takeless-keep (λ g l. Good g l × (g .changed ≡ 0)) zero-keeps ds h ((begin f) .1) (beginLog f ((begin f) .0))
-    (begin-keeps (λ g l. Good g l × (g .changed ≡ 0)) zero-keeps (λ events frontier e. (good-fresh events frontier e, zero-fresh events frontier)) f)) .fact .1
+    let zero : Graph → Type 0 = λ g. g .changed ≡ 0 in
+    (takeless-keep (λ g l. Good g l × zero g) (good-with zero zero-persists) ds h ((begin f) .1) (beginLog f ((begin f) .0))
+    (begin-keeps (λ g l. Good g l × zero g) (good-with zero zero-persists) (λ events frontier e. (good-fresh events frontier e, zero-fresh events frontier)) f)) .fact .1
 
 -- After a take no run below `changed_from` differs from what it left
 pub since-take : (f : Fresh) (cs ds : List Call) → takeless ds →
@@ -126,7 +136,7 @@ since-take f cs ds h =
     let taking : List Call = cs ++ takeChangedFrom ∷ [] in
     let T : CausalGraph × Log = madeBy f taking in
     let k = made-good f taking in
-    let z = takeless-keep (λ g l. Good g l × Since (view (T .0)) g) (since-keeps (view (T .0))) ds h (T .0) (T .1)
+    let z = takeless-keep (λ g l. Good g l × Since (view (T .0)) g) (good-with (Since (view (T .0))) (since-persists (view (T .0)))) ds h (T .0) (T .1)
     (record { held = k .held; fact = (k .fact, λ r lt. refl) }) in
     subst (λ (m : CausalGraph). Unchanged (T .0) m)
     (ap (λ (m : CausalGraph × Log). m .0) (sym (made-append f taking ds)) ∙

@@ -1,27 +1,27 @@
 -- What a split, a grown run and a new run leave as it was of the runs before them. Assumes nothing.
 use mathlib.Core.Path.{_≡_, refl, sym, ap, _∙_}
-use mathlib.Core.Bool.{Bool, true, false, not, cond, _&&_}
+use mathlib.Core.Bool.{Bool, true, false, not, _&&_}
 use mathlib.Core.List.{List, [], _∷_, _++_, map}
 use mathlib.Core.Option.{Option, none, some}
 use Prim.Native.Nat.{ℕ, suc, _+_, _≤_, _<_, min}
 use native.Mathlib.Omega.{arith}
 use lib.ListN.{getD, take, drop, length-take, length-map, List·getD-append, List·getD-map}
 use lib.Seq.{drop-append-le, getD-take}
-use lib.Dec.{leb, ltb, eqb}
-use borrow.Author.Tests.{leb-true, eqb-true, lt-ltb, le-leb}
+use lib.Dec.{leb, ltb}
+use borrow.Author.Tests.{lt-ltb, le-leb}
 use Rattle.lists.specs.Lists.{all, filter, mem, insertAt, least}
 use Rattle.lists.proofs.Truth.{false-true, bool-iff, and-left}
 use Rattle.lists.proofs.Members.{filter-mem, map-leaves, all-from-on, all-both}
 use Rattle.lists.proofs.Passing.{passing-test}
 use Rattle.lists.proofs.Bounds.{least-le, least-mem}
-use Rattle.lists.proofs.Inserts.{insert-before, all-insert}
+use Rattle.lists.proofs.Inserts.{insert-before, insert-after, insert-drop, all-insert}
 use Rattle.model.specs.Graph.{Graph, runs, start, len, marked, marks}
 use Rattle.model.specs.Broken.{WellFormed}
-use Rattle.model.specs.Split.{renumber, split}
+use Rattle.model.specs.Split.{renumber, secondSeen, split}
 use Rattle.model.specs.Push.{grown, newSeen, parentRuns, joined, lowered}
 use Rattle.model.specs.Claim.{runState}
-use Rattle.model.proofs.FormedReads.{groupsFit-at}
-use Rattle.model.proofs.FormedSplits.{renumber-below}
+use Rattle.model.proofs.FormedReads.{groupsFit-at, start-mono}
+use Rattle.model.proofs.FormedSplits.{renumber-below, second-has}
 use Rattle.model.proofs.FormedJoins.{joined-runs}
 
 -- Two graphs alike at a run
@@ -39,7 +39,7 @@ state-same g h q b c s t p m = go (ltb q (runs g)) (ltb q (runs h)) (lt-ltb q (r
     go false true x y = false-true x
     go false false x y = false-true x
 
--- A split of run r leaves the runs before it, and the first part's start
+-- A split of run r leaves the runs before it, and the first part's start and mark
 module _ (g : Graph) (w : WellFormed g) (r at : ℕ) (b : r < runs g) where
   pub split-start : (q : ℕ) → q ≤ r → start (split g r at) q ≡ start g q
   unfolding start split
@@ -53,31 +53,30 @@ module _ (g : Graph) (w : WellFormed g) (r at : ℕ) (b : r < runs g) where
       map-leaves (renumber r) (getD (g .parents) q [])
       (λ p m. renumber-below r p (omega (arith, groupsFit-at 0 (g .parents) (w .parents) q p m)))
 
-  pub split-marked : start g r < at → (q : ℕ) → q < r → marked (split g r at) q ≡ marked g q
+  pub split-marked : start g r < at → (q : ℕ) → q ≤ r → marked (split g r at) q ≡ marked g q
   unfolding marked split
   split-marked lo q lt =
-      ap (λ (k : ℕ). all (λ s. leb k s) (drop q (insertAt (suc r) second (g .seen)))) (split-start q (omega arith)) ∙
-      all-insert (λ s. leb (start g q) s) q (suc r) second (g .seen) (omega arith) (omega (arith, w .seen-count)) ∙
-      and-idle (leb (start g q) second) (all (λ s. leb (start g q) s) (drop q (g .seen)))
-      (λ h. second-seen (leb-true (start g q) own (all-from-on (λ s. leb (start g q) s) q r (g .seen) (omega arith) (omega (arith, w .seen-count)) h)))
+      ap (λ (k : ℕ). all (λ s. leb k s) (drop q (insertAt (suc r) (secondSeen g r at) (g .seen)))) (split-start q (omega arith)) ∙
+      all-insert (λ s. leb (start g q) s) q (suc r) (secondSeen g r at) (g .seen) (omega arith) (omega (arith, w .seen-count)) ∙
+      and-idle (leb (start g q) (secondSeen g r at)) (all (λ s. leb (start g q) s) (drop q (g .seen)))
+      (λ h. second-has (λ s. leb (start g q) s ≡ true) g r at (le-leb (start g q) at (omega (arith, start-mono g w q r lt (omega arith))))
+      (all-from-on (λ s. leb (start g q) s) q r (g .seen) (omega arith) (omega (arith, w .seen-count)) h))
     where
-      own : ℕ
-      own = getD (g .seen) r 0
-
-      second : ℕ
-      second = cond (eqb own (start g r)) at own
-
       and-idle : (x y : Bool) → (y ≡ true → x ≡ true) → x && y ≡ y
       and-idle true y h = refl
       and-idle false true h = h refl
       and-idle false false h = refl
 
-      second-seen : start g q ≤ own → leb (start g q) second ≡ true
-      second-seen h = go (eqb own (start g r)) refl
-        where
-          go : (t : Bool) → eqb own (start g r) ≡ t → leb (start g q) (cond t at own) ≡ true
-          go true e = le-leb (start g q) at (omega (arith, eqb-true own (start g r) e))
-          go false e = le-leb (start g q) own h
+  -- The runs after it move up one, with their starts and marks
+  pub split-start-later : (q : ℕ) → r < q → start (split g r at) (suc q) ≡ start g q
+  unfolding start split
+  split-start-later q lt = insert-after (suc r) q at 0 (g .starts) (omega arith) (omega (arith, w .starts-count))
+
+  pub split-marked-later : (q : ℕ) → r < q → marked (split g r at) (suc q) ≡ marked g q
+  unfolding marked split
+  split-marked-later q lt =
+      ap (λ (k : ℕ). all (λ s. leb k s) (drop (suc q) (insertAt (suc r) (secondSeen g r at) (g .seen)))) (split-start-later q lt) ∙
+      ap (all (λ s. leb (start g q) s)) (insert-drop (suc r) q (secondSeen g r at) (g .seen) (omega arith) (omega (arith, w .seen-count)))
 
 -- A grown last run leaves the starts and the marks
 pub grown-start : (g : Graph) (ps : List ℕ) (n : ℕ) → WellFormed g → (q : ℕ) → q < runs g → start g q ≡ start (grown g ps n) q

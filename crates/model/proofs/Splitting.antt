@@ -17,9 +17,9 @@ use Rattle.lists.proofs.Inserts.{insert-length, insert-before, insert-at, inser
 use Rattle.model.specs.EventGraph.{reaches, ancestor}
 use Rattle.model.specs.Graph.{Graph, start}
 use Rattle.model.specs.History.{at}
-use Rattle.model.specs.Split.{renumber, split}
+use Rattle.model.specs.Split.{renumber, secondSeen, split}
 use Rattle.model.specs.Log.{Log, runStart, heldOf, heldBefore, eventGraph, edge, logStart}
-use Rattle.model.proofs.FormedSplits.{renumber-below, renumber-from, renumber-le}
+use Rattle.model.proofs.FormedSplits.{renumber-below, renumber-from, renumber-le, second-has}
 use Rattle.model.proofs.Histories.{Below}
 use Rattle.model.proofs.Exact.{ancestors}
 use Rattle.model.proofs.Tied.{lastOf, Tied, alone, down}
@@ -159,7 +159,7 @@ module _ (g : Graph) (l : Log) (t : Tied g l) (a r : ℕ) (lt : l .firstHeld < a
   own = getD (g .seen) r 0
 
   abbrev second : ℕ
-  second = cond (eqb own (start g r)) a own
+  second = secondSeen g r a
 
   module _ (S : Seen g l) where
     abbrev seen′ : List ℕ
@@ -175,18 +175,15 @@ module _ (g : Graph) (l : Log) (t : Tied g l) (a r : ℕ) (lt : l .firstHeld < a
     seen-after x c = insert-after (suc r) x second 0 (g .seen) c (omega (arith, S .size, inside-run .2))
 
     second-bounds : (l .firstHeld ≤ second) × (second ≤ a)
-    second-bounds = go (eqb own (start g r))
-      where
-        go : (b : Bool) → (l .firstHeld ≤ cond b a own) × (cond b a own ≤ a)
-        go true = (omega arith, omega arith)
-        go false = (S .least r (inside-run .2), omega (arith, S .most r (inside-run .2), inside-run .0))
+    second-bounds = second-has (λ s. (l .firstHeld ≤ s) × (s ≤ a)) g r a (omega arith, omega arith)
+        (S .least r (inside-run .2), omega (arith, S .most r (inside-run .2), inside-run .0))
 
     ancestors-same : (x e : ℕ) → ancestors l′ x e ≡ ancestors l x e
     unfolding ancestors ancestor heldOf heldBefore logStart
     ancestors-same x e = refl
 
     second-sound : (e : ℕ) → l .firstHeld ≤ e → e < second → ancestors l a e ≡ true
-    unfolding ancestors ancestor
+    unfolding ancestors ancestor secondSeen
     second-sound e p q = down g l t (a - runStart l r) a r a e (omega (arith, inside-run .0)) (inside-run .1) (omega arith) (go (lt-or-le e (runStart l r)))
       where
         before : e < runStart l r → e < own

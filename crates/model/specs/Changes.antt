@@ -1,16 +1,20 @@
 -- The cases of document 02's change requests, by computing. Assumes nothing.
 use mathlib.Core.Path.{_≡_}
+use mathlib.Core.Bool.{false}
 use mathlib.Core.List.{List, [], _∷_}
 use Prim.Native.Nat.{ℕ}
 use lib.ListN.{replicate}
 use Rattle.model.specs.declared.record.CausalGraph.{CausalGraph}
 use Rattle.model.specs.declared.answers.Written.{Written}
-use Rattle.model.specs.Answers.{outcomeNumber, bookNumbers}
+use Rattle.model.specs.Answers.{outcomeNumber, boolNumbers, bookNumbers}
+use Rattle.model.specs.Record.{view, store}
+use Rattle.model.specs.Broken.{broken}
 use Rattle.model.specs.Fresh.{newOf}
+use Rattle.model.specs.Start.{startRunAtOf}
 use Rattle.model.specs.Beside.{concurrencyListOf}
 use Rattle.model.specs.Book.{bookOf}
 use Rattle.model.specs.Print.{ascii, replayText}
-use Rattle.model.specs.Log.{new, push, madeBy}
+use Rattle.model.specs.Log.{new, Call, push, startRunAt, takeChangedFrom, madeBy}
 use Rattle.model.specs.Cases.{branches}
 
 -- What a call wrote into a lent list: the refusal's number, the count, the list afterwards
@@ -24,6 +28,14 @@ writers = madeBy new (push [] 1 ∷ push [] 1 ∷ push (0 ∷ []) 1 ∷ []) .0
 -- The concurrency list of a run, into so many words
 unfoldable pub concurrentWith : CausalGraph → ℕ → ℕ → ℕ × ℕ × List ℕ
 concurrentWith g r room = writtenNumbers (concurrencyListOf g r (replicate room 9))
+
+-- What a run start answers after calls from `new`, in numbers
+unfoldable pub startedAfter : List Call → ℕ → List ℕ
+startedAfter cs at = boolNumbers (startRunAtOf (madeBy new cs .0) at .answer)
+
+-- A record that no calls make: run 1 has seen up to event 1, at which no run starts
+unfoldable pub byHand : CausalGraph
+byHand = store (record { starts = 0 ∷ 2 ∷ 3 ∷ []; parents = [] ∷ [] ∷ []; frontier = 1 ∷ 2 ∷ []; seen = 0 ∷ 1 ∷ []; changed = 0 })
 
 pub record Changes : Type 0 where
   -- F-1: "a book of length 0" is whole, "a fresh graph from `new`"; "the program then prints `moved 0` alone"
@@ -43,3 +55,17 @@ pub record Changes : Type 0 where
   -- refusals as they were: too short a list stays untouched, and run 5 is none
   pub F2-short : concurrentWith branches 1 1 ≡ (11, 0, 9 ∷ [])
   pub F2-outside : concurrentWith branches 5 1 ≡ (9, 0, 9 ∷ [])
+  -- F-4: "a position that was once told true is told true by any later run start at it, and that later call leaves the graph unchanged". Event 1
+  -- of a marked run, by a split; told true after a push that has seen all and a take, with no run more; event 2 of an unmarked run likewise
+  pub F4 : startedAfter (push [] 2 ∷ push [] 1 ∷ []) 1 ≡ 0 ∷ 1 ∷ []
+  pub F4-again : startedAfter (push [] 2 ∷ push [] 1 ∷ startRunAt 1 ∷ push (1 ∷ 2 ∷ []) 1 ∷ takeChangedFrom ∷ []) 1 ≡ 0 ∷ 1 ∷ []
+  pub F4-starts : view (madeBy new (push [] 2 ∷ push [] 1 ∷ startRunAt 1 ∷ push (1 ∷ 2 ∷ []) 1 ∷ startRunAt 1 ∷ []) .0) .starts ≡ 0 ∷ 1 ∷ 2 ∷ 3 ∷ 4 ∷ []
+  pub F4-unmarked : startedAfter (push [] 1 ∷ push [] 2 ∷ startRunAt 2 ∷ []) 2 ≡ 0 ∷ 1 ∷ []
+  -- false does not last: before the second push event 1 is told false
+  pub F4-false : startedAfter (push [] 2 ∷ []) 1 ≡ 0 ∷ 0 ∷ []
+  -- a run that a push's split makes may be marked, and is told false
+  pub F4-marked : startedAfter (push [] 2 ∷ push (0 ∷ 1 ∷ []) 1 ∷ []) 1 ≡ 0 ∷ 0 ∷ []
+  -- and the law is one of graphs that calls make: of this record, which is not broken, event 1 is told true and then false
+  pub F4-by-hand : broken byHand ≡ false
+  pub F4-by-hand-true : boolNumbers (startRunAtOf byHand 1 .answer) ≡ 0 ∷ 1 ∷ []
+  pub F4-by-hand-false : boolNumbers (startRunAtOf (startRunAtOf byHand 1 .graph) 1 .answer) ≡ 0 ∷ 0 ∷ []

@@ -28,6 +28,7 @@ pub mod Print
 pub mod Log
 pub mod PlainSet
 pub mod Claim
+pub mod StaysTrue
 pub mod BookCalls
 pub mod Meaning
 pub mod TooWeak

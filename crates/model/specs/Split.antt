@@ -11,18 +11,19 @@ use Rattle.model.specs.Graph.{Graph, start, containing, held}
 unfoldable pub renumber : ℕ → ℕ → ℕ
 renumber r p = cond (ltb p r) p (suc p)
 
--- "A split at `at` gives the second part the first as its only parent, and seen `at` if the first's seen equals its start, else the
--- same seen"; `changed_from` "is lowered to each .. split .. run"
+-- What the second part of run r has seen: "`at` if the first's seen equals its start, else the same"
+unfoldable pub secondSeen : Graph → ℕ → ℕ → ℕ
+secondSeen g r at = let seen = getD (g .seen) r 0 in cond (eqb seen (start g r)) at seen
+
+-- "A split at `at` gives the second part the first as its only parent"; `changed_from` "is lowered to each .. split .. run"
 unfoldable pub split : Graph → ℕ → ℕ → Graph
-split g r at =
-    let seen = getD (g .seen) r 0 in
-    record {
-      starts = insertAt (suc r) at (g .starts);
-      parents = insertAt (suc r) (r ∷ []) (map (map (renumber r)) (g .parents));
-      frontier = g .frontier;
-      seen = insertAt (suc r) (cond (eqb seen (start g r)) at seen) (g .seen);
-      changed = min r (g .changed);
-    }
+split g r at = record {
+  starts = insertAt (suc r) at (g .starts);
+  parents = insertAt (suc r) (r ∷ []) (map (map (renumber r)) (g .parents));
+  frontier = g .frontier;
+  seen = insertAt (suc r) (secondSeen g r at) (g .seen);
+  changed = min r (g .changed);
+}
 
 -- "a run or the graph ends there": after event p
 unfoldable pub ends : Graph → ℕ → Bool
