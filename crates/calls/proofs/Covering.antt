@@ -101,7 +101,7 @@ mixed-said f cs =
     (said ws some .0 ∙ start-front f (mixedWords cs), said ws some .1 ∙ rest)
 
 pub every-list : EveryList
-every-list = record { from-start = mixed-said; alone = calls-back }
+every-list = record { from-start = mixed-said; further = calls-back }
 
 -- and all by value
 by-value : (cs : List Call) → calls (map (λ c. (false, c)) cs) ≡ cs

@@ -88,8 +88,8 @@ unfoldable pub allWords : List Call → List ℕ
 allWords cs = mixedWords (map (λ c. (false, c)) cs)
 
 -- "every list" of demand 3 and of 02: every start with every list of calls, each by value or lent, is what some words say, and so is every list
--- of calls alone
+-- of further calls
 pub record EveryList : Type 0 where
   pub from-start : (f : Fresh) (cs : List (Bool × Call)) → let ws : List ℕ = startWords f ++ mixedWords cs in
       (freshIn ws ≡ f) × (callsIn ws ≡ map (λ c. c .1) cs)
-  pub alone : (cs : List (Bool × Call)) → callsAfter 0 (mixedWords cs) ≡ map (λ c. c .1) cs
+  pub further : (cs : List (Bool × Call)) → callsAfter 0 (mixedWords cs) ≡ map (λ c. c .1) cs

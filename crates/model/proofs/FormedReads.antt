@@ -127,13 +127,6 @@ module _ (g : Graph) (formed : WellFormed g) where
   pub seen-within : (r : ℕ) → r < runs g → (firstHeld g ≤ getD (g .seen) r 0) × (getD (g .seen) r 0 ≤ start g r)
   seen-within r h = unfold start in between-at (firstHeld g) (g .starts) (g .seen) (formed .seen) r (omega (arith, formed .seen-count))
 
-  -- A run that starts where every run from it on has seen to, or before, is marked
-  pub marked-of : (r : ℕ) → ((q : ℕ) → r ≤ q → q < runs g → start g r ≤ getD (g .seen) q 0) → marked g r ≡ true
-  unfolding marked
-  marked-of r h = getD-all (λ s. leb (start g r) s) (drop r (g .seen)) (λ i lt.
-      rw (getD-drop r (g .seen) i 0)
-      (le-leb (start g r) (getD (g .seen) (r + i) 0) (h (r + i) (omega arith) (omega (arith, length-drop r (g .seen), formed .seen-count)))))
-
   -- and "seen after" it between the first held event and `len`
   pub seenAfter-within : (r : ℕ) → r < runs g → (firstHeld g ≤ seenAfter g r) × (seenAfter g r ≤ len g)
   unfolding seenAfter
@@ -147,6 +140,13 @@ module _ (g : Graph) (formed : WellFormed g) where
       (eqb (getD (g .seen) r 0) (start g r))
       (first-start (suc r) (omega arith), start-len (suc r) (omega arith))
       (s .0, omega (arith, s .1, start-len r (omega arith)))
+
+  -- A run that starts where every run from it on has seen to, or before, is marked
+  pub marked-of : (r : ℕ) → ((q : ℕ) → r ≤ q → q < runs g → start g r ≤ getD (g .seen) q 0) → marked g r ≡ true
+  unfolding marked
+  marked-of r h = getD-all (λ s. leb (start g r) s) (drop r (g .seen)) (λ i lt.
+      rw (getD-drop r (g .seen) i 0)
+      (le-leb (start g r) (getD (g .seen) (r + i) 0) (h (r + i) (omega arith) (omega (arith, length-drop r (g .seen), formed .seen-count)))))
 
   -- The frontier rises, below `len`
   frontier-order : rising (g .frontier) && below (len g) (g .frontier) ≡ true

@@ -1,4 +1,4 @@
--- What a split, a grown run and a new run leave as it was of the runs before them. Assumes nothing.
+-- What a split, a grown run and a new run leave as it was of the other runs. Assumes nothing.
 use mathlib.Core.Path.{_≡_, refl, sym, ap, _∙_}
 use mathlib.Core.Bool.{Bool, true, false, not, _&&_}
 use mathlib.Core.List.{List, [], _∷_, _++_, map}
@@ -39,7 +39,7 @@ state-same g h q b c s t p m = go (ltb q (runs g)) (ltb q (runs h)) (lt-ltb q (r
     go false true x y = false-true x
     go false false x y = false-true x
 
--- A split of run r leaves the runs before it, and the first part's start and mark
+-- A split of run r leaves the runs before it, with the first part's start and mark
 module _ (g : Graph) (w : WellFormed g) (r at : ℕ) (b : r < runs g) where
   pub split-start : (q : ℕ) → q ≤ r → start (split g r at) q ≡ start g q
   unfolding start split
@@ -67,7 +67,7 @@ module _ (g : Graph) (w : WellFormed g) (r at : ℕ) (b : r < runs g) where
       and-idle false true h = h refl
       and-idle false false h = refl
 
-  -- The runs after it move up one, with their starts and marks
+  -- The runs after it move up one, and keep their starts and marks
   pub split-start-later : (q : ℕ) → r < q → start (split g r at) (suc q) ≡ start g q
   unfolding start split
   split-start-later q lt = insert-after (suc r) q at 0 (g .starts) (omega arith) (omega (arith, w .starts-count))

@@ -92,8 +92,9 @@ module _ (g : Graph) (w : WellFormed g) (S : SeenStarts g) (r at : ℕ) (b : r <
       ap (λ (k : ℕ). all (λ s. leb k s) (drop (suc r) (insertAt (suc r) second (g .seen)))) second-start ∙
       all-insert (λ s. leb at s) (suc r) (suc r) second (g .seen) (omega arith) (omega (arith, w .seen-count))
 
-  -- Then the run that is split was marked, and so was the next: what a later run has seen is a run's start from `at` on
+  -- Then the run that is split was marked, and so was the next, if there is one: what a later run has seen is a run's start from `at` on
   module _ (m : marked (split g r at) (suc r) ≡ true) where
+    -- it and all later runs have seen up to `at`
     both : leb at second && all (λ s. leb at s) (drop (suc r) (g .seen)) ≡ true
     both = sym second-is ∙ m
 
@@ -101,6 +102,7 @@ module _ (g : Graph) (w : WellFormed g) (S : SeenStarts g) (r at : ℕ) (b : r <
     later-seen q c lt = leb-true at (getD (g .seen) q 0)
         (all-from-on (λ s. leb at s) (suc r) q (g .seen) c (omega (arith, w .seen-count)) (and-right (leb at second) _ both))
 
+    -- the split run had seen up to its start, since else the second part has seen no more than it
     own-seen : start g r ≤ own
     unfolding secondSeen
     own-seen = go (eqb own (start g r)) refl (leb-true at second (and-left (leb at second) _ both))
@@ -125,6 +127,7 @@ module _ (g : Graph) (w : WellFormed g) (S : SeenStarts g) (r at : ℕ) (b : r <
         from-next q j i e k (inl c) = omega (arith, start-mono g w (suc r) j c i)
         from-next q j i e k (inr c) = absurd (omega (arith, start-mono g w j r c (omega arith)))
 
+    -- and of such a run a run start is told false
     was-alone : alone g r ≡ true
     unfolding alone
     was-alone = and-both (marked g r) _ run-marked (go (eqb (suc r) (runs g)) refl)
