@@ -7,7 +7,7 @@ use native.Mathlib.Omega.{arith}
 use lib.ListN.{length, length-append}
 use lib.Seq.{take-append-seam, drop-append-seam}
 use Rattle.model.specs.Log.{Fresh, new, after, Call, push, startRunAt, takeChangedFrom}
-use Rattle.calls.specs.Words.{operation, listIn, listed, startSize, startOf, callOperation, callSize, callOf, callsAfter, freshIn, callsIn, startWords, callWords, mixedWords, allWords, EveryList}
+use Rattle.calls.specs.Words.{operation, listIn, listed, startSize, startOf, callOperation, callSize, callOf, callsAfter, freshIn, callsIn, startWords, callWords, mixedWords, EveryList}
 use Rattle.calls.proofs.Reading.{whole-all}
 use Rattle.calls.proofs.Making.{after-add, front-next}
 
@@ -100,14 +100,6 @@ mixed-said f cs =
     ap (λ k. callsAfter k ws) (size ∙ plus) ∙ after-add n 0 ws ∙ ap (callsAfter 0) (drop-append-seam (startWords f) (mixedWords cs)) ∙ calls-back cs in
     (said ws some .0 ∙ start-front f (mixedWords cs), said ws some .1 ∙ rest)
 
+-- and so are their lists of further calls
 pub every-list : EveryList
 every-list = record { from-start = mixed-said; further = calls-back }
-
--- and all by value
-by-value : (cs : List Call) → calls (map (λ c. (false, c)) cs) ≡ cs
-by-value [] = refl
-by-value (c ∷ cs) = ap (λ ds. c ∷ ds) (by-value cs)
-
-pub all-said : (f : Fresh) (cs : List Call) → (freshIn (startWords f ++ allWords cs) ≡ f) × (callsIn (startWords f ++ allWords cs) ≡ cs)
-unfolding allWords
-all-said f cs = let s = mixed-said f (map (λ c. (false, c)) cs) in (s .0, s .1 ∙ by-value cs)

@@ -1,13 +1,13 @@
 -- Calls given as words, as in the trace program's scripts: which start and which calls a list of words is. Every list of words is read,
 -- up to its end, to an operation that is none of these, or to a call that is cut off. Assumes nothing.
 use mathlib.Core.Path.{_≡_}
-use mathlib.Core.Bool.{Bool, false, cond}
+use mathlib.Core.Bool.{Bool, cond}
 use mathlib.Core.List.{List, [], _∷_, _++_, map}
 use Prim.Native.Nat.{ℕ, zero, suc, _+_, _-_}
 use lib.ListN.{length, getD, take, drop}
 use lib.Dec.{leb, eqb}
 use Rattle.model.specs.declared.record.CausalGraph.{CausalGraph}
-use Rattle.model.specs.Log.{Fresh, new, after, Call, push, startRunAt, takeChangedFrom, answer}
+use Rattle.model.specs.Log.{Fresh, new, after, Call, push, startRunAt, takeChangedFrom, Log, answer, madeBy}
 
 -- the first word, which says the operation; 0 where there is no word
 unfoldable pub operation : List ℕ → ℕ
@@ -64,6 +64,10 @@ freshIn ws = elim (startSize ws) [ zero ↦ new | suc n ↦ startOf ws ]
 unfoldable pub callsIn : List ℕ → List Call
 callsIn ws = elim (startSize ws) [ zero ↦ [] | suc n ↦ callsAfter (suc n) ws ]
 
+-- the graph that the calls of a list of words leave, and the plain log that is fed these calls and their answers
+abbrev pub calledBy : List ℕ → CausalGraph × Log
+calledBy ws = madeBy (freshIn ws) (callsIn ws)
+
 -- the graph after a list of calls: `afterCalls` without the log
 unfoldable pub graphAfter : CausalGraph → List Call → CausalGraph
 graphAfter g [] = g
@@ -79,13 +83,10 @@ callWords lent (push ps n) = cond lent 16 2 ∷ n ∷ length ps ∷ ps
 callWords lent (startRunAt at) = cond lent 17 3 ∷ at ∷ []
 callWords lent takeChangedFrom = cond lent 18 4 ∷ []
 
--- the words of calls, of which each is lent or not; and of calls that are all by value
+-- the words of calls, of which each is lent or not
 unfoldable pub mixedWords : List (Bool × Call) → List ℕ
 mixedWords [] = []
 mixedWords (c ∷ cs) = callWords (c .0) (c .1) ++ mixedWords cs
-
-unfoldable pub allWords : List Call → List ℕ
-allWords cs = mixedWords (map (λ c. (false, c)) cs)
 
 -- "every list" of demand 3 and of 02: every start with every list of calls, each by value or lent, is what some words say, and so is every list
 -- of further calls

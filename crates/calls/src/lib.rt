@@ -6,11 +6,11 @@ pub mod lending;
 ghost use mathlib.Core.Path.{_≡_};
 ghost use Prim.Native.Nat.{_+_, _<_, _≤_};
 ghost use lib.ListN.{length, getD};
-ghost use Rattle.model.specs.Log.{begin as Log·begin, answer, madeBy};
+ghost use Rattle.model.specs.Log.{begin as Log·begin, answer};
 ghost use Rattle.model.specs.Push.{pushOf};
 ghost use Rattle.model.specs.Start.{startRunAtOf, takeChangedFromOf};
 ghost use Rattle.calls.specs.Words.{listIn, whole as Words·whole, listed as Words·listed, startSize, startOf};
-ghost use Rattle.calls.specs.Words.{callOperation, callSize, callOf, callsAfter, freshIn, callsIn, graphAfter, EveryList};
+ghost use Rattle.calls.specs.Words.{callOperation, callSize, callOf, callsAfter, calledBy, graphAfter, EveryList};
 ghost use Rattle.calls.specs.Again.{StartsAgain};
 use model::BoolAnswer;
 use model::CausalGraph;
@@ -163,7 +163,7 @@ fn calls(g: CausalGraph, words: &[u32], from: usize) -> CausalGraph
 
 // The graph that a list of calls makes.
 pub fn made_by(words: &[u32]) -> CausalGraph
-    ensures { λ r. ⌜ r ≡ (madeBy (freshIn (now (words .entry))) (callsIn (now (words .entry)))) .0 ⌝ }
+    ensures { λ r. ⌜ r ≡ calledBy (now (words .entry)) .0 ⌝ }
 {
     let start = start_size(words);
     if start == 0 {

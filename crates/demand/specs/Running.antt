@@ -10,18 +10,12 @@ use Rattle.model.specs.Walk.{WalkResult, walkOf}
 use Rattle.model.specs.Replay.{replayOf}
 use Rattle.model.specs.Book.{bookOf}
 use Rattle.model.specs.Print.{Line, movedLine, printed, replayText}
-use Rattle.model.specs.Log.{Log, madeBy, runCount}
+use Rattle.model.specs.Log.{Log, runCount}
 use Rattle.model.specs.PlainSet.{ReplayFollows, WalkFollows}
 use Rattle.model.specs.Claim.{RowRoom, StepRoom}
 use Rattle.model.specs.BookCalls.{bookLog, LinesFollow}
-use Rattle.calls.specs.Words.{freshIn, callsIn}
 use Rattle.book.specs.declared.printing.Printed.{Printed}
 use Rattle.book.specs.Output.{maxText, printing}
-
--- The graph that the calls of a list of words left, and the plain log that was fed these calls and their answers. Words say "every list":
--- `EveryList` of crates/calls
-abbrev pub calledBy : List ℕ → CausalGraph × Log
-calledBy ws = madeBy (freshIn ws) (callsIn ws)
 
 -- The graph that a book gives, and the plain log of its calls
 abbrev pub bookBy : List ℕ → CausalGraph × Log

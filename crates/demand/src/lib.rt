@@ -1,6 +1,7 @@
 // Demand 3 of code that runs: a list of calls, or a book, and then a full replay or a walk of the graph that was left. The contracts say
 // what is left in the lent lists, and that it follows on the plain log of the same calls.
-ghost use Rattle.demand.specs.Running.{calledBy, bookBy, Replayed, WalkedOver, BookPrinted};
+ghost use Rattle.calls.specs.Words.{calledBy};
+ghost use Rattle.demand.specs.Running.{bookBy, Replayed, WalkedOver, BookPrinted};
 use book::Printed;
 use model::EventRunIndex;
 use model::Walked;

@@ -18,7 +18,7 @@ use Rattle.lists.specs.Scans.{lastAtMost}
 use Rattle.lists.proofs.Pads.{add-pad}
 use Rattle.lists.proofs.Members.{map-mem, mem-filter}
 use Rattle.lists.proofs.Bounds.{below-at}
-use Rattle.lists.proofs.Bounds.{largest-least}
+use Rattle.lists.proofs.Bounds.{largest-has}
 use Rattle.model.specs.declared.record.CausalGraph.{CausalGraph}
 use Rattle.model.specs.declared.record.EventIndex.{EventIndex}
 use Rattle.model.specs.Graph.{Graph, runs, firstHeld, len, entries, containing, held}
@@ -233,7 +233,7 @@ parent-run-in a formed ps known r m =
 pub own-seen : (a : Graph) → WellFormed a → (ps : List ℕ) → below (len a) ps ≡ true →
     ownRuns a (ownIn (concat (a .parents)) (firstHeld a)) ps .1 .seen .0 ≡ largest (firstHeld a) (map (seenAfter a) (parentRuns a ps))
 own-seen a formed ps known =
-    let most = largest-least (firstHeld a) (firstHeld a) (map (seenAfter a) (parentRuns a ps)) (omega arith) one in
+    let most = largest-has (λ x. firstHeld a ≤ x) (firstHeld a) (map (seenAfter a) (parentRuns a ps)) (omega arith) one in
     own-most a (ownIn (concat (a .parents)) (firstHeld a)) ps ∙ omega (arith, most)
   where
     one : (x : ℕ) → mem x (map (seenAfter a) (parentRuns a ps)) ≡ true → firstHeld a ≤ x

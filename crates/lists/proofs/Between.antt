@@ -1,7 +1,7 @@
 -- Numbers between two bounds, and how many there are. Assumes nothing.
 use mathlib.Core.Path.{_≡_}
 use mathlib.Core.Logic.{_⊎_, inl, inr}
-use mathlib.Core.Bool.{Bool, true, false, cond, _&&_}
+use mathlib.Core.Bool.{Bool, true, false, _&&_}
 use Prim.Native.Nat.{ℕ, zero, suc, _+_, _-_, _≤_, _<_, min, max}
 use native.Mathlib.Omega.{arith}
 use lib.Dec.{leb, ltb, eqb}
@@ -70,8 +70,3 @@ count-between p q a (suc k) = go (lt-or-le a p) (lt-or-le a q) (count-between p 
     go (inl x) y ih = rw (within-before p q a x) (omega arith)
     go (inr x) (inl y) ih = rw (within-in p q a x y) (omega arith)
     go (inr x) (inr y) ih = rw (within-after p q a y) (omega arith)
-
--- One of two numbers lies between bounds of both
-pub cond-within : (lo hi a b : ℕ) (t : Bool) → (lo ≤ a) × (a ≤ hi) → (lo ≤ b) × (b ≤ hi) → (lo ≤ cond t a b) × (cond t a b ≤ hi)
-cond-within lo hi a b true p q = p
-cond-within lo hi a b false p q = q

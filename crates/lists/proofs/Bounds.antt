@@ -43,13 +43,6 @@ largest-has P d (x ∷ y ∷ ys) k h =
     go l (inl c) p q = let e : l ≡ max x l = omega arith in subst P e q
     go l (inr c) p q = let e : x ≡ max x l = omega arith in subst P e p
 
--- so it is at least what all are, and at most what all are
-pub largest-least : (lo d : ℕ) (xs : List ℕ) → lo ≤ d → ((x : ℕ) → mem x xs ≡ true → lo ≤ x) → lo ≤ largest d xs
-largest-least lo d xs k h = largest-has (λ x. lo ≤ x) d xs k h
-
-pub largest-most : (hi d : ℕ) (xs : List ℕ) → d ≤ hi → ((x : ℕ) → mem x xs ≡ true → x ≤ hi) → largest d xs ≤ hi
-largest-most hi d xs k h = largest-has (λ x. x ≤ hi) d xs k h
-
 -- No number of it is larger
 pub largest-get : (xs : List ℕ) (i : ℕ) → getD xs i 0 ≤ largest 0 xs
 unfolding largest

@@ -8,18 +8,18 @@ use lib.ListN.{length, getD, take, length-map, length-take, List·getD-append}
 use lib.Seq.{getD-at, getD-take, length-take-le}
 use lib.Dec.{leb, ltb, eqb}
 use borrow.Author.Tests.{lt-ltb, le-leb, eq-eqb}
-use Rattle.lists.specs.Lists.{mem, rising, below, same, filter}
+use Rattle.lists.specs.Lists.{mem, rising, below, filter}
 use Rattle.lists.proofs.Truth.{and-left, and-right, and-both, or-right}
-use Rattle.lists.proofs.Between.{cond-within}
 use Rattle.lists.proofs.Members.{mem-filter, map-mem}
 use Rattle.lists.proofs.Counts.{length-snoc, sum-snoc}
 use Rattle.lists.proofs.Rising.{rising-snoc, rising-filter, rising-map, rising-take}
-use Rattle.lists.proofs.Bounds.{below-of, below-at, below-getD, below-snoc, largest-has, least-le}
+use Rattle.lists.proofs.Bounds.{below-of, below-at, below-getD, below-snoc, least-le}
 use Rattle.model.specs.Graph.{Graph, runs, start, firstHeld, len, entries, containing, marks, held}
 use Rattle.lists.specs.Scans.{groupsFit, between}
 use Rattle.model.specs.Broken.{WellFormed, frontierFits}
 use Rattle.model.specs.Split.{ends}
-use Rattle.model.specs.Push.{staying, grown, parentRuns, seenAfter, newSeen, joined, lowered}
+use Rattle.model.specs.Push.{staying, grown, parentRuns, newSeen, joined, lowered}
+use Rattle.model.proofs.SeenFrom.{new-has}
 use Rattle.model.proofs.FormedReads.{parents-row, parents-first, start-len, first-len, containing-in, containing-less, seenAfter-within, frontier-rising, frontier-below}
 use Rattle.model.proofs.FormedSplitAll.{Inside}
 
@@ -86,16 +86,9 @@ module _ (g : Graph) (formed : WellFormed g) (ps : List ℕ) (inside : Inside g 
 
   -- What it has seen lies between the first held event and `len`
   pub newSeen-within : (firstHeld g ≤ newSeen g ps) × (newSeen g ps ≤ len g)
-  unfolding newSeen
   newSeen-within =
-      cond-within (firstHeld g) (len g) (len g) _ (same ps (g .frontier)) (first-len g formed, omega arith)
-      (largest-has (λ x. (firstHeld g ≤ x) × (x ≤ len g)) (firstHeld g) (map (seenAfter g) (parentRuns g ps)) (omega arith, first-len g formed) one)
-    where
-      one : (x : ℕ) → mem x (map (seenAfter g) (parentRuns g ps)) ≡ true → (firstHeld g ≤ x) × (x ≤ len g)
-      one x m =
-          let w : (r : ℕ) × (mem r (parentRuns g ps) ≡ true) × (x ≡ seenAfter g r) = map-mem (seenAfter g) x (parentRuns g ps) m in
-          let s = seenAfter-within g formed (w .0) (parentRuns-below (w .0) (w .1)) in
-          (omega (arith, w .2, s .0), omega (arith, w .2, s .1))
+      new-has (λ k. (firstHeld g ≤ k) × (k ≤ len g)) g ps (first-len g formed, omega arith) (omega arith, first-len g formed)
+      (λ r m. seenAfter-within g formed r (parentRuns-below r m))
 
 -- What the frontier becomes, in either case
 module _ (g : Graph) (formed : WellFormed g) (ps : List ℕ) (n : ℕ) (some : 0 < n) where

@@ -12,7 +12,6 @@ use lib.Dec.{leb, ltb, eqb}
 use borrow.Author.Tests.{ltb-true, ltb-false, leb-true, leb-false, eqb-true, lt-ltb, le-ltb, le-leb, lt-leb, ne-eqb}
 use Rattle.lists.specs.Lists.{count, mem, rising, below}
 use Rattle.lists.proofs.Truth.{lt-eq-gt, false-true, and-left, and-right, and-both}
-use Rattle.lists.proofs.Between.{cond-within}
 use Rattle.lists.proofs.Members.{mem-index, getD-mem, getD-all}
 use Rattle.lists.proofs.Rising.{rising-getD, rising-less, rising-count}
 use Rattle.lists.proofs.Bounds.{below-at}
@@ -21,6 +20,7 @@ use Rattle.lists.specs.Scans.{between, groupsFit}
 use Rattle.model.specs.Broken.{WellFormed, frontierFits}
 use Rattle.model.specs.Split.{ends}
 use Rattle.model.specs.Push.{seenAfter}
+use Rattle.model.proofs.SeenFrom.{after-has}
 
 -- Each seen length that fits lies between its bounds
 pub between-at : (f : ℕ) (xs ss : List ℕ) → between f xs ss ≡ true → (i : ℕ) → i < length ss → (f ≤ getD ss i 0) × (getD ss i 0 ≤ getD xs i 0)
@@ -129,16 +129,9 @@ module _ (g : Graph) (formed : WellFormed g) where
 
   -- and "seen after" it between the first held event and `len`
   pub seenAfter-within : (r : ℕ) → r < runs g → (firstHeld g ≤ seenAfter g r) × (seenAfter g r ≤ len g)
-  unfolding seenAfter
   seenAfter-within r h =
       let s = seen-within r h in
-      cond-within
-      (firstHeld g)
-      (len g)
-      (start g (suc r))
-      (getD (g .seen) r 0)
-      (eqb (getD (g .seen) r 0) (start g r))
-      (first-start (suc r) (omega arith), start-len (suc r) (omega arith))
+      after-has (λ k. (firstHeld g ≤ k) × (k ≤ len g)) g r (first-start (suc r) (omega arith), start-len (suc r) (omega arith))
       (s .0, omega (arith, s .1, start-len r (omega arith)))
 
   -- A run that starts where every run from it on has seen to, or before, is marked

@@ -1,12 +1,12 @@
 -- A split keeps a graph well-formed, with one run and one entry more. Assumes nothing.
 use mathlib.Core.Path.{_≡_, refl, ap, _∙_}
 use mathlib.Core.Logic.{_⊎_, inl, inr}
-use mathlib.Core.Bool.{Bool, true, false, cond, _&&_}
+use mathlib.Core.Bool.{true, _&&_}
 use mathlib.Core.List.{List, [], _∷_, map}
 use Prim.Native.Nat.{ℕ, zero, suc, _+_, _≤_, _<_}
 use native.Mathlib.Omega.{arith}
-use lib.ListN.{length, getD, length-map}
-use lib.Dec.{leb, eqb}
+use lib.ListN.{length, length-map}
+use lib.Dec.{leb}
 use borrow.Author.Tests.{lt-ltb, le-ltb, le-leb, ne-eqb}
 use Rattle.lists.specs.Lists.{sum, insertAt, mem, rising, below}
 use Rattle.lists.proofs.Truth.{lt-or-le, and-left, and-right, and-both}
@@ -18,6 +18,7 @@ use Rattle.model.specs.Graph.{Graph, runs, start, firstHeld, len, entrie
 use Rattle.lists.specs.Scans.{groupsFit, between}
 use Rattle.model.specs.Broken.{WellFormed, frontierFits}
 use Rattle.model.specs.Split.{renumber, secondSeen, split, ends}
+use Rattle.model.proofs.SeenFrom.{second-has}
 use Rattle.model.proofs.FormedReads.{parents-row, parents-first, seen-within}
 
 -- Runs from the split one on move up one, the others stay
@@ -105,15 +106,6 @@ parents-insert k (suc i) r (ps ∷ pss) h q e =
     (renumber-rising r ps (w .0))
     (renumber-stay r k ps (omega arith) (w .1))
     (parents-insert (suc k) i r pss (omega arith) (omega arith) (w .2))
-
--- The second part of a split has seen up to its own start, or what the first has
-pub second-has : (P : ℕ → Type 0) (g : Graph) (r at : ℕ) → P at → P (getD (g .seen) r 0) → P (secondSeen g r at)
-unfolding secondSeen
-second-has P g r at p q = go (eqb (getD (g .seen) r 0) (start g r))
-  where
-    go : (t : Bool) → P (cond t at (getD (g .seen) r 0))
-    go true = p
-    go false = q
 
 -- Seen lengths with that of the second part put in
 seen-insert : (f i at s : ℕ) (xs ss : List ℕ) → i < length xs → i < length ss → between f xs ss ≡ true → (f ≤ s) × (s ≤ at) →

@@ -96,6 +96,7 @@ zero-fresh : (events : ℕ) (frontier : List ℕ) → fresh events frontier .cha
 unfolding fresh
 zero-fresh events frontier = refl
 
+-- Calls one list after another, from a fresh start
 pub made-append : (f : Fresh) (cs ds : List Call) → madeBy f (cs ++ ds) ≡ afterCalls ((madeBy f cs) .0) ((madeBy f cs) .1) ds
 unfolding madeBy
 made-append f cs ds = calls-append cs ds ((begin f) .1) (beginLog f ((begin f) .0))

@@ -20,8 +20,9 @@ use Rattle.model.specs.Broken.{WellFormed}
 use Rattle.model.specs.Split.{renumber, secondSeen, split}
 use Rattle.model.specs.Push.{grown, newSeen, parentRuns, joined, lowered}
 use Rattle.model.specs.Claim.{runState}
+use Rattle.model.proofs.SeenFrom.{second-has}
 use Rattle.model.proofs.FormedReads.{groupsFit-at, start-mono}
-use Rattle.model.proofs.FormedSplits.{renumber-below, second-has}
+use Rattle.model.proofs.FormedSplits.{renumber-below}
 use Rattle.model.proofs.FormedJoins.{joined-runs}
 
 -- Two graphs alike at a run

@@ -13,7 +13,7 @@ use Rattle.lists.proofs.Truth.{lt-or-le, false-true, and-left, and-right, or-ca
 use Rattle.lists.proofs.Members.{mem-index}
 use Rattle.lists.proofs.Counts.{mem-from, from-mem}
 use Rattle.lists.proofs.Passing.{passing, passing-rises}
-use Rattle.lists.proofs.Bounds.{largest-most, largest-get}
+use Rattle.lists.proofs.Bounds.{largest-has, largest-get}
 use Rattle.model.specs.EventGraph.{HappenedBefore, parent, further, Lower}
 use Rattle.model.specs.Graph.{Graph, runs, start, len}
 use Rattle.model.specs.Record.{view}
@@ -55,7 +55,7 @@ history ps b q r = go (lt-or-le r (length ps))
 last : (g : Graph) → WellFormed g → largest 0 (g .starts) ≡ len g
 unfolding len start
 last g formed =
-    let most : largest 0 (g .starts) ≤ len g = largest-most (len g) 0 (g .starts) (omega arith) (λ x m.
+    let most : largest 0 (g .starts) ≤ len g = largest-has (λ x. x ≤ len g) 0 (g .starts) (omega arith) (λ x m.
     let w : (j : ℕ) × (j < length (g .starts)) × (getD (g .starts) j 0 ≡ x) = mem-index x 0 (g .starts) m in
     omega (arith, w .2, start-len g formed (w .0) (omega (arith, w .1, formed .starts-count)))) in
     omega (arith, most, largest-get (g .starts) (runs g))

@@ -12,11 +12,12 @@ use borrow.Author.Tests.{leb-true, eqb-true}
 use Rattle.lists.specs.Lists.{mem, same, largest}
 use Rattle.lists.proofs.Truth.{lt-or-le, eq-or-not, lt-of-ne, lt-eq-gt}
 use Rattle.lists.proofs.Members.{mem-filter, map-mem, same-eq}
-use Rattle.lists.proofs.Bounds.{largest-least, largest-most, largest-from}
+use Rattle.lists.proofs.Bounds.{largest-from}
 use Rattle.model.specs.EventGraph.{reaches, ancestor}
 use Rattle.model.specs.Graph.{Graph, start, len, firstHeld, containing, held}
 use Rattle.model.specs.Push.{parentRuns, seenAfter, newSeen, joined}
 use Rattle.model.specs.Log.{Log, runStart, heldOf, eventGraph}
+use Rattle.model.proofs.SeenFrom.{after-has, new-has}
 use Rattle.model.proofs.Exact.{ancestors}
 use Rattle.model.proofs.Runs.{first-next}
 use Rattle.model.proofs.Tied.{Tied, low, high, step, down}
@@ -112,47 +113,24 @@ module _ (g : Graph) (l : Log) (v : Inv g l) (ps : List ℕ) (n : ℕ) (pos : 0 
           let k : z .0 ≡ seenAfter g (containing g (b .0)) = a .2 ∙ ap (seenAfter g) (b .2) in
           (b .0, subst (λ (xs : List ℕ). mem (b .0) xs ≡ true) (held-tied g l t ps) (b .1), omega (arith, z .2, k))
 
-  after-known : (j : ℕ) → j < c → seenAfter g j ≤ l .next
-  unfolding seenAfter
-  after-known j lt = go (eqb (getD (g .seen) j 0) (start g j))
-    where
-      go : (b : Bool) → cond b (start g (suc j)) (getD (g .seen) j 0) ≤ l .next
-      go true = omega (arith, start-is g l t (suc j) lt, high g l t (suc j))
-      go false = omega (arith, v .seen .most j lt, high g l t j)
+  -- What a parent run hands on lies between the first held event and the next one
+  after-bounds : (j : ℕ) → j < c → (l .firstHeld ≤ seenAfter g j) × (seenAfter g j ≤ l .next)
+  after-bounds j lt = after-has (λ s. (l .firstHeld ≤ s) × (s ≤ l .next)) g j
+      (omega (arith, start-is g l t (suc j) lt, low g l t (suc j)), omega (arith, start-is g l t (suc j) lt, high g l t (suc j)))
+      (v .seen .least j lt, omega (arith, v .seen .most j lt, high g l t j))
 
-  after-least : (j : ℕ) → j < c → l .firstHeld ≤ seenAfter g j
-  unfolding seenAfter
-  after-least j lt = go (eqb (getD (g .seen) j 0) (start g j))
-    where
-      go : (b : Bool) → l .firstHeld ≤ cond b (start g (suc j)) (getD (g .seen) j 0)
-      go true = omega (arith, start-is g l t (suc j) lt, low g l t (suc j))
-      go false = v .seen .least j lt
-
-  -- and lies between the first held event and the next one
-  own-run : (x : ℕ) → mem x (map (seenAfter g) own) ≡ true → (j : ℕ) × (j < c) × (x ≡ seenAfter g j)
+  own-run : (j : ℕ) → mem j own ≡ true → j < c
   unfolding parentRuns
-  own-run x m =
-      let a : (j : ℕ) × (mem j own ≡ true) × (x ≡ seenAfter g j) = map-mem (seenAfter g) x own m in
-      let b : (p : ℕ) × (mem p (held g ps) ≡ true) × (a .0 ≡ containing g p) = map-mem (containing g) (a .0) (held g ps) (a .1) in
-      let k : (containing g (b .0) < c) × _ = ends-run (b .0) (subst (λ (xs : List ℕ). mem (b .0) xs ≡ true) (held-tied g l t ps) (b .1)) in
-      (a .0, omega (arith, k .0, b .2), a .2)
+  own-run j m =
+      let b : (p : ℕ) × (mem p (held g ps) ≡ true) × (j ≡ containing g p) = map-mem (containing g) j (held g ps) m in
+      omega (arith, b .2, (ends-run (b .0) (subst (λ (xs : List ℕ). mem (b .0) xs ≡ true) (held-tied g l t ps) (b .1))) .0)
 
-  own-least : (x : ℕ) → mem x (map (seenAfter g) own) ≡ true → firstHeld g ≤ x
-  own-least x m = let a = own-run x m in omega (arith, first-tied g l t, a .2, after-least (a .0) (a .1))
-
-  own-most : (x : ℕ) → mem x (map (seenAfter g) own) ≡ true → x ≤ l .next
-  own-most x m = let a = own-run x m in omega (arith, a .2, after-known (a .0) (a .1))
-
+  -- and so does what the new run has seen
   news-bounds : (l .firstHeld ≤ news) × (news ≤ l .next)
-  unfolding newSeen
-  news-bounds = go (same ps (g .frontier))
-    where
-      go : (b : Bool) → (l .firstHeld ≤ cond b (len g) (largest (firstHeld g) (map (seenAfter g) own))) × (cond b (len g) (largest (firstHeld g) (map (seenAfter g) own)) ≤ l .next)
-      go true = (omega (arith, len-tied g l t, first-next l (t .edged)), omega (arith, len-tied g l t))
-      go false = (
-        omega (arith, first-tied g l t, largest-least (firstHeld g) (firstHeld g) (map (seenAfter g) own) (omega arith) own-least),
-        largest-most (l .next) (firstHeld g) (map (seenAfter g) own) (omega (arith, first-tied g l t, first-next l (t .edged))) own-most,
-      )
+  news-bounds = new-has (λ s. (l .firstHeld ≤ s) × (s ≤ l .next)) g ps
+      (omega (arith, len-tied g l t, first-next l (t .edged)), omega (arith, len-tied g l t))
+      (omega (arith, first-tied g l t), omega (arith, first-tied g l t, first-next l (t .edged)))
+      (λ j m. after-bounds j (own-run j m))
 
   news-sound : (e : ℕ) → l .firstHeld ≤ e → e < news → ancestors l₂ (l .next) e ≡ true
   unfolding ancestors ancestor heldOf newSeen

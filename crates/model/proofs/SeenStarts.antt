@@ -1,27 +1,25 @@
 -- Seen lengths are run starts: a fresh graph has none, and splits, growth and new runs keep it so. Assumes nothing.
 use mathlib.Core.Path.{_≡_, sym, _∙_, subst}
 use mathlib.Core.Logic.{_⊎_, inl, inr}
-use mathlib.Core.Bool.{Bool, true, false, cond}
-use mathlib.Core.List.{List, [], _∷_, map}
+use mathlib.Core.Bool.{true}
+use mathlib.Core.List.{List, [], _∷_}
 use Prim.Native.Nat.{ℕ, suc, _+_, _≤_, _<_}
 use native.Mathlib.Omega.{arith}
 use lib.ListN.{length, getD, take, length-take}
 use lib.Seq.{getD-take}
-use lib.Dec.{eqb}
-use Rattle.lists.specs.Lists.{mem, same, largest, insertAt}
+use Rattle.lists.specs.Lists.{mem, insertAt}
 use Rattle.lists.proofs.Truth.{lt-or-le, eq-or-not, false-true, or-cases, or-left}
-use Rattle.lists.proofs.Members.{mem-one, mem-append, mem-index, getD-mem, map-mem}
-use Rattle.lists.proofs.Bounds.{largest-has}
+use Rattle.lists.proofs.Members.{mem-one, mem-append, mem-index, getD-mem}
 use Rattle.lists.proofs.Inserts.{insert-new, insert-other, insert-keeps}
 use Rattle.model.specs.Graph.{Graph, runs, start, firstHeld, len, held}
 use Rattle.model.specs.Broken.{WellFormed}
 use Rattle.model.specs.Fresh.{fresh}
 use Rattle.model.specs.Split.{secondSeen, split}
-use Rattle.model.specs.Push.{grown, parentRuns, seenAfter, newSeen, joined, lowered}
+use Rattle.model.specs.Push.{grown, newSeen, joined, lowered}
 use Rattle.model.specs.Start.{taken}
 use Rattle.model.specs.StaysTrue.{SeenStarts}
+use Rattle.model.proofs.SeenFrom.{second-has, after-has, new-has}
 use Rattle.model.proofs.FormedReads.{start-less, seen-within}
-use Rattle.model.proofs.FormedSplits.{second-has}
 use Rattle.model.proofs.FormedSplitAll.{Inside}
 use Rattle.model.proofs.FormedJoins.{parentRuns-below}
 use Rattle.model.proofs.Persisting.{Persists}
@@ -74,29 +72,14 @@ module _ (s : Graph) (ps : List ℕ) (w : WellFormed s) (i : Inside s (held s ps
   unfolding start
   start-among r le = getD-mem (s .starts) r 0 (omega (arith, w .starts-count))
 
-  after-among : (r : ℕ) → r < runs s → mem (seenAfter s r) (s .starts) ≡ true
-  unfolding seenAfter
-  after-among r lt = go (eqb own (start s r))
-    where
-      own : ℕ
-      own = getD (s .seen) r 0
-
-      go : (t : Bool) → mem (cond t (start s (suc r)) own) (s .starts) ≡ true
-      go true = start-among (suc r) lt
-      go false = S own (getD-mem (s .seen) r 0 (omega (arith, w .seen-count)))
-
   new-among : mem (newSeen s ps) (s .starts) ≡ true
-  unfolding newSeen len firstHeld
-  new-among = go (same ps (s .frontier))
+  unfolding len firstHeld
+  new-among = new-has among s ps (start-among (runs s) (omega arith)) (start-among 0 (omega arith)) (λ r m.
+      let lt : r < runs s = parentRuns-below s w ps i r m in
+      after-has among s r (start-among (suc r) lt) (S (getD (s .seen) r 0) (getD-mem (s .seen) r 0 (omega (arith, w .seen-count)))))
     where
-      handed : (x : ℕ) → mem x (map (seenAfter s) (parentRuns s ps)) ≡ true → mem x (s .starts) ≡ true
-      handed x m =
-          let p : (r : ℕ) × (mem r (parentRuns s ps) ≡ true) × (x ≡ seenAfter s r) = map-mem (seenAfter s) x (parentRuns s ps) m in
-          subst (λ (y : ℕ). mem y (s .starts) ≡ true) (sym (p .2)) (after-among (p .0) (parentRuns-below s w ps i (p .0) (p .1)))
-
-      go : (t : Bool) → mem (cond t (len s) (largest (firstHeld s) (map (seenAfter s) (parentRuns s ps)))) (s .starts) ≡ true
-      go true = start-among (runs s) (omega arith)
-      go false = largest-has (λ x. mem x (s .starts) ≡ true) (firstHeld s) (map (seenAfter s) (parentRuns s ps)) (start-among 0 (omega arith)) handed
+      among : ℕ → Type 0
+      among x = mem x (s .starts) ≡ true
 
   joined-among : (n : ℕ) → SeenAmong (lowered s (joined s ps n))
   unfolding lowered joined

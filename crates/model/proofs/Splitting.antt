@@ -19,7 +19,8 @@ use Rattle.model.specs.Graph.{Graph, start}
 use Rattle.model.specs.History.{at}
 use Rattle.model.specs.Split.{renumber, secondSeen, split}
 use Rattle.model.specs.Log.{Log, runStart, heldOf, heldBefore, eventGraph, edge, logStart}
-use Rattle.model.proofs.FormedSplits.{renumber-below, renumber-from, renumber-le, second-has}
+use Rattle.model.proofs.SeenFrom.{second-has}
+use Rattle.model.proofs.FormedSplits.{renumber-below, renumber-from, renumber-le}
 use Rattle.model.proofs.Histories.{Below}
 use Rattle.model.proofs.Exact.{ancestors}
 use Rattle.model.proofs.Tied.{lastOf, Tied, alone, down}

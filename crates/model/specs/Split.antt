@@ -11,7 +11,7 @@ use Rattle.model.specs.Graph.{Graph, start, containing, held}
 unfoldable pub renumber : ℕ → ℕ → ℕ
 renumber r p = cond (ltb p r) p (suc p)
 
--- What the second part of run r has seen: "`at` if the first's seen equals its start, else the same"
+-- What the second part of run r gets: "seen `at` if the first's seen equals its start, else the same seen"
 unfoldable pub secondSeen : Graph → ℕ → ℕ → ℕ
 secondSeen g r at = let seen = getD (g .seen) r 0 in cond (eqb seen (start g r)) at seen
 

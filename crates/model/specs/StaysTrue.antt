@@ -34,7 +34,7 @@ pub record StaysTrue : Type 0 where
       let g : CausalGraph = madeBy f (cs ++ startRunAt at ∷ ds) .0 in startRunAtOf g at ≡ told g true
   -- It rests on this. Told true, a run start leaves an unmarked run that starts there ..
   pub leaves-unmarked : (f : Fresh) (cs : List Call) (at : ℕ) → ToldTrue (madeBy f cs .0) at → UnmarkedAt (view (madeBy f (cs ++ startRunAt at ∷ []) .0)) at
-  -- .. since seen lengths are run starts: none lies between the start of the run that is split and `at`
+  -- .. since seen lengths are run starts: none lies inside the run that is split
   pub seen-starts : (f : Fresh) (cs : List Call) → SeenStarts (view (madeBy f cs .0))
   -- An unmarked run stays unmarked, whatever calls follow, and keeps its start
   pub unmarked-stays : (f : Fresh) (cs ds : List Call) (e : ℕ) → UnmarkedAt (view (madeBy f cs .0)) e → UnmarkedAt (view (madeBy f (cs ++ ds) .0)) e

@@ -3,8 +3,7 @@ use mathlib.Core.Path.{_∙_, ap}
 use Rattle.model.specs.declared.record.CausalGraph.{CausalGraph}
 use Rattle.model.specs.Replay.{replayOf}
 use Rattle.model.proofs.Demand.{claim}
-use Rattle.calls.specs.Words.{freshIn, callsIn}
-use Rattle.demand.specs.Running.{calledBy}
+use Rattle.calls.specs.Words.{freshIn, callsIn, calledBy}
 use Rattle.demand.proofs.Ran.{replayed}
 use borrow.Author.Needs.{needs}
 use Rattle.demand.proofs.replay_calls.Statement.{statement}
