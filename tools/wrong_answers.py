@@ -247,6 +247,8 @@ def wanted(words):
 
 if __name__ == "__main__":
     done = []
+    if LOGS:
+        os.makedirs(LOGS, exist_ok=True)
     with tempfile.TemporaryDirectory() as folder:
         tree = os.path.join(folder, "tree")
         shutil.copytree(TOP, tree, ignore=shutil.ignore_patterns(".git"))

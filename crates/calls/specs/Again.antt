@@ -14,8 +14,8 @@ use Rattle.calls.specs.Words.{callsAfter, freshIn, callsIn, calledBy}
 abbrev pub calledAgain : List ℕ → ℕ → List ℕ → CausalGraph
 calledAgain ws at between = madeBy (freshIn ws) (callsIn ws ++ startRunAt at ∷ callsAfter 0 between) .0
 
--- Both run starts are those of 01, the first on the graph that the calls of `ws` left, the later on that one; and "a position that was once told true is told true by
--- any later run start at it, and that later call leaves the graph unchanged"
+-- Both run starts are those of 01, the first on the graph that the calls of `ws` left, the later on the one above; and "a position that was
+-- once told true is told true by any later run start at it, and that later call leaves the graph unchanged"
 pub record StartsAgain (ws : List ℕ) (at : ℕ) (between : List ℕ) (r : StartedAgain) : Type 0 where
   pub first : r .first ≡ startRunAtOf (calledBy ws .0) at .answer
   pub given : r .given ≡ calledAgain ws at between
