@@ -8,7 +8,7 @@
 //! where the record is broken, all that looks at the graph is refused by 1.
 
 use crate::calls::{rust_cut, rust_marks, rust_parents, rust_starts, rust_walk};
-use crate::model::{Graph, Triple, APPLY, LINEAR, OPEN};
+use crate::model::{Graph, Side, Triple, APPLY, LINEAR, OPEN};
 use crate::record::{self, Record};
 use std::fmt::{Debug, Display};
 use strider_graph::CausalGraph;
@@ -106,7 +106,7 @@ fn of_broken(operation: u32) -> &'static str {
         8 => "archive 1 0 :",
         9 => "concurrent 1 0 :",
         10 => "run 1 0 : 1 0 0 : 1",
-        11 => "event 1 0",
+        11 => "event 1 0 0",
         12 => "extends 1 0",
         _ => "graph 1",
     }
@@ -298,8 +298,9 @@ impl Oracle {
                 format!("run {} {} : {} {} {} : {}{}", refusals.0, start.unwrap_or(0), refusals.1, range.start, range.end, refusals.2, words(parents.unwrap_or_default()))
             }
             11 => match self.model.containing(call[1]) {
-                Ok(run) => format!("event 0 {}", same("containing", self.of_rust(|rust| rust.runs().containing(call[1])), run)),
-                Err(refusal) => format!("event {refusal} 0"),
+                Side::Run(run) => format!("event 0 0 {}", same("containing", self.of_rust(|rust| rust.runs().containing(call[1])), run)),
+                Side::Before => "event 0 1 0".into(),
+                Side::Unknown => "event 0 2 0".into(),
             },
             12 => {
                 let list = &call[2..];

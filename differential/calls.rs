@@ -1,7 +1,7 @@
 //! A call with its arguments, made on the Rust's graph and on document 01's plain model.
 //! Both answers are text in the same form, so that equal answers are equal text.
 
-use crate::model::{self, Graph, Triple};
+use crate::model::{self, Graph, Side, Triple};
 use std::fmt;
 use std::panic::{catch_unwind, AssertUnwindSafe};
 use strider_graph::{walk, CausalGraph, HistoryRange, WalkStep};
@@ -166,7 +166,11 @@ fn model_call(graph: &mut Graph, call: &Call) -> Result<String, u32> {
         Start(run) => graph.start(*run)?.to_string(),
         Events(run) => range(graph.events(*run)?),
         Parents(run) => list(graph.parents_of(*run)?),
-        Containing(event) => graph.containing(*event)?.to_string(),
+        Containing(event) => match graph.containing(*event) {
+            Side::Run(run) => run.to_string(),
+            Side::Before => "before the graph".into(),
+            Side::Unknown => "not yet known".into(),
+        },
         Extends(parents) => graph.extends_last_event(parents).to_string(),
         Cut(from) => cut_text(&graph.cut(*from)?),
         Walk(from, to, known, first) => steps_text(&graph.walk(*from, *to, *known, *first)?.steps),

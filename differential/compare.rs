@@ -78,7 +78,7 @@ struct Outcome {
 
 /// What is of note in a line of a walk, a replay or a concurrency list.
 fn note(notes: &mut Notes, call: &[u32], line: &str) {
-    if ![6, 7, 9].contains(&call[0]) {
+    if ![6, 7, 9, 11].contains(&call[0]) {
         return;
     }
     let words: Vec<u64> = line.split(' ').skip(1).take(3).filter_map(|word| word.parse().ok()).collect();
@@ -88,6 +88,12 @@ fn note(notes: &mut Notes, call: &[u32], line: &str) {
         return;
     }
     let (refusal, count, moved) = (words[0], words[1], words[2]);
+    if call[0] == 11 {
+        more("events in a run", (refusal == 0 && count == 0) as u64);
+        more("events before the graph", (count == 1) as u64);
+        more("events not yet known", (count == 2) as u64);
+        return;
+    }
     more("steps compared", count);
     if call[0] == 7 {
         more("replays with `moved` above 4,294,967,295", (moved > u32::MAX as u64) as u64);
@@ -448,6 +454,7 @@ fn main() {
     part("records, one for each clause by which 01 calls a graph broken, and near misses", &|feed| records::by_clause(feed, true));
     part("random records, most with one word changed", &|feed| records::random(feed, (count / 4).max(1), seed));
     part("all lists of four calls from `new`, of three from each `after` of up to 2 events", &|feed| scripts::small(feed, 4));
+    part("all lists of three calls from `new`, of two from each such `after`, and where every event lies", &|feed| scripts::sides(feed, 3));
     part("all graphs of up to six single events, asked everything", &|feed| scripts::all_graphs(feed, 6));
     part(&format!("{count} random scripts from seed {seed}, one in forty at the limits"), &|feed| scripts::random(feed, count, seed));
     part("run starts told true, made again: all lists of five calls from `new`, of four from each `after` of 1 or 2 events", &|feed| starts::small(feed, 5, 2));

@@ -22,6 +22,13 @@ pub struct Graph {
     pub changed: u32,
 }
 
+/// Where an event lies (02, F-11).
+pub enum Side {
+    Run(u32),
+    Before,
+    Unknown,
+}
+
 pub struct Walked {
     pub rows: Vec<Vec<u32>>,
     pub steps: Vec<Triple>,
@@ -197,8 +204,12 @@ impl Graph {
         self.parents.get(run as usize).map(|parents| &parents[..]).ok_or(9)
     }
 
-    pub fn containing(&self, event: u32) -> Result<u32, u32> {
-        (0..self.runs()).find(|&run| self.starts[run] <= event && event < self.starts[run + 1]).map(|run| run as u32).ok_or(9)
+    pub fn containing(&self, event: u32) -> Side {
+        match (0..self.runs()).find(|&run| self.starts[run] <= event && event < self.starts[run + 1]) {
+            Some(run) => Side::Run(run as u32),
+            None if event < self.first_held() => Side::Before,
+            None => Side::Unknown,
+        }
     }
 
     pub fn cut(&self, from: u32) -> Result<Vec<Triple>, u32> {

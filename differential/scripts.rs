@@ -54,18 +54,18 @@ fn taken(list: &[u32], known: u32) -> bool {
     list.windows(2).all(|pair| pair[0] < pair[1]) && list.iter().all(|&event| event < known)
 }
 
-/// All lists of up to `left` further calls, each list with the graph after it. `len` is the graph's so far.
-fn all_calls(feed: &mut Feed, calls: &mut Vec<Vec<u32>>, len: u32, left: u32) {
+/// All lists of up to `left` further calls, with what is asked after each. `len` is the graph's so far.
+fn all_calls(feed: &mut Feed, calls: &mut Vec<Vec<u32>>, len: u32, left: u32, ask: fn(&mut Feed)) {
     for call in calls.iter() {
         feed.call(call.clone());
     }
-    feed.call(vec![13]);
+    ask(feed);
     if left == 0 {
         return;
     }
     let mut go = |call: Vec<u32>, len: u32| {
         calls.push(call);
-        all_calls(feed, calls, len, left - 1);
+        all_calls(feed, calls, len, left - 1, ask);
         calls.pop();
     };
     for parents in lists(len) {
@@ -80,14 +80,27 @@ fn all_calls(feed: &mut Feed, calls: &mut Vec<Vec<u32>>, len: u32, left: u32) {
 }
 
 /// All lists of `calls` calls from `new`, and of one call fewer from every `after` of up to 2 events.
-pub fn small(feed: &mut Feed, calls: u32) {
-    all_calls(feed, &mut vec![new()], 0, calls);
+fn all_lists(feed: &mut Feed, calls: u32, ask: fn(&mut Feed)) {
+    all_calls(feed, &mut vec![new()], 0, calls, ask);
     for events in 0..=2 {
         for frontier in lists(events) {
             let len = if taken(&frontier, events) { events } else { 0 };
-            all_calls(feed, &mut vec![after(events, &frontier)], len, calls - 1);
+            all_calls(feed, &mut vec![after(events, &frontier)], len, calls - 1, ask);
         }
     }
+}
+
+/// The graph after each of them.
+pub fn small(feed: &mut Feed, calls: u32) {
+    all_lists(feed, calls, |feed| feed.call(vec![13]));
+}
+
+/// Where every event lies after each of them: those before the graph, the held ones, and some that are not yet known.
+pub fn sides(feed: &mut Feed, calls: u32) {
+    all_lists(feed, calls, |feed| {
+        let len = feed.graph().len();
+        (0..=len + 1).chain([LAST]).for_each(|event| feed.call(vec![11, event]));
+    });
 }
 
 /// Everything that can be asked of a graph of a few single events; `all`: with all its walks.

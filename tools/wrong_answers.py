@@ -26,6 +26,8 @@ MODEL = [
     ("walking::walk", "writes no steps: demand 3", "no_steps"),
     ("walking::walk", "weighs the oldest first: C1", "oldest_first"),
     ("walking::walk", "covers by event numbers in place of offsets: the cases", "offsets_from_0"),
+    ("lookups::containing", "before the graph and not yet known exchanged: F-11", "sides_exchanged"),
+    ("lookups::containing", "the event len, and later ones, in the last run: F-11, C6", "len_in_last_run"),
     ("beside::concurrent_runs", "falling by run number: F-2", "concurrency_falling"),
     ("beside::concurrent_runs", "run 0 is left out: F-2", "concurrent_left_out"),
     ("starting::start_run_at", "a split gives the second part its own start as seen: F-4", "second_part_seen"),
@@ -44,6 +46,12 @@ FALLING = [
     ("proofs/beside/put_all_free/Proof.antt", "    cast-t9\n", "    sub-t9\n    sub-t10\n    cast-t11\n    sub-put-free\n    sub-put-free-2\n"),
 ]
 
+# The two sides of a graph exchanged
+EXCHANGED = [
+    ("src/lookups.rt", "if event.0 < starts[0] {\n        return ContainingAnswer::Before;", "if event.0 < starts[0] {\n        return ContainingAnswer::Unknown;"),
+    ("src/lookups.rt", "if starts[runs] <= event.0 {\n        return ContainingAnswer::Unknown;", "if starts[runs] <= event.0 {\n        return ContainingAnswer::Before;"),
+]
+
 GRAPH = [
     ("broken::is_broken", "a graph whose changed_from equals its run count is broken", "broken.rt", "if runs < changed.0 as usize {", "if runs <= changed.0 as usize {"),
     ("broken::is_broken", "a graph with wrong marks is not broken", "broken.rt", "        g.mark_count,\n    ) {\n        return true;", "        g.mark_count,\n    ) {\n        return false;"),
@@ -53,7 +61,9 @@ GRAPH = [
     ("fresh::after", "refuses a frontier of exactly 512 events", "fresh.rt", "if MAX_FRONTIER < frontier.len()", "if MAX_FRONTIER <= frontier.len()"),
     ("pushing::push", "refuses a push that ends at 4,294,967,295", "pushing.rt", "MAX_LEN - start.0 < len", "MAX_LEN - start.0 <= len"),
     ("pushing::push", "a run that saw all before it counts as seen up to its start", "pushing.rt", "return end;", "return start;"),
-    ("pushing::push", "the run of a parent at the first held event is no parent", "pushing.rt", "if p.0 < starts[0] {", "if p.0 <= starts[0] {"),
+    ("pushing::push", "a held parent takes no entry", "pushing.rt", "held: t.held + 1,", "held: t.held + 0,"),
+    ("pushing::push", "counts the held parents before it among the splits", "pushing.rt", "splits: t.splits + one(!ended),", "splits: t.held + one(!ended),"),
+    ("pushing::push", "a parent's run is split though it ends in the parent", "splitting.rt", "if crate::broken::is_next(p, EventIndex(starts[next])) {", "if !crate::broken::is_next(p, EventIndex(starts[next])) {"),
     ("pushing::push", "a split forgets that later runs' entries stand a place later", "splitting.rt", "insert_and_grow(heads, runs + 1, next, later, 0, 1)", "insert_and_grow(heads, runs + 1, next, later, 0, 0)"),
     ("pushing::push", "a split does not lower changed_from", "splitting.rt", "changed: least(place, c.changed),", "changed: least(c.changed, c.changed),"),
     ("pushing::push", "takes a parent that the graph does not hold", "push_unknown_parent"),
@@ -70,8 +80,9 @@ GRAPH = [
     ("lookups::events", "answers the run count", "lookups.rt", "if g.run_count <= n {\n        return EventsAnswer", "if g.run_count < n {\n        return EventsAnswer"),
     ("lookups::parents", "the parents of the run and the next", "lookups.rt", "let next = n + 1;\n    let from", "let next = n + 2;\n    let from"),
     ("lookups::parents", "counts the entries of all runs up to it", "lookups.rt", "count: to - from,", "count: to - 0,"),
-    ("lookups::containing", "refuses the first held event", "lookups.rt", "if e < g.starts[0]", "if e <= g.starts[0]"),
-    ("lookups::containing", "the last run for event number len", "lookups.rt", "if g.starts[runs] <= e {", "if g.starts[runs] < e {"),
+    ("lookups::containing", "before the graph and not yet known exchanged", EXCHANGED),
+    ("lookups::containing", "the last run for event number len", "lookups.rt", "if starts[runs] <= event.0 {", "if starts[runs] < event.0 {"),
+    ("lookups::containing", "the first held event is before the graph", "lookups.rt", "if event.0 < starts[0] {", "if event.0 <= starts[0] {"),
     ("lookups::len", "0 for a broken graph", "lookups.rt", "return EventAnswer::Refused(Refusal::Broken)", "return EventAnswer::Event(EventIndex(0))", 1),
     ("lookups::len", "the first held event", "lookups.rt", "let runs = g.run_count;\n    EventAnswer", "let runs = 0;\n    EventAnswer"),
     ("lookups::is_empty", "true where the frontier is empty", "lookups.rt", "g.run_count == 0", "g.frontier_count == 0"),

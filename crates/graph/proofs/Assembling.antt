@@ -130,7 +130,7 @@ module _
     (begun : first ≡ ownIn (concat (view g .parents)) (firstHeld (view g)))
     (done : t ≡ ownAll (g .starts) (g .«seen_prefix_len») (g .«run_count») first ps) where
   own-all : t ≡ ownRuns (view g) (ownIn (concat (view g .parents)) (firstHeld (view g))) ps
-  own-all = done ∙ all-view g holds first ps (j .known) ∙ ap (λ (x : Owned). ownRuns (view g) x ps) begun
+  own-all = done ∙ all-view g holds first ps ∙ ap (λ (x : Owned). ownRuns (view g) x ps) begun
 
   own-count : t .1 .count ≡ length (concat (view g .parents) ++ parentRuns (view g) ps)
   own-count = ap (λ (x : Owned). x .1 .count) own-all ∙ own-items (view g) ps (j .for-entries) .1
@@ -142,7 +142,7 @@ module _
 
   seen-is : {s : ℕ} → s ≡ cond (same ps (view g .frontier)) start (t .1 .seen .0) → s ≡ newSeen (view g) ps
   unfolding newSeen
-  seen-is e = e ∙ rw (at-end, own-all, own-seen (view g) (holds .formed) ps (j .known))
+  seen-is e = e ∙ rw (at-end, own-all, own-seen (view g) (holds .formed) ps)
 
   module _ {left : Kept} (stay : left ≡ keptIn (filter (λ e. not (mem e ps)) (take (g .«frontier_count») (g .frontier)))) where
     left-is : left ≡ keptIn (staying (view g) ps)

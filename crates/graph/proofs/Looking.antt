@@ -1,17 +1,17 @@
 -- The lookups in the words of the code's tests: what is refused, and what is read. Assumes nothing.
 use mathlib.Core.Path.{_≡_, refl, _∙_}
-use mathlib.Core.Bool.{Bool, true, false, not, _&&_}
+use mathlib.Core.Bool.{Bool, true, false, _&&_}
 use mathlib.Core.List.{List, [], _∷_}
 use Prim.Native.Nat.{ℕ, zero, suc, _+_, _-_, _<_, _≤_}
 use native.Mathlib.Numerals.{add-one}
 use native.Mathlib.Omega.{arith}
 use lib.ListN.{length, take, getD, length-take}
 use lib.Seq.{getD-take}
-use lib.Dec.{leb, ltb}
-use borrow.Author.Tests.{ltb-true, lt-ltb, le-ltb, le-leb, lt-leb, eq-eqb}
+use lib.Dec.{ltb}
+use borrow.Author.Tests.{ltb-true, eq-eqb}
 use Rattle.lists.specs.Lists.{rising, below, all, mem}
 use Rattle.lists.specs.Areas.{pad, part}
-use Rattle.lists.specs.Scans.{groupsFit, lastAtMost}
+use Rattle.lists.specs.Scans.{groupsFit}
 use Rattle.lists.proofs.Truth.{and-left, and-right, or-left}
 use Rattle.lists.proofs.Groups.{climbs-at, length-part, part-take, group-at}
 use Rattle.lists.proofs.Rising.{rising-tail, rising-above}
@@ -19,13 +19,12 @@ use Rattle.model.specs.declared.record.CausalGraph.{CausalGraph}
 use Rattle.model.specs.declared.answers.Refusal.the-variants.{Broken, Outside}
 use Rattle.model.specs.declared.answers.Outcome.the-variants.{Done, Refused}
 use Rattle.model.specs.Refusals.{firstOf}
-use Rattle.model.specs.Graph.{runs, firstHeld, len, containing}
+use Rattle.model.specs.Graph.{runs}
 use Rattle.model.specs.Record.{view}
 use Rattle.model.specs.Broken.{broken, Held}
 use Rattle.model.specs.Lookups.{lookup}
 use Rattle.model.proofs.Stored.{not-broken, clauses-of}
-use Rattle.model.proofs.FormedReads.{containing-in}
-use Rattle.graph.proofs.Views.{containing-view, facts, runs-view, first-view, len-view}
+use Rattle.graph.proofs.Views.{facts, runs-view}
 
 -- The two tests of a lookup
 module _ (g : CausalGraph) where
@@ -40,17 +39,6 @@ module _ (g : CausalGraph) where
   pub look-done : broken g ≡ false → (outside : Bool) → outside ≡ false → lookup g outside ≡ Done
   unfolding lookup firstOf
   look-done e outside o = rw (e, o)
-
--- Events that are held, and those that are not
-module _ (g : CausalGraph) (held : Held g) (e : ℕ) where
-  pub outside-before : e < getD (g .starts) 0 0 → not (leb (firstHeld (view g)) e && ltb e (len (view g))) ≡ true
-  outside-before h = rw (first-view g held, lt-leb (getD (g .starts) 0 0) e h)
-
-  pub outside-past : getD (g .starts) 0 0 ≤ e → getD (g .starts) (g .«run_count») 0 ≤ e → not (leb (firstHeld (view g)) e && ltb e (len (view g))) ≡ true
-  outside-past h k = rw (first-view g held, le-leb (getD (g .starts) 0 0) e h, len-view g held, le-ltb e (getD (g .starts) (g .«run_count») 0) k)
-
-  pub outside-not : getD (g .starts) 0 0 ≤ e → e < getD (g .starts) (g .«run_count») 0 → not (leb (firstHeld (view g)) e && ltb e (len (view g))) ≡ false
-  outside-not h k = rw (first-view g held, le-leb (getD (g .starts) 0 0) e h, len-view g held, lt-ltb e (getD (g .starts) (g .«run_count») 0) k)
 
 -- A run's parents
 
@@ -118,21 +106,6 @@ module _ (g : CausalGraph) (held : Held g) (run : ℕ) (h : run < g .«run_count
         length-part (getD (g .«parent_starts») run 0) (getD (g .«parent_starts») (run + 1) 0) (g .parents) (group-bounds .0) group-end,
         group-bounds .0,
       ))
-
--- The run found for a held event
-module _ (g : CausalGraph) (held : Held g) (e : ℕ) (lo : getD (g .starts) 0 0 ≤ e) (hi : e < getD (g .starts) (g .«run_count») 0) where
-  pub found-run : containing (view g) e ≡ lastAtMost (g .starts) e (g .«run_count»)
-  found-run = containing-view g held e (omega (arith, first-view g held)) (omega (arith, len-view g held))
-
-  pub found-in : lastAtMost (g .starts) e (g .«run_count») < 512
-  found-in =
-      omega (
-        arith,
-        found-run,
-        containing-in (view g) (held .formed) e (omega (arith, first-view g held)) (omega (arith, len-view g held)) .0,
-        runs-view g held,
-        facts g held .runs,
-      )
 
 -- A list as it is answered, runs or events
 pub listed-done : {A : Type 0} (answer : List ℕ → ℕ → A) (items : List ℕ) (n : ℕ) (l : List ℕ) → items ≡ pad 512 l → n ≡ length l →

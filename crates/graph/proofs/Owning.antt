@@ -1,7 +1,6 @@
 -- The loop over a new run's parents: the run of each held one joins the entries, and what it has seen is kept if it is the most. Assumes
 -- nothing.
 use mathlib.Core.Path.{_≡_, refl, sym, ap, _∙_}
-use mathlib.Core.Logic.{_⊎_, inl, inr}
 use mathlib.Core.Bool.{Bool, true, false, cond}
 use mathlib.Core.List.{List, [], _∷_, _++_, map, append-assoc, append-nil}
 use Prim.Native.Nat.{ℕ, suc, _+_, _<_, _≤_, max}
@@ -9,29 +8,27 @@ use native.Mathlib.Omega.{arith}
 use native.Mathlib.Numerals.{add-one}
 use lib.ListN.{length, drop, getD, set, length-append, length-set, drop-of-length-le}
 use lib.Seq.{drop-cons}
-use lib.Dec.{leb, eqb}
-use borrow.Author.Tests.{le-leb, lt-leb, leb-true}
-use Rattle.lists.proofs.Truth.{lt-or-le}
-use Rattle.lists.specs.Lists.{filter, mem, below, largest, concat}
+use lib.Dec.{eqb}
+use Rattle.lists.specs.Lists.{bit, filter, count, mem, largest, concat}
 use Rattle.lists.specs.Areas.{pad}
 use Rattle.lists.specs.Scans.{lastAtMost}
 use Rattle.lists.proofs.Pads.{add-pad}
-use Rattle.lists.proofs.Members.{map-mem, mem-filter}
-use Rattle.lists.proofs.Bounds.{below-at}
+use Rattle.lists.proofs.Members.{map-mem}
+use Rattle.lists.proofs.Counts.{count-same, filter-count}
 use Rattle.lists.proofs.Bounds.{largest-has}
 use Rattle.model.specs.declared.record.CausalGraph.{CausalGraph}
 use Rattle.model.specs.declared.record.EventIndex.{EventIndex}
-use Rattle.model.specs.Graph.{Graph, runs, firstHeld, len, entries, containing, held}
+use Rattle.model.specs.Graph.{Graph, runs, firstHeld, entries, containing, side, isHeld, held}
 use Rattle.model.specs.Record.{view}
 use Rattle.model.specs.Broken.{WellFormed, Held}
 use Rattle.model.specs.Push.{parentRuns, seenAfter}
 use Rattle.model.proofs.FormedReads.{containing-in, seenAfter-within}
+use Rattle.model.proofs.Siding.{side-run, held-between, held-mem}
 use Rattle.model.proofs.Stored.{entries-flat}
 use Rattle.graph.specs.declared.pushing.Own.{Own}
-use Rattle.graph.specs.Loops.{ownIn, addOwn, ownAll}
-use Rattle.graph.proofs.Views.{runs-view, entries-view, first-view, start-view, seen-view, containing-view, parents-pad}
-use Rattle.graph.proofs.PartingAll.{known-first}
-use Rattle.graph.proofs.Extending.{from-step}
+use Rattle.graph.specs.Loops.{sideIn, ownIn, addOwn, ownAll}
+use Rattle.graph.proofs.Views.{entries-view, first-view, start-view, seen-view, parents-pad}
+use Rattle.graph.proofs.Placing.{Found, found-in, side-view}
 
 -- entries in their array, and what is known of them
 abbrev pub Owned : Type 0
@@ -40,7 +37,7 @@ Owned = List ℕ × Own
 -- A parent in the graph's words: its run joins the entries if it is held
 unfoldable pub addRun : Graph → Owned → ℕ → Owned
 addRun g t p =
-    cond (leb (firstHeld g) p)
+    cond (isHeld (side g p))
     (set (t .0) (t .1 .count) (containing g p), record { count = t .1 .count + 1; seen = record { 0 = max (t .1 .seen .0) (seenAfter g (containing g p)) } }) t
 
 unfoldable pub ownRuns : Graph → Owned → List ℕ → Owned
@@ -49,16 +46,16 @@ ownRuns g t (p ∷ ps) = ownRuns g (addRun g t p) ps
 
 -- Turns
 
-own-skip : (a : Graph) (t : Owned) (p : ℕ) → leb (firstHeld a) p ≡ false → addRun a t p ≡ t
+own-skip : (a : Graph) (t : Owned) (p : ℕ) → isHeld (side a p) ≡ false → addRun a t p ≡ t
 unfolding addRun
 own-skip a t p e = rw e
 
-own-held : (a : Graph) (t : Owned) (p : ℕ) → leb (firstHeld a) p ≡ true →
+own-held : (a : Graph) (t : Owned) (p : ℕ) → isHeld (side a p) ≡ true →
     addRun a t p ≡ (set (t .0) (t .1 .count) (containing a p), record { count = t .1 .count + 1; seen = record { 0 = max (t .1 .seen .0) (seenAfter a (containing a p)) } })
 unfolding addRun
 own-held a t p e = rw e
 
-own-add : (a : Graph) (l : List ℕ) (s p : ℕ) → leb (firstHeld a) p ≡ true → length l < 2048 →
+own-add : (a : Graph) (l : List ℕ) (s p : ℕ) → isHeld (side a p) ≡ true → length l < 2048 →
     addRun a (ownIn l s) p ≡ ownIn (l ++ containing a p ∷ []) (max s (seenAfter a (containing a p)))
 unfolding addRun
 own-add a l s p e h =
@@ -66,20 +63,20 @@ own-add a l s p e h =
     rw e (λ i. (add-pad 2048 l (containing a p) h i, record { count = q i; seen = record { 0 = max s (seenAfter a (containing a p)) } }))
 
 -- in the code's words: the count grows by one for a held parent
-pub own-count : (xs ss : List ℕ) (n : ℕ) (t : Owned) (p : ℕ) → addOwn xs ss n t p .1 .count ≡ t .1 .count + cond (leb (getD xs 0 0) p) 1 0
+pub own-count : (xs ss : List ℕ) (n : ℕ) (t : Owned) (p : ℕ) → addOwn xs ss n t p .1 .count ≡ t .1 .count + bit (isHeld (sideIn xs n p))
 unfolding addOwn
-own-count xs ss n t p = go (leb (getD xs 0 0) p) _
+own-count xs ss n t p = go (isHeld (sideIn xs n p)) _
   where
     go : (b : Bool) (u : EventIndex) →
         cond b (set (t .0) (t .1 .count) (lastAtMost xs p n), record { count = t .1 .count + 1; seen = u }) t .1 .count
-        ≡ t .1 .count + cond b 1 0
+        ≡ t .1 .count + bit b
     go true u = refl
     go false u = omega arith
 
 -- and the array keeps its length
 pub own-long : (xs ss : List ℕ) (n : ℕ) (t : Owned) (p : ℕ) → length (addOwn xs ss n t p .0) ≡ length (t .0)
 unfolding addOwn
-own-long xs ss n t p = go (leb (getD xs 0 0) p) _
+own-long xs ss n t p = go (isHeld (sideIn xs n p)) _
   where
     go : (b : Bool) (u : Own) → length (cond b (set (t .0) (t .1 .count) (lastAtMost xs p n), u) t .0) ≡ length (t .0)
     go true u = length-set (t .0) (t .1 .count) (lastAtMost xs p n)
@@ -94,26 +91,19 @@ pub own-end : (xs ss : List ℕ) (n : ℕ) (t : Owned) (ps : List ℕ) (i : ℕ)
 unfolding ownAll
 own-end xs ss n t ps i h = rw (drop-of-length-le ps h)
 
--- room for the parents that are left is room for the next held one
-pub own-room : (f : ℕ) (ps : List ℕ) (n i : ℕ) → i < length ps → n + length (filter (λ e. leb f e) (drop i ps)) ≤ 2048 → f ≤ getD ps i 0 → n < 2048
-own-room f ps n i h r l =
-    let e : length (filter (λ e. leb f e) (drop i ps)) ≡ 1 + length (filter (λ e. leb f e) (drop (i + 1) ps)) = from-step f ps i h ∙ rw (le-leb f (getD ps i 0) l) in
-    omega arith
-
 -- a parent that is not held, and one that is
-pub own-no : (xs ss : List ℕ) (n : ℕ) (t : Owned) (p : ℕ) → p < getD xs 0 0 → t ≡ addOwn xs ss n t p
+pub own-no : (xs ss : List ℕ) (n : ℕ) (t : Owned) (p : ℕ) → isHeld (sideIn xs n p) ≡ false → t ≡ addOwn xs ss n t p
 unfolding addOwn
-own-no xs ss n t p h = rw (lt-leb (getD xs 0 0) p h)
+own-no xs ss n t p h = rw h
 
 pub own-yes :
     (xs ss : List ℕ) (n : ℕ) (items : List ℕ) (t u : Own) (p r after : ℕ) →
-    getD xs 0 0 ≤ p →
-    r ≡ lastAtMost xs p n →
+    Found xs n p r →
     after ≡ cond (eqb (getD ss r 0) (getD xs r 0)) (getD xs (r + 1) 0) (getD ss r 0) →
     u ≡ record { count = t .count + 1; seen = record { 0 = max (t .seen .0) after } } →
     (set items (t .count) r, u) ≡ addOwn xs ss n (items, t) p
-unfolding addOwn
-own-yes xs ss n items t u p r after h e f q = rw (q, f, e, le-leb (getD xs 0 0) p h)
+unfolding addOwn isHeld
+own-yes xs ss n items t u p r after d f q = rw (q, f, d .there, ← d .is)
 
 -- A record's entries and the first held event begin it
 module _ (g : CausalGraph) (good : Held g) where
@@ -128,28 +118,31 @@ module _ (g : CausalGraph) (good : Held g) where
       let n : suc r ≡ r + 1 = omega arith in
       rw (seen-view g good r h, start-view g good r (omega arith), n, start-view g good (r + 1) (omega arith))
 
-  add-view : (t : Owned) (p : ℕ) → p < len (view g) → addOwn (g .starts) (g .«seen_prefix_len») (g .«run_count») t p ≡ addRun (view g) t p
-  add-view t p l = go (lt-or-le p (getD (g .starts) 0 0))
+  add-view : (t : Owned) (p : ℕ) → addOwn (g .starts) (g .«seen_prefix_len») (g .«run_count») t p ≡ addRun (view g) t p
+  add-view t p = go (isHeld (side (view g) p)) refl
     where
-      go : (p < getD (g .starts) 0 0) ⊎ (getD (g .starts) 0 0 ≤ p) → addOwn (g .starts) (g .«seen_prefix_len») (g .«run_count») t p ≡ addRun (view g) t p
-      go (inl h) =
-          sym (own-no (g .starts) (g .«seen_prefix_len») (g .«run_count») t p h)
-          ∙ sym (own-skip (view g) t p (rw (first-view g good) (lt-leb (getD (g .starts) 0 0) p h)))
-      go (inr h) =
-          let f : firstHeld (view g) ≤ p = omega (arith, first-view g good) in
-          let c = containing-view g good p f l in
-          let k : containing (view g) p < g .«run_count» = omega (arith, containing-in (view g) (good .formed) p f l .0, runs-view g good) in
-          sym (own-yes (g .starts) (g .«seen_prefix_len») (g .«run_count») (t .0) (t .1) _ p (containing (view g) p) (seenAfter (view g) (containing (view g) p)) h c
-          (sym (after-view (containing (view g) p) k)) refl)
-          ∙ sym (own-held (view g) t p (le-leb (firstHeld (view g)) p f))
+      go : (b : Bool) → isHeld (side (view g) p) ≡ b → addOwn (g .starts) (g .«seen_prefix_len») (g .«run_count») t p ≡ addRun (view g) t p
+      go false h =
+          sym (own-no (g .starts) (g .«seen_prefix_len») (g .«run_count») t p (ap isHeld (side-view g good p) ∙ h)) ∙ sym (own-skip (view g) t p h)
+      go true h =
+          let b = held-between (view g) p h in
+          let d = found-in (g .starts) (g .«run_count») p (containing (view g) p) (side-view g good p ∙ side-run (view g) p (b .0) (b .1)) in
+          sym (own-yes (g .starts) (g .«seen_prefix_len») (g .«run_count») (t .0) (t .1) _ p (containing (view g) p) (seenAfter (view g) (containing (view g) p)) d
+          (sym (after-view (containing (view g) p) (d .low))) refl)
+          ∙ sym (own-held (view g) t p h)
 
-  pub all-view : (t : Owned) (ps : List ℕ) → below (len (view g)) ps ≡ true →
-      ownAll (g .starts) (g .«seen_prefix_len») (g .«run_count») t ps ≡ ownRuns (view g) t ps
+  pub all-view : (t : Owned) (ps : List ℕ) → ownAll (g .starts) (g .«seen_prefix_len») (g .«run_count») t ps ≡ ownRuns (view g) t ps
   unfolding ownAll ownRuns
-  all-view t [] e = refl
-  all-view t (p ∷ ps) e =
-      let k = known-first (len (view g)) p ps e in
-      ap (λ (u : Owned). ownAll (g .starts) (g .«seen_prefix_len») (g .«run_count») u ps) (add-view t p (k .0)) ∙ all-view (addRun (view g) t p) ps (k .1)
+  all-view t [] = refl
+  all-view t (p ∷ ps) =
+      ap (λ (u : Owned). ownAll (g .starts) (g .«seen_prefix_len») (g .«run_count») u ps) (add-view t p) ∙ all-view (addRun (view g) t p) ps
+
+  -- as many join as are held
+  pub held-counted : (ps : List ℕ) → count (λ p. isHeld (sideIn (g .starts) (g .«run_count») p)) ps ≡ length (held (view g) ps)
+  unfolding held
+  held-counted ps =
+      count-same (λ p. isHeld (sideIn (g .starts) (g .«run_count») p)) (λ p. isHeld (side (view g) p)) ps (λ p m. ap isHeld (side-view g good p)) ∙
+      sym (filter-count (λ p. isHeld (side (view g) p)) ps)
 
 -- What the whole loop leaves
 
@@ -158,14 +151,14 @@ own-is : (a : Graph) (l : List ℕ) (s : ℕ) (ps : List ℕ) → length l + len
 unfolding ownRuns parentRuns held filter
 own-is a l s [] h = (s, rw append-nil)
 own-is a l s (p ∷ ps) h =
-    go (leb (firstHeld a) p) refl (own-is a l s ps) (own-is a (l ++ containing a p ∷ []) (max s (seenAfter a (containing a p))) ps) h
+    go (isHeld (side a p)) refl (own-is a l s ps) (own-is a (l ++ containing a p ∷ []) (max s (seenAfter a (containing a p))) ps) h
   where
     rest : List ℕ
-    rest = filter (λ e. leb (firstHeld a) e) ps
+    rest = filter (λ e. isHeld (side a e)) ps
 
     go :
         (b : Bool) →
-        leb (firstHeld a) p ≡ b →
+        isHeld (side a p) ≡ b →
         (length l + length rest ≤ 2048 → (s′ : ℕ) × (ownRuns a (ownIn l s) ps ≡ ownIn (l ++ map (containing a) rest) s′)) →
         (length (l ++ containing a p ∷ []) + length rest ≤ 2048 →
         (s′ : ℕ) × (ownRuns a (ownIn (l ++ containing a p ∷ []) (max s (seenAfter a (containing a p)))) ps ≡ ownIn ((l ++ containing a p ∷ []) ++ map (containing a) rest) s′)) →
@@ -203,14 +196,14 @@ largest-more s x (y ∷ ys) = rw (largest-any (max s x) s y ys) (omega arith)
 own-most : (a : Graph) (t : Owned) (ps : List ℕ) → ownRuns a t ps .1 .seen .0 ≡ max (t .1 .seen .0) (largest (t .1 .seen .0) (map (seenAfter a) (parentRuns a ps)))
 unfolding ownRuns parentRuns held filter
 own-most a t [] = unfold largest in omega arith
-own-most a t (p ∷ ps) = go (leb (firstHeld a) p) refl (own-most a t ps) (own-most a (addRun a t p) ps)
+own-most a t (p ∷ ps) = go (isHeld (side a p)) refl (own-most a t ps) (own-most a (addRun a t p) ps)
   where
     rest : List ℕ
-    rest = filter (λ e. leb (firstHeld a) e) ps
+    rest = filter (λ e. isHeld (side a e)) ps
 
     go :
         (b : Bool) →
-        leb (firstHeld a) p ≡ b →
+        isHeld (side a p) ≡ b →
         ownRuns a t ps .1 .seen .0 ≡ max (t .1 .seen .0) (largest (t .1 .seen .0) (map (seenAfter a) (map (containing a) rest))) →
         ownRuns a (addRun a t p) ps .1 .seen .0 ≡ max (addRun a t p .1 .seen .0) (largest (addRun a t p .1 .seen .0) (map (seenAfter a) (map (containing a) rest))) →
         ownRuns a (addRun a t p) ps .1 .seen .0 ≡ max (t .1 .seen .0) (largest (t .1 .seen .0) (map (seenAfter a) (map (containing a) (cond b (p ∷ rest) rest))))
@@ -220,32 +213,23 @@ own-most a t (p ∷ ps) = go (leb (firstHeld a) p) refl (own-most a t ps) (own-m
         ∙ largest-more (t .1 .seen .0) (seenAfter a (containing a p)) (map (seenAfter a) (map (containing a) rest))
     go false e f k = ap (λ (u : Owned). ownRuns a u ps .1 .seen .0) (own-skip a t p e) ∙ f
 
--- The runs of known parents
-pub parent-run-in : (a : Graph) → WellFormed a → (ps : List ℕ) → below (len a) ps ≡ true →
-    (r : ℕ) → mem r (parentRuns a ps) ≡ true → r < runs a
-unfolding parentRuns held
-parent-run-in a formed ps known r m =
-    let w : (e : ℕ) × (mem e (filter (λ e. leb (firstHeld a) e) ps) ≡ true) × (r ≡ containing a e) = map-mem (containing a) r (filter (λ e. leb (firstHeld a) e) ps) m in
-    let i = mem-filter (λ e. leb (firstHeld a) e) (w .0) ps (w .1) in
-    omega (arith, w .2, containing-in a formed (w .0) (leb-true (firstHeld a) (w .0) (i .1)) (below-at (len a) ps known (w .0) (i .0)) .0)
+-- The runs of the held parents
+pub parent-run-in : (a : Graph) → WellFormed a → (ps : List ℕ) (r : ℕ) → mem r (parentRuns a ps) ≡ true → r < runs a
+unfolding parentRuns
+parent-run-in a formed ps r m =
+    let w : (e : ℕ) × (mem e (held a ps) ≡ true) × (r ≡ containing a e) = map-mem (containing a) r (held a ps) m in
+    let h = held-mem a ps (w .0) (w .1) in
+    omega (arith, w .2, containing-in a formed (w .0) (h .1) (h .2) .0)
 
--- and for a well-formed graph and known parents it is the most that those have seen, or the first held event
-pub own-seen : (a : Graph) → WellFormed a → (ps : List ℕ) → below (len a) ps ≡ true →
+-- and for a well-formed graph it is the most that those have seen, or the first held event
+pub own-seen : (a : Graph) → WellFormed a → (ps : List ℕ) →
     ownRuns a (ownIn (concat (a .parents)) (firstHeld a)) ps .1 .seen .0 ≡ largest (firstHeld a) (map (seenAfter a) (parentRuns a ps))
-own-seen a formed ps known =
+own-seen a formed ps =
     let most = largest-has (λ x. firstHeld a ≤ x) (firstHeld a) (map (seenAfter a) (parentRuns a ps)) (omega arith) one in
     own-most a (ownIn (concat (a .parents)) (firstHeld a)) ps ∙ omega (arith, most)
   where
     one : (x : ℕ) → mem x (map (seenAfter a) (parentRuns a ps)) ≡ true → firstHeld a ≤ x
     one x m =
         let w : (r : ℕ) × (mem r (parentRuns a ps) ≡ true) × (x ≡ seenAfter a r) = map-mem (seenAfter a) x (parentRuns a ps) m in
-        let s = seenAfter-within a formed (w .0) (parent-run-in a formed ps known (w .0) (w .1)) in
+        let s = seenAfter-within a formed (w .0) (parent-run-in a formed ps (w .0) (w .1)) in
         omega (arith, w .2, s .0)
-
--- All of it
-pub own-whole : (a : Graph) → WellFormed a → (ps : List ℕ) → below (len a) ps ≡ true → entries a + length (held a ps) ≤ 2048 →
-    ownRuns a (ownIn (concat (a .parents)) (firstHeld a)) ps ≡
-    ownIn (concat (a .parents) ++ parentRuns a ps) (largest (firstHeld a) (map (seenAfter a) (parentRuns a ps)))
-own-whole a formed ps known h =
-    let w = own-items a ps h in
-    λ i. (w .0 i, record { count = w .1 i; seen = record { 0 = own-seen a formed ps known i } })

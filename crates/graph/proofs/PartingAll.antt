@@ -7,21 +7,20 @@ use native.Mathlib.Numerals.{add-one}
 use native.Mathlib.Omega.{arith}
 use lib.ListN.{length, drop, getD, drop-of-length-le}
 use lib.Seq.{drop-cons}
-use lib.Dec.{leb, ltb}
-use borrow.Author.Tests.{leb-true, ltb-true, lt-ltb, le-leb, not-true}
-use Rattle.lists.specs.Lists.{bit, all, count, filter, mem, rising, below}
+use borrow.Author.Tests.{not-true}
+use Rattle.lists.specs.Lists.{bit, count, filter, mem, rising}
 use Rattle.lists.specs.Scans.{lastAtMost}
-use Rattle.lists.proofs.Truth.{false-true, and-left, and-right, and-both}
-use Rattle.lists.proofs.Members.{mem-filter}
+use Rattle.lists.proofs.Truth.{false-true, and-left, and-right}
 use Rattle.lists.proofs.Rising.{rising-tail, rising-above}
 use Rattle.lists.proofs.Counts.{count-same}
 use Rattle.model.specs.declared.record.CausalGraph.{CausalGraph}
-use Rattle.model.specs.Graph.{Graph, runs, start, firstHeld, len, entries, containing, held}
+use Rattle.model.specs.Graph.{Graph, runs, start, firstHeld, len, entries, containing, side, isHeld, held}
 use Rattle.model.specs.Record.{view, store}
 use Rattle.model.specs.Broken.{WellFormed, WithinLimits, Held}
 use Rattle.model.specs.Split.{split, ends, splitAfter, splits}
 use Rattle.model.proofs.Stored.{view-store, held-store}
 use Rattle.model.proofs.FormedReads.{containing-in}
+use Rattle.model.proofs.Siding.{held-between, held-mem, held-agree}
 use Rattle.model.proofs.FormedSplits.{split-runs, split-entries, split-frontier, split-len, split-first, split-formed, split-ends-other}
 use Rattle.model.proofs.FormedSplitAll.{ends-inside, splitAfter-ended, splitAfter-inside}
 use Rattle.graph.specs.Loops.{Room}
@@ -29,14 +28,14 @@ use Rattle.graph.proofs.Views.{runs-view, entries-view, containing-view
 
 -- Whether a parent is held and no run, nor the graph, ends in it
 abbrev pub needsSplit : Graph → ℕ → Bool
-needsSplit a p = leb (firstHeld a) p && not (ends a p)
+needsSplit a p = isHeld (side a p) && not (ends a p)
 
 -- The ways of one parent
-held-yes : (a : Graph) (p : ℕ) (ps : List ℕ) → leb (firstHeld a) p ≡ true → held a (p ∷ ps) ≡ p ∷ held a ps
+held-yes : (a : Graph) (p : ℕ) (ps : List ℕ) → isHeld (side a p) ≡ true → held a (p ∷ ps) ≡ p ∷ held a ps
 unfolding held filter
 held-yes a p ps e = rw e
 
-held-no : (a : Graph) (p : ℕ) (ps : List ℕ) → leb (firstHeld a) p ≡ false → held a (p ∷ ps) ≡ held a ps
+held-no : (a : Graph) (p : ℕ) (ps : List ℕ) → isHeld (side a p) ≡ false → held a (p ∷ ps) ≡ held a ps
 unfolding held filter
 held-no a p ps e = rw e
 
@@ -46,9 +45,9 @@ after-none a = refl
 
 -- a parent that splits no run leaves the rest to be done
 stays : (a : Graph) (p : ℕ) (ps : List ℕ) → needsSplit a p ≡ false → splitAfter a (held a (p ∷ ps)) ≡ splitAfter a (held a ps)
-stays a p ps e = go (leb (firstHeld a) p) (ends a p) refl refl e
+stays a p ps e = go (isHeld (side a p)) (ends a p) refl refl e
   where
-    go : (t u : Bool) → leb (firstHeld a) p ≡ t → ends a p ≡ u → t && not u ≡ false → splitAfter a (held a (p ∷ ps)) ≡ splitAfter a (held a ps)
+    go : (t u : Bool) → isHeld (side a p) ≡ t → ends a p ≡ u → t && not u ≡ false → splitAfter a (held a (p ∷ ps)) ≡ splitAfter a (held a ps)
     go true true q s z = ap (splitAfter a) (held-yes a p ps q) ∙ splitAfter-ended a p (held a ps) s
     go true false q s z = false-true (sym z)
     go false true q s z = ap (splitAfter a) (held-no a p ps q)
@@ -59,23 +58,34 @@ after-stays a p e = stays a p [] e ∙ after-none a
 
 -- what is known of a parent that splits a run
 record Splits (a : Graph) (p : ℕ) : Type 0 where
-  is-held : firstHeld a ≤ p
+  is-held : isHeld (side a p) ≡ true
+  from : firstHeld a ≤ p
+  to : p < len a
   inside : ends a p ≡ false
   here : containing a p < runs a
   below-it : start a (containing a p) < suc p
   above-it : suc p < start a (suc (containing a p))
 
-splits-of : (a : Graph) → WellFormed a → (p : ℕ) → p < len a → needsSplit a p ≡ true → Splits a p
-splits-of a f p l e =
-    let h = leb-true (firstHeld a) p (and-left (leb (firstHeld a) p) (not (ends a p)) e) in
-    let n = not-true (ends a p) (and-right (leb (firstHeld a) p) (not (ends a p)) e) in
-    let w = containing-in a f p h l in
-    record { is-held = h; inside = n; here = w .0; below-it = omega (arith, w .1); above-it = ends-inside a f p h l n }
+splits-of : (a : Graph) → WellFormed a → (p : ℕ) → needsSplit a p ≡ true → Splits a p
+splits-of a f p e =
+    let h = and-left (isHeld (side a p)) (not (ends a p)) e in
+    let n = not-true (ends a p) (and-right (isHeld (side a p)) (not (ends a p)) e) in
+    let b = held-between a p h in
+    let w = containing-in a f p (b .0) (b .1) in
+    record {
+      is-held = h;
+      from = b .0;
+      to = b .1;
+      inside = n;
+      here = w .0;
+      below-it = omega (arith, w .1);
+      above-it = ends-inside a f p (b .0) (b .1) n;
+    }
 
 module _ (a : Graph) (p : ℕ) (s : Splits a p) where
   -- its run is split, and the rest is done on the graph that this gives
   splits-on : (ps : List ℕ) → splitAfter a (held a (p ∷ ps)) ≡ splitAfter (split a (containing a p) (suc p)) (held a ps)
-  splits-on ps = ap (splitAfter a) (held-yes a p ps (le-leb (firstHeld a) p (s .is-held))) ∙ splitAfter-inside a p (held a ps) (s .inside)
+  splits-on ps = ap (splitAfter a) (held-yes a p ps (s .is-held)) ∙ splitAfter-inside a p (held a ps) (s .inside)
 
   after-splits : splitAfter a (held a (p ∷ [])) ≡ split a (containing a p) (suc p)
   unfolding splitAfter held filter
@@ -83,8 +93,8 @@ module _ (a : Graph) (p : ℕ) (s : Splits a p) where
 
   module _ (f : WellFormed a) where
     same-held : (ps : List ℕ) → held (split a (containing a p) (suc p)) ps ≡ held a ps
-    unfolding held
-    same-held ps = ap (λ (x : ℕ). filter (λ e. leb x e) ps) (split-first a f (containing a p) (suc p) (s .here))
+    same-held ps =
+        held-agree a (split a (containing a p) (suc p)) (split-first a f (containing a p) (suc p) (s .here)) (split-len a f (containing a p) (suc p) (s .here)) ps
 
     -- later parents split a run after it just where they did before
     same-splits : (ps : List ℕ) → rising (p ∷ ps) ≡ true → splits (split a (containing a p) (suc p)) ps ≡ splits a ps
@@ -95,25 +105,21 @@ module _ (a : Graph) (p : ℕ) (s : Splits a p) where
       where
         other : (q : ℕ) → mem q (held a ps) ≡ true → not (ends (split a (containing a p) (suc p)) q) ≡ not (ends a q)
         other q m =
-            let l = rising-above p ps r q (mem-filter (λ e. leb (firstHeld a) e) q ps (unfold held in m) .0) in
+            let l = rising-above p ps r q (held-mem a ps q m .0) in
             ap not (split-ends-other a (containing a p) p q (λ k. omega arith))
 
 -- One parent's count
 pub splits-first : (a : Graph) (p : ℕ) (ps : List ℕ) → splits a (p ∷ ps) ≡ cond (needsSplit a p) 1 0 + splits a ps
 unfolding splits
-splits-first a p ps = go (leb (firstHeld a) p) refl
+splits-first a p ps = go (isHeld (side a p)) refl
   where
     one : (t : Bool) → bit (not t) ≡ cond (not t) 1 0
     one true = refl
     one false = refl
 
-    go : (t : Bool) → leb (firstHeld a) p ≡ t → count (λ q. not (ends a q)) (held a (p ∷ ps)) ≡ cond (t && not (ends a p)) 1 0 + count (λ q. not (ends a q)) (held a ps)
+    go : (t : Bool) → isHeld (side a p) ≡ t → count (λ q. not (ends a q)) (held a (p ∷ ps)) ≡ cond (t && not (ends a p)) 1 0 + count (λ q. not (ends a q)) (held a ps)
     go true e = ap (count (λ q. not (ends a q))) (held-yes a p ps e) ∙ (unfold count in ap (λ (n : ℕ). n + count (λ q. not (ends a q)) (held a ps)) (one (ends a p)))
     go false e = ap (count (λ q. not (ends a q))) (held-no a p ps e) ∙ omega arith
-
-pub known-first : (n p : ℕ) (ps : List ℕ) → below n (p ∷ ps) ≡ true → (p < n) × (below n ps ≡ true)
-unfolding below all
-known-first n p ps e = (ltb-true p n (and-left (ltb p n) (below n ps) e), and-right (ltb p n) (below n ps) e)
 
 -- A parent that splits a run of a record, with room for it: the scan finds its run, and the split is all that is done
 pub record Placed (g : CausalGraph) (p : ℕ) : Type 0 where
@@ -124,9 +130,8 @@ pub record Placed (g : CausalGraph) (p : ℕ) : Type 0 where
 
 pub placed : (g : CausalGraph) → Held g → (p : ℕ) → Room (view g) (p ∷ []) → needsSplit (view g) p ≡ true → Placed g p
 placed g h p r e =
-    let l = known-first (len (view g)) p [] (r .known) .0 in
-    let s = splits-of (view g) (h .formed) p l e in
-    let c = containing-view g h p (s .is-held) l in
+    let s = splits-of (view g) (h .formed) p e in
+    let c = containing-view g h p (s .from) (s .to) in
     let n : splits (view g) (p ∷ []) ≡ 1 + splits (view g) [] = splits-first (view g) p [] ∙ rw e in
     record {
       here = omega (arith, s .here, c, runs-view g h);
@@ -145,9 +150,6 @@ record Turn (a : Graph) (p : ℕ) (ps : List ℕ) (b : Graph) : Type 0 where
 turn : (a : Graph) → WellFormed a → WithinLimits a → (p : ℕ) (ps : List ℕ) → Room a (p ∷ ps) → Turn a p ps (splitAfter a (held a (p ∷ [])))
 turn a f l p ps r = go (needsSplit a p) refl
   where
-    known : (p < len a) × (below (len a) ps ≡ true)
-    known = known-first (len a) p ps (r .known)
-
     go : (t : Bool) → needsSplit a p ≡ t → Turn a p ps (splitAfter a (held a (p ∷ [])))
     go false e =
         let n : splits a (p ∷ ps) ≡ splits a ps = splits-first a p ps ∙ rw e (omega arith) in
@@ -157,14 +159,13 @@ turn a f l p ps r = go (needsSplit a p) refl
           limits = l;
           room = record {
             rises = rising-tail p ps (r .rises);
-            known = known .1;
             for-runs = omega (arith, r .for-runs, n);
             for-entries = omega (arith, r .for-entries, n);
           };
           rest = sym (stays a p ps e);
         })
     go true e =
-        let s = splits-of a f p (known .0) e in
+        let s = splits-of a f p e in
         let c : ℕ = containing a p in
         let n : splits a (p ∷ ps) ≡ 1 + splits a ps = splits-first a p ps ∙ rw e in
         let m = same-splits a p s f ps (r .rises) in
@@ -178,7 +179,6 @@ turn a f l p ps r = go (needsSplit a p) refl
           };
           room = record {
             rises = rising-tail p ps (r .rises);
-            known = rw (split-len a f c (suc p) (s .here)) (known .1);
             for-runs = omega (arith, split-runs a c (suc p), r .for-runs, n, m);
             for-entries = omega (arith, split-entries a c (suc p), r .for-entries, n, m);
           };
@@ -207,13 +207,9 @@ going-one ps g₀ g i h s =
     let m : splits (view g) (p ∷ []) ≡ cond (needsSplit (view g) p) 1 0 = splits-first (view g) p [] ∙ (unfold splits held filter count in omega arith) in
     record {
       rises = unfold rising in refl;
-      known = known-one (len (view g)) p (known-first (len (view g)) p (drop (i + 1) ps) (r .known) .0);
       for-runs = omega (arith, r .for-runs, n, m);
       for-entries = omega (arith, r .for-entries, n, m);
     }
-  where
-    known-one : (n p : ℕ) → p < n → below n (p ∷ []) ≡ true
-    known-one n p l = unfold below all in and-both (ltb p n) true (lt-ltb p n l) refl
 
 -- a turn
 pub going-on : (ps : List ℕ) (g₀ g x : CausalGraph) (i : ℕ) → i < length ps → Going ps g₀ g i →

@@ -4,62 +4,47 @@ use mathlib.Core.Path.{_≡_, refl, sym, ap, _∙_}
 use mathlib.Core.Logic.{_⊎_, inl, inr}
 use mathlib.Core.Bool.{Bool, true, false, cond, not}
 use mathlib.Core.List.{List, [], _∷_}
-use Prim.Native.Nat.{ℕ, zero, suc, _+_, _-_, _≤_, _<_, _^_}
+use Prim.Native.Nat.{ℕ, suc, _+_, _≤_, _<_, _^_}
 use native.Mathlib.Numerals.{add-one}
 use native.Mathlib.Omega.{arith}
 use lib.ListN.{length, getD}
-use lib.Dec.{leb, eqb}
-use borrow.Author.Tests.{le-leb, lt-leb, eq-eqb, ne-eqb}
-use Rattle.lists.specs.Lists.{bit, count, filter, below}
+use lib.Dec.{eqb}
+use borrow.Author.Tests.{eq-eqb, ne-eqb}
+use Rattle.lists.specs.Lists.{bit, count, filter}
 use Rattle.lists.specs.Areas.{pad}
 use Rattle.lists.specs.Scans.{lastAtMost, keptIn}
 use Rattle.lists.proofs.Truth.{lt-or-le}
 use Rattle.lists.proofs.Members.{mem-index}
 use Rattle.model.specs.declared.record.CausalGraph.{CausalGraph}
-use Rattle.model.specs.Graph.{Graph, runs, start, firstHeld, len, containing, held}
+use Rattle.model.specs.Graph.{Graph, runs, start, firstHeld, len, containing, side, isHeld, held}
 use Rattle.model.specs.Record.{view, store}
 use Rattle.model.specs.Broken.{WellFormed, Held}
 use Rattle.model.specs.Split.{split, ends, splitAfter, splits}
 use Rattle.model.proofs.FormedReads.{start-mono, containing-in}
+use Rattle.model.proofs.Siding.{side-run, held-between}
 use Rattle.model.proofs.FormedSplitAll.{ends-inside}
-use Rattle.graph.specs.Loops.{Room, Parts, partsOf, splitIn, needsIn, afterIn, Long, SplitFits, AfterFits, withParts}
-use Rattle.graph.proofs.Views.{facts, runs-view, marks-view, start-view, first-view, containing-view, marks-pad}
+use Rattle.graph.specs.Loops.{Room, Parts, partsOf, splitIn, sideIn, needsIn, afterIn, Long, SplitFits, AfterFits, withParts}
+use Rattle.graph.proofs.Views.{facts, runs-view, marks-view, start-view, containing-view, marks-pad}
+use Rattle.graph.proofs.Placing.{Found, found-in, side-view}
 use Rattle.graph.proofs.Testing.{marks-used}
 use Rattle.graph.proofs.Parting.{head-in, parent-in, split-stored}
-use Rattle.graph.proofs.PartingAll.{needsSplit, known-first, splits-first, after-stays, Placed, placed, none-split, Going, going-start, going-one, going-on}
+use Rattle.graph.proofs.PartingAll.{needsSplit, splits-first, after-stays, Placed, placed, none-split, Going, going-start, going-one, going-on}
 
--- The run that a scan finds is below the run count, or 0
-pub last-low : (xs : List ℕ) (e n : ℕ) → lastAtMost xs e n ≤ n - 1
-unfolding lastAtMost
-last-low xs e zero = omega arith
-last-low xs e (suc n) = go (leb (getD xs n 0) e) (last-low xs e n)
-  where
-    go : (b : Bool) → lastAtMost xs e n ≤ n - 1 → cond b n (lastAtMost xs e n) ≤ suc n - 1
-    go true h = omega arith
-    go false h = omega arith
-
--- The test for a split, by its ways
-pub needs-low : (xs : List ℕ) (n p : ℕ) → p < getD xs 0 0 → needsIn xs n p ≡ false
+-- The test for a split in the code's words: of an event that lies in no run, and of one in run r
+pub needs-not : (xs : List ℕ) (n p : ℕ) → isHeld (sideIn xs n p) ≡ false → needsIn xs n p ≡ false
 unfolding needsIn
-needs-low xs n p h = rw (lt-leb (getD xs 0 0) p h)
+needs-not xs n p h = rw h
 
-pub needs-high : (xs : List ℕ) (n p : ℕ) → getD xs 0 0 ≤ p → needsIn xs n p ≡ not (eqb (getD xs (lastAtMost xs p n + 1) 0) (p + 1))
-unfolding needsIn
-needs-high xs n p h = rw (le-leb (getD xs 0 0) p h)
+module _ (xs : List ℕ) (n p r : ℕ) (f : Found xs n p r) where
+  pub needs-found : needsIn xs n p ≡ not (eqb (p + 1) (getD xs (r + 1) 0))
+  unfolding needsIn isHeld
+  needs-found = rw (f .there, ← f .is)
 
--- in the code's words
-module _ (xs : List ℕ) (n p : ℕ) {r : ℕ} (e : r ≡ lastAtMost xs p n) (lo : getD xs 0 0 ≤ p) where
-  needs-found : needsIn xs n p ≡ not (eqb (getD xs (r + 1) 0) (p + 1))
-  needs-found = needs-high xs n p lo ∙ ap (λ (k : ℕ). not (eqb (getD xs (k + 1) 0) (p + 1))) (sym e)
+  pub needs-ended : {ended : Bool} → ended ≡ eqb (p + 1) (getD xs (r + 1) 0) → ended ≡ true → needsIn xs n p ≡ false
+  needs-ended e q = needs-found ∙ ap not (sym e ∙ q)
 
-  pub needs-is : not (eqb (getD xs (r + 1) 0) (p + 1)) ≡ needsIn xs n p
-  needs-is = sym needs-found
-
-  pub needs-ended : getD xs (r + 1) 0 ≡ p + 1 → needsIn xs n p ≡ false
-  needs-ended q = needs-found ∙ ap not (eq-eqb (getD xs (r + 1) 0) (p + 1) q)
-
-  pub needs-inside : (getD xs (r + 1) 0 ≡ p + 1 → ⊥) → needsIn xs n p ≡ true
-  needs-inside q = needs-found ∙ ap not (ne-eqb (getD xs (r + 1) 0) (p + 1) q)
+  pub needs-inside : {ended : Bool} → ended ≡ eqb (p + 1) (getD xs (r + 1) 0) → ended ≡ false → needsIn xs n p ≡ true
+  needs-inside e q = needs-found ∙ ap not (sym e ∙ q)
 
 -- what is done where it says no, and where yes
 pub after-no : (x : Parts) (p : ℕ) → needsIn (x .starts) (x .counts .runs) p ≡ false → x ≡ afterIn x p
@@ -73,45 +58,44 @@ after-yes x y p r f e q = q ∙ ap (λ (k : ℕ). splitIn x k (p + 1)) f ∙ rw 
 
 -- A held event ends a run or the graph exactly if the next run starts after it
 ends-next : (a : Graph) → WellFormed a → (p : ℕ) → firstHeld a ≤ p → p < len a →
-    eqb (start a (suc (containing a p))) (suc p) ≡ ends a p
+    eqb (suc p) (start a (suc (containing a p))) ≡ ends a p
 ends-next a f p lo hi = go (ends a p) refl
   where
-    go : (t : Bool) → ends a p ≡ t → eqb (start a (suc (containing a p))) (suc p) ≡ t
-    go false e = ne-eqb (start a (suc (containing a p))) (suc p) (λ q. omega (arith, ends-inside a f p lo hi e, q))
+    go : (t : Bool) → ends a p ≡ t → eqb (suc p) (start a (suc (containing a p))) ≡ t
+    go false e = ne-eqb (suc p) (start a (suc (containing a p))) (λ q. omega (arith, ends-inside a f p lo hi e, q))
     go true e =
         let w = containing-in a f p lo hi in
         let j = mem-index (suc p) 0 (a .starts) (unfold ends in e) in
-        eq-eqb (start a (suc (containing a p))) (suc p) (at (j .0) (omega (arith, j .1, f .starts-count)) (unfold start in j .2) (lt-or-le (containing a p) (j .0)) (w .0) (w .1) (w .2))
+        eq-eqb (suc p) (start a (suc (containing a p))) (at (j .0) (omega (arith, j .1, f .starts-count)) (unfold start in j .2) (lt-or-le (containing a p) (j .0)) (w .0) (w .1) (w .2))
       where
         at : (j : ℕ) → j ≤ runs a → start a j ≡ suc p → (containing a p < j) ⊎ (j ≤ containing a p) → containing a p < runs a → start a (containing a p) ≤ p →
-            p < start a (suc (containing a p)) → start a (suc (containing a p)) ≡ suc p
+            p < start a (suc (containing a p)) → suc p ≡ start a (suc (containing a p))
         at j h q (inl l) c u v = omega (arith, start-mono a f (suc (containing a p)) j l h, q, v)
         at j h q (inr l) c u v = absurd (omega (arith, start-mono a f j (containing a p) l (omega arith), q, u))
 
 module _ (g : CausalGraph) (good : Held g) where
   -- the test is the graph's
-  pub needs-in : (p : ℕ) → p < len (view g) → needsIn (g .starts) (g .«run_count») p ≡ needsSplit (view g) p
-  needs-in p l = go (lt-or-le p (getD (g .starts) 0 0))
+  pub needs-in : (p : ℕ) → needsIn (g .starts) (g .«run_count») p ≡ needsSplit (view g) p
+  needs-in p = go (isHeld (side (view g) p)) refl
     where
-      go : (p < getD (g .starts) 0 0) ⊎ (getD (g .starts) 0 0 ≤ p) → needsIn (g .starts) (g .«run_count») p ≡ needsSplit (view g) p
-      go (inl h) = needs-low (g .starts) (g .«run_count») p h ∙ sym (rw (first-view g good, lt-leb (getD (g .starts) 0 0) p h))
-      go (inr h) =
-          let lo : firstHeld (view g) ≤ p = omega (arith, first-view g good) in
-          let c = containing-view g good p lo l in
-          let w = containing-in (view g) (good .formed) p lo l in
-          let s : start (view g) (suc (containing (view g) p)) ≡ getD (g .starts) (lastAtMost (g .starts) p (g .«run_count») + 1) 0 =
-          start-view g good (suc (containing (view g) p)) (omega (arith, w .0, runs-view g good)) ∙ ap (λ (r : ℕ). getD (g .starts) r 0) (omega (arith, c)) in
-          let e : eqb (getD (g .starts) (lastAtMost (g .starts) p (g .«run_count») + 1) 0) (p + 1) ≡ ends (view g) p =
-          rw (add-one p, ← s) (ends-next (view g) (good .formed) p lo l) in
-          needs-high (g .starts) (g .«run_count») p h ∙ ap not e ∙ sym (rw (first-view g good, le-leb (getD (g .starts) 0 0) p h))
+      go : (t : Bool) → isHeld (side (view g) p) ≡ t → needsIn (g .starts) (g .«run_count») p ≡ needsSplit (view g) p
+      go false h = needs-not (g .starts) (g .«run_count») p (ap isHeld (side-view g good p) ∙ h) ∙ sym (rw h)
+      go true h =
+          let b = held-between (view g) p h in
+          let c = containing-view g good p (b .0) (b .1) in
+          let w = containing-in (view g) (good .formed) p (b .0) (b .1) in
+          let s : start (view g) (suc (containing (view g) p)) ≡ getD (g .starts) (containing (view g) p + 1) 0 =
+          rw (add-one (containing (view g) p)) (start-view g good (suc (containing (view g) p)) (omega (arith, w .0, runs-view g good))) in
+          let e : eqb (p + 1) (getD (g .starts) (containing (view g) p + 1) 0) ≡ ends (view g) p =
+          rw (add-one p, ← s) (ends-next (view g) (good .formed) p (b .0) (b .1)) in
+          needs-found (g .starts) (g .«run_count») p (containing (view g) p) (found-in (g .starts) (g .«run_count») p _ (side-view g good p ∙ side-run (view g) p (b .0) (b .1)))
+          ∙ ap not e ∙ sym (rw h)
 
   -- and so is their count
-  pub splits-in : (ps : List ℕ) → below (len (view g)) ps ≡ true → count (λ p. needsIn (g .starts) (g .«run_count») p) ps ≡ splits (view g) ps
+  pub splits-in : (ps : List ℕ) → count (λ p. needsIn (g .starts) (g .«run_count») p) ps ≡ splits (view g) ps
   unfolding count
-  splits-in [] e = unfold splits held filter in refl
-  splits-in (p ∷ ps) e =
-      let k = known-first (len (view g)) p ps e in
-      rw (needs-in p (k .0), splits-in ps (k .1), one (needsSplit (view g) p)) (sym (splits-first (view g) p ps))
+  splits-in [] = unfold splits held filter in refl
+  splits-in (p ∷ ps) = rw (needs-in p, splits-in ps, one (needsSplit (view g) p)) (sym (splits-first (view g) p ps))
     where
       one : (t : Bool) → bit t ≡ cond t 1 0
       one true = refl
@@ -151,10 +135,9 @@ module _ (g : CausalGraph) (good : Held g) where
         «changed_from» = g .«changed_from»;
       }
 
--- Where the code counts no split, the record stays
-pub none-stored : (g : CausalGraph) → Held g → (ps : List ℕ) → below (len (view g)) ps ≡ true → {n : ℕ} →
-    n ≡ count (λ p. needsIn (g .starts) (g .«run_count») p) ps → n ≡ 0 → g ≡ store (splitAfter (view g) (held (view g) ps))
-none-stored g good ps known e z = good .stored ∙ ap store (sym (none-split (view g) ps (sym (splits-in g good ps known) ∙ sym e ∙ z)))
+-- With no splits the record stays
+pub none-stored : (g : CausalGraph) → Held g → (ps : List ℕ) → {n : ℕ} → n ≡ splits (view g) ps → n ≡ 0 → g ≡ store (splitAfter (view g) (held (view g) ps))
+none-stored g good ps e z = good .stored ∙ ap store (sym (none-split (view g) ps (sym e ∙ z)))
 
 -- A turn, over the record that the arrays make
 module _ (g : CausalGraph) (x : Parts) (good : Held (withParts g x)) where
@@ -162,9 +145,9 @@ module _ (g : CausalGraph) (x : Parts) (good : Held (withParts g x)) where
   unfolding withParts
   with-long = long-of (withParts g x) good
 
-  with-needs : (p : ℕ) → p < len (view (withParts g x)) → needsIn (x .starts) (x .counts .runs) p ≡ needsSplit (view (withParts g x)) p
+  with-needs : (p : ℕ) → needsIn (x .starts) (x .counts .runs) p ≡ needsSplit (view (withParts g x)) p
   unfolding withParts
-  with-needs p l = needs-in (withParts g x) good p l
+  with-needs p = needs-in (withParts g x) good p
 
   with-fits : (p : ℕ) → Placed (withParts g x) p → SplitFits x (lastAtMost (x .starts) p (x .counts .runs))
   unfolding withParts
@@ -177,7 +160,7 @@ module _ (g : CausalGraph) (x : Parts) (good : Held (withParts g x)) where
 
   module _ (p : ℕ) (room : Room (view (withParts g x)) (p ∷ [])) where
     needs-here : needsIn (x .starts) (x .counts .runs) p ≡ needsSplit (view (withParts g x)) p
-    needs-here = with-needs p (known-first (len (view (withParts g x))) p [] (room .known) .0)
+    needs-here = with-needs p
 
     pub after-fits : AfterFits x p
     after-fits = record { long = with-long; fits = λ e. with-fits p (placed (withParts g x) good p room (sym needs-here ∙ e)) }
@@ -205,8 +188,3 @@ parts-on ps g x y i h s e =
 pub changed-fits : (g : CausalGraph) (x : Parts) → Held (withParts g x) → x .counts .changed < 2 ^ 32
 unfolding withParts view
 changed-fits g x good = omega (arith, good .formed .changed, runs-view (withParts g x) good, facts (withParts g x) good .runs)
-
--- A turn of the count
-pub bit-one : (b : Bool) → cond b 1 0 ≡ bit b
-bit-one true = refl
-bit-one false = refl

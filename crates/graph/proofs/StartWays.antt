@@ -1,13 +1,13 @@
 -- The ways out of a run start and of a take, each as one law in the words of the code's tests. Assumes nothing.
 use mathlib.Core.Path.{_≡_, refl, sym, ap, _∙_}
-use mathlib.Core.Bool.{Bool, true, false, not, _||_}
+use mathlib.Core.Bool.{Bool, true, false, not}
 use Prim.Native.Nat.{ℕ, suc, _+_, _<_, _≤_}
 use native.Mathlib.Omega.{arith}
 use lib.ListN.{take, getD}
-use lib.Dec.{leb, eqb}
-use borrow.Author.Tests.{lt-ltb, le-ltb, le-leb, lt-leb, eq-eqb, ne-eqb}
+use lib.Dec.{eqb}
+use borrow.Author.Tests.{lt-ltb, le-ltb, eq-eqb, ne-eqb}
 use Rattle.lists.specs.Lists.{mem}
-use Rattle.lists.proofs.Truth.{false-true, or-left, or-right}
+use Rattle.lists.proofs.Truth.{false-true}
 use Rattle.model.specs.declared.record.CausalGraph.{CausalGraph}
 use Rattle.model.specs.declared.answers.Started.{Started}
 use Rattle.model.specs.declared.answers.Taken.{Taken}
@@ -17,13 +17,16 @@ use Rattle.model.specs.declared.answers.Refusal.{Refusal}
 use Rattle.model.specs.declared.answers.Outcome.{Outcome}
 use Rattle.model.specs.declared.answers.Outcome.the-variants.{Done, Refused}
 use Rattle.model.specs.Refusals.{firstOf}
-use Rattle.model.specs.Graph.{Graph, runs, start, firstHeld, len, entries, containing, marked, marks}
+use Rattle.model.specs.Graph.{Graph, runs, start, entries, containing, marked, marks, inRun, side, isHeld}
 use Rattle.model.specs.Record.{view, store}
 use Rattle.model.specs.Broken.{broken, Held}
 use Rattle.model.specs.Split.{split}
-use Rattle.model.specs.Start.{Starting, answers, splitting, alone, starting, splitOutcome, told, startRefused, startHeldOf, startRunAtOf, taken, takeHeldOf, takeChangedFromOf}
+use Rattle.model.specs.Start.{Starting, answers, splitting, alone, startingIn, starting, splitOutcome, told, startRefused, startHeldOf, startRunAtOf, taken, takeHeldOf, takeChangedFromOf}
+use Rattle.model.proofs.Siding.{run-told}
+use Rattle.model.proofs.FormedCalls.{starting-out, starting-in}
+use Rattle.model.proofs.Sides.{sides}
 use Rattle.model.proofs.Lasting.{marks-list as marks-mem}
-use Rattle.graph.proofs.Views.{runs-view, entries-view, tips-view, marks-view, first-view, len-view, start-view, marks-list, starts-pad, heads-pad, parents-pad, frontier-pad, seen-pad, marks-pad}
+use Rattle.graph.proofs.Views.{runs-view, entries-view, tips-view, marks-view, start-view, marks-list, starts-pad, heads-pad, parents-pad, frontier-pad, seen-pad, marks-pad}
 
 -- A choice by a test that is known
 if-true : {A : Type 0} (a b : A) (t : Bool) → t ≡ true → (elim t as (λ _. A) [ true ↦ a | false ↦ b ]) ≡ a
@@ -34,34 +37,19 @@ if-false : {A : Type 0} (a b : A) (t : Bool) → t ≡ false → (elim t as (λ 
 if-false a b true e = false-true (sym e)
 if-false a b false e = refl
 
--- What a run start comes to
-module _ (g : Graph) (at : ℕ) where
-  starting-outside : leb at (firstHeld g) || leb (len g) at ≡ true → starting g at ≡ answers false
-  unfolding starting
-  starting-outside e = if-true _ _ (leb at (firstHeld g) || leb (len g) at) e
+-- What a run start comes to in run r
+module _ (g : Graph) (at r : ℕ) where
+  in-there : start g r ≡ at → startingIn g at r ≡ answers (not (marked g r))
+  unfolding startingIn
+  in-there e = if-true _ _ (eqb (start g r) at) (eq-eqb _ _ e)
 
-  module _ (lo : firstHeld g < at) (hi : at < len g) where
-    inside : leb at (firstHeld g) || leb (len g) at ≡ false
-    inside = rw (lt-leb at (firstHeld g) lo, lt-leb (len g) at hi)
+  in-alone : (start g r ≡ at → ⊥) → alone g r ≡ true → startingIn g at r ≡ answers false
+  unfolding startingIn
+  in-alone n a = if-false _ _ (eqb (start g r) at) (ne-eqb _ _ n) ∙ if-true _ _ (alone g r) a
 
-    starting-there : start g (containing g at) ≡ at → starting g at ≡ answers (not (marked g (containing g at)))
-    unfolding starting
-    starting-there e =
-        if-false _ _ (leb at (firstHeld g) || leb (len g) at) inside ∙ if-true _ _ (eqb (start g (containing g at)) at) (eq-eqb _ _ e)
-
-    starting-alone : (start g (containing g at) ≡ at → ⊥) → alone g (containing g at) ≡ true → starting g at ≡ answers false
-    unfolding starting
-    starting-alone n a =
-        if-false _ _ (leb at (firstHeld g) || leb (len g) at) inside ∙
-        if-false _ _ (eqb (start g (containing g at)) at) (ne-eqb _ _ n) ∙
-        if-true _ _ (alone g (containing g at)) a
-
-    starting-splits : (start g (containing g at) ≡ at → ⊥) → alone g (containing g at) ≡ false → starting g at ≡ splitting
-    unfolding starting
-    starting-splits n a =
-        if-false _ _ (leb at (firstHeld g) || leb (len g) at) inside ∙
-        if-false _ _ (eqb (start g (containing g at)) at) (ne-eqb _ _ n) ∙
-        if-false _ _ (alone g (containing g at)) a
+  in-splits : (start g r ≡ at → ⊥) → alone g r ≡ false → startingIn g at r ≡ splitting
+  unfolding startingIn
+  in-splits n a = if-false _ _ (eqb (start g r) at) (ne-eqb _ _ n) ∙ if-false _ _ (alone g r) a
 
 -- What a split comes to
 split-runs : (g : Graph) → 512 ≤ runs g → splitOutcome g ≡ Refused TooManyRuns
@@ -126,41 +114,39 @@ module _ (g : CausalGraph) (at : ℕ) where
           told (store (split (view g) (containing (view g) at) at)) true
       go s o p q = rw (p, q)
 
--- At most the first held event, or at least the number of events
-module _ (g : CausalGraph) (held : Held g) (at : ℕ) where
-  pub start-before : at ≤ getD (g .starts) 0 0 → told g false ≡ startHeldOf g at
-  start-before h =
-      tells g at false
-      (starting-outside (view g) at (or-left _ (le-leb at (firstHeld (view g)) (omega (arith, first-view g held)))))
+-- In no run
+pub start-outside : (g : CausalGraph) (at : ℕ) → isHeld (side (view g) at) ≡ false → told g false ≡ startHeldOf g at
+start-outside g at h = tells g at false (starting-out (view g) at h)
 
-  pub start-past : getD (g .starts) (g .«run_count») 0 ≤ at → told g false ≡ startHeldOf g at
-  start-past h =
-      tells g at false
-      (starting-outside (view g) at (or-right (leb at (firstHeld (view g))) (le-leb (len (view g)) at (omega (arith, len-view g held)))))
+-- In run r
+module _ (g : CausalGraph) (held : Held g) (at run : ℕ) (there : side (view g) at ≡ inRun run) where
+  pub in-runs : run < g .«run_count»
+  in-runs = omega (arith, sides (view g) (held .formed) .run at run .0 there .0, runs-view g held)
 
--- In a run
-module _ (g : CausalGraph) (held : Held g) (at run : ℕ) (lo : firstHeld (view g) < at) (hi : at < len (view g))
-    (holds : run ≡ containing (view g) at) (in-runs : run < g .«run_count») where
-  here : start (view g) (containing (view g) at) ≡ getD (g .starts) run 0
-  here = ap (λ (r : ℕ). start (view g) r) (sym holds) ∙ start-view g held run (omega arith)
+  lies : starting (view g) at ≡ startingIn (view g) at run
+  lies = starting-in (view g) at run there
 
-  not-here : (getD (g .starts) run 0 ≡ at → ⊥) → start (view g) (containing (view g) at) ≡ at → ⊥
-  not-here n e = n (sym here ∙ e)
+  is-run : containing (view g) at ≡ run
+  is-run = run-told (view g) at run there .2
+
+  here : start (view g) run ≡ getD (g .starts) run 0
+  here = start-view g held run (omega (arith, in-runs))
 
   -- at its start: told whether it is unmarked
   pub start-there : getD (g .starts) run 0 ≡ at → told g (not (marked (view g) run)) ≡ startHeldOf g at
-  start-there e =
-      ap (λ (r : ℕ). told g (not (marked (view g) r))) holds ∙
-      tells g at (not (marked (view g) (containing (view g) at))) (starting-there (view g) at lo hi (here ∙ e))
+  start-there e = tells g at (not (marked (view g) run)) (lies ∙ in-there (view g) at run (here ∙ e))
 
   -- after its start
   module _ (off : getD (g .starts) run 0 ≡ at → ⊥) where
+    not-here : start (view g) run ≡ at → ⊥
+    not-here e = off (sym here ∙ e)
+
     pub start-alone : alone (view g) run ≡ true → told g false ≡ startHeldOf g at
-    start-alone a = tells g at false (starting-alone (view g) at lo hi (not-here off) (ap (alone (view g)) (sym holds) ∙ a))
+    start-alone a = tells g at false (lies ∙ in-alone (view g) at run not-here a)
 
     module _ (a : alone (view g) run ≡ false) where
       parts : starting (view g) at ≡ splitting
-      parts = starting-splits (view g) at lo hi (not-here off) (ap (alone (view g)) (sym holds) ∙ a)
+      parts = lies ∙ in-splits (view g) at run not-here a
 
       pub start-full : 512 ≤ g .«run_count» → startRefused g TooManyRuns ≡ startHeldOf g at
       start-full h = refuses g at TooManyRuns parts (split-runs (view g) (omega (arith, runs-view g held)))
@@ -170,7 +156,7 @@ module _ (g : CausalGraph) (held : Held g) (at run : ℕ) (lo : firstHeld (view 
 
       pub start-splits : g .«run_count» < 512 → g .«entry_count» < 2048 → told (store (split (view g) run at)) true ≡ startHeldOf g at
       start-splits h k =
-          ap (λ (r : ℕ). told (store (split (view g) r at)) true) holds ∙
+          ap (λ (r : ℕ). told (store (split (view g) r at)) true) (sym is-run) ∙
           splits g at parts (split-done (view g) (omega (arith, runs-view g held)) (omega (arith, entries-view g held)))
 
 -- A run is marked exactly if it is among the marks

@@ -6,16 +6,17 @@ use mathlib.Core.List.{List, [], _∷_}
 use Prim.Native.Nat.{ℕ, _+_, _≤_, _<_, min, max}
 use lib.ListN.{length, getD, take, set}
 use lib.Dec.{leb, ltb, eqb}
-use Rattle.lists.specs.Lists.{all, rising, below}
+use Rattle.lists.specs.Lists.{bit, all, count, rising}
 use Rattle.lists.specs.Areas.{pad}
 use Rattle.lists.specs.Scans.{keptIn, insertIn, grow, lastAtMost}
 use Rattle.lists.specs.declared.Kept.{Kept}
 use Rattle.model.specs.declared.record.CausalGraph.{CausalGraph}
 use Rattle.model.specs.Limits.{maxEntries, maxFrontier, maxLen, maxRuns, maxStarts}
-use Rattle.model.specs.Graph.{Graph, runs, len, entries, held}
+use Rattle.model.specs.Graph.{Graph, runs, entries, Side, inRun, before, unknown, isHeld, isKnown, held}
 use Rattle.model.specs.Split.{splits}
 use Rattle.model.specs.Push.{staying}
 use Rattle.graph.specs.declared.pushing.Own.{Own}
+use Rattle.graph.specs.declared.pushing.ParentCounts.{ParentCounts}
 use Rattle.graph.specs.declared.splitting.Counts.{Counts}
 
 -- the least number, and the largest u32 of none
@@ -55,9 +56,28 @@ splitIn p r at =
     (insertIn (p .counts .runs) (r + 1) (cond (eqb (getD (p .seen) r 0) (getD (p .starts) r 0)) at (getD (p .seen) r 0)) (grow 0 0) (p .seen))
     (record { runs = p .counts .runs + 1; entries = p .counts .entries + 1; changed = min r (p .counts .changed) })
 
+-- where event e lies, by the starts of n runs in their array
+unfoldable pub sideIn : List ℕ → ℕ → ℕ → Side
+sideIn starts n e = cond (ltb e (getD starts 0 0)) before (cond (ltb e (getD starts n 0)) (inRun (lastAtMost starts e n)) unknown)
+
 -- event p is held, and no run, nor the graph, ends in it
 unfoldable pub needsIn : List ℕ → ℕ → ℕ → Bool
-needsIn starts n p = leb (getD starts 0 0) p && not (eqb (getD starts (lastAtMost starts p n + 1) 0) (p + 1))
+needsIn starts n p = isHeld (sideIn starts n p) && not (eqb (p + 1) (getD starts (lastAtMost starts p n + 1) 0))
+
+-- of some parents, how many are not yet known, how many are held, and how many of these split their run; and with one more
+unfoldable pub countParents : List ℕ → ℕ → List ℕ → ParentCounts
+countParents starts n ps = record {
+  unknown = count (λ p. not (isKnown (sideIn starts n p))) ps;
+  held = count (λ p. isHeld (sideIn starts n p)) ps;
+  splits = count (λ p. needsIn starts n p) ps;
+}
+
+unfoldable pub countParent : List ℕ → ℕ → ParentCounts → ℕ → ParentCounts
+countParent starts n t p = record {
+  unknown = t .unknown + bit (not (isKnown (sideIn starts n p)));
+  held = t .held + bit (isHeld (sideIn starts n p));
+  splits = t .splits + bit (needsIn starts n p);
+}
 
 -- then its run is split after it
 unfoldable pub afterIn : Parts → ℕ → Parts
@@ -102,16 +122,14 @@ withParts g x =
       «changed_from» = record { 0 = x .counts .changed };
     }
 
--- rising known parents, and room for their splits and a run more
+-- rising parents, and room for their splits and a run more
 pub record Room (g : Graph) (ps : List ℕ) : Type 0 where
   pub rises : rising ps ≡ true
-  pub known : below (len g) ps ≡ true
   pub for-runs : runs g + splits g ps + 1 ≤ maxRuns
   pub for-entries : entries g + splits g ps ≤ maxEntries
 
 -- what a new run needs of the graph after the splits
 pub record Joins (g : Graph) (ps : List ℕ) (n : ℕ) : Type 0 where
-  pub known : below (len g) ps ≡ true
   pub for-runs : runs g < maxRuns
   pub for-entries : entries g + length (held g ps) ≤ maxEntries
   pub for-frontier : length (staying g ps) < maxFrontier
@@ -121,12 +139,12 @@ pub record Joins (g : Graph) (ps : List ℕ) (n : ℕ) : Type 0 where
 abbrev pub ownIn : List ℕ → ℕ → List ℕ × Own
 ownIn l s = (pad maxEntries l, record { count = length l; seen = record { 0 = s } })
 
--- a parent: the run that the scan finds joins the entries if the parent is held
+-- a parent: its run joins the entries if it is held
 unfoldable pub addOwn : List ℕ → List ℕ → ℕ → List ℕ × Own → ℕ → List ℕ × Own
 addOwn starts seen n t p =
     let r : ℕ = lastAtMost starts p n in
     let after : ℕ = cond (eqb (getD seen r 0) (getD starts r 0)) (getD starts (r + 1) 0) (getD seen r 0) in
-    cond (leb (getD starts 0 0) p) (set (t .0) (t .1 .count) r, record { count = t .1 .count + 1; seen = record { 0 = max (t .1 .seen .0) after } }) t
+    cond (isHeld (sideIn starts n p)) (set (t .0) (t .1 .count) r, record { count = t .1 .count + 1; seen = record { 0 = max (t .1 .seen .0) after } }) t
 
 unfoldable pub ownAll : List ℕ → List ℕ → ℕ → List ℕ × Own → List ℕ → List ℕ × Own
 ownAll starts seen n t [] = t

@@ -44,7 +44,7 @@ fn bad_groups(heads: &[u32], runs: usize, entries: usize) -> bool
 }
 
 // Whether event b comes just after event a.
-fn is_next(a: EventIndex, b: EventIndex) -> bool
+pub(crate) fn is_next(a: EventIndex, b: EventIndex) -> bool
     ensures { λ r. ⌜ r ≡ eqb (a .0 + 1) (b .0) ⌝ }
 {
     if b.0 <= a.0 {

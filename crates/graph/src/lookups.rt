@@ -1,8 +1,12 @@
 // What is read off a graph.
 ghost use mathlib.Core.Path.{_≡_};
 ghost use mathlib.Core.List.{[]};
-ghost use Rattle.model.specs.declared.answers.Outcome.the-variants.{Refused as Outcome·Refused};
-ghost use Rattle.model.specs.Answers.{parentRunsOr, frontierOr};
+ghost use Prim.Native.Nat.{_≤_};
+ghost use lib.ListN.{length};
+ghost use Rattle.model.specs.declared.answers.Outcome.the-variants.{Done, Refused as Outcome·Refused};
+ghost use Rattle.model.specs.Limits.{maxRuns, maxStarts};
+ghost use Rattle.model.specs.Answers.{containingOr, parentRunsOr, frontierOr};
+ghost use Rattle.graph.specs.Loops.{sideIn};
 ghost use Rattle.model.specs.Lookups.{
   startOf,
   eventsOf,
@@ -16,6 +20,7 @@ ghost use Rattle.model.specs.Lookups.{
 };
 use model::BoolAnswer;
 use model::CausalGraph;
+use model::ContainingAnswer;
 use model::EventAnswer;
 use model::EventIndex;
 use model::EventRunIndex;
@@ -26,7 +31,6 @@ use model::MAX_RUNS;
 use model::Outcome;
 use model::ParentRuns;
 use model::Refusal;
-use model::RunAnswer;
 
 // A run's first event; for one past the last run, the number of events.
 pub fn start(g: CausalGraph, run: EventRunIndex) -> EventAnswer
@@ -91,23 +95,30 @@ pub fn parents(g: CausalGraph, run: EventRunIndex) -> ParentRuns
     }
 }
 
-// The run that holds an event.
-pub fn containing(g: CausalGraph, event: EventIndex) -> RunAnswer
+// Where an event lies, by the starts of a graph that is known not to be broken: all who ask on which side of a graph an event is ask here.
+pub(crate) fn containing_in(starts: &[u32], runs: usize, event: EventIndex) -> ContainingAnswer
+    requires { ⌜ runs ≤ maxRuns ⌝ }
+    requires { ⌜ length (now starts) ≡ maxStarts ⌝ }
+    ensures { λ r. ⌜ r ≡ containingOr Done (sideIn (now (starts .entry)) runs (event .0)) ⌝ }
+{
+    if event.0 < starts[0] {
+        return ContainingAnswer::Before;
+    }
+    if starts[runs] <= event.0 {
+        return ContainingAnswer::Unknown;
+    }
+    let run = lists::last_at_most(starts, runs, event.0);
+    ContainingAnswer::Run(EventRunIndex(run as u32))
+}
+
+// The run that holds an event, or on which side of the graph it lies.
+pub fn containing(g: CausalGraph, event: EventIndex) -> ContainingAnswer
     ensures { λ r. ⌜ r ≡ containingOf g (event .0) ⌝ }
 {
     if crate::broken::is_broken(g) {
-        return RunAnswer::Refused(Refusal::Broken);
+        return ContainingAnswer::Refused(Refusal::Broken);
     }
-    let e = event.0;
-    let runs = g.run_count;
-    if e < g.starts[0] {
-        return RunAnswer::Refused(Refusal::Outside);
-    }
-    if g.starts[runs] <= e {
-        return RunAnswer::Refused(Refusal::Outside);
-    }
-    let run = lists::last_at_most(&g.starts, runs, e);
-    RunAnswer::Run(EventRunIndex(run as u32))
+    containing_in(&g.starts, g.run_count, event)
 }
 
 // The number of events, including those before the first held one.

@@ -4,16 +4,17 @@ ghost use mathlib.Core.Bool.{true, false, cond, _&&_};
 ghost use mathlib.Core.List.{[], _∷_};
 ghost use Prim.Native.Nat.{_+_, _-_, _<_, _≤_, _^_, min};
 ghost use lib.ListN.{length, getD, take};
-ghost use lib.Dec.{ltb, leb, eqb};
-ghost use Rattle.lists.specs.Lists.{filter, rising, below, same};
-ghost use Rattle.model.specs.Limits.{maxEntries, maxLen, maxRuns};
-ghost use Rattle.model.specs.Graph.{len, marks as Graph·marks, extends};
+ghost use lib.Dec.{ltb, eqb};
+ghost use Rattle.lists.specs.Lists.{bit, count, rising, same};
+ghost use Rattle.model.specs.Limits.{maxEntries, maxLen, maxRuns, maxStarts};
+ghost use Rattle.model.specs.Graph.{len, marks as Graph·marks, isHeld, allKnown, extends};
 ghost use Rattle.model.specs.Record.{view, store};
 ghost use Rattle.model.specs.Broken.{Held};
 ghost use Rattle.model.specs.Push.{grown, joined, lowered, pushHeldOf, pushOf};
-ghost use Rattle.graph.specs.Loops.{OwnFits, addOwn, ownAll, Joins, lowerAll, assembled};
+ghost use Rattle.graph.specs.Loops.{sideIn, countParent, countParents, OwnFits, addOwn, ownAll, Joins, lowerAll, assembled};
 use lists::Kept;
 use model::CausalGraph;
+use model::ContainingAnswer;
 use model::EventIndex;
 use model::EventRunIndex;
 use model::EventsAnswer;
@@ -73,17 +74,68 @@ pub(crate) fn does_extend(g: CausalGraph, ps: &[u32]) -> bool
     extends_in(&g.starts, g.run_count, ps)
 }
 
-// How many are from event `first` on.
-fn count_held(first: EventIndex, ps: &[u32]) -> usize
-    ensures { λ r. ⌜ r ≡ length (filter (λ e. leb (first .0) e) (now (ps .entry))) ⌝ }
+// 1 if a test passes.
+fn one(b: bool) -> usize
+    ensures { λ r. ⌜ r ≡ bit b ⌝ }
 {
-    let mut n = 0;
+    if b {
+        return 1;
+    }
+    0
+}
+
+// Of some parents: how many are not yet known, how many are held, and how many of these split their run.
+pub(crate) struct ParentCounts {
+    pub(crate) unknown: usize,
+    pub(crate) held: usize,
+    pub(crate) splits: usize,
+}
+
+// One parent more.
+fn count_parent(starts: &[u32], runs: usize, t: ParentCounts, p: EventIndex) -> ParentCounts
+    requires { ⌜ runs ≤ maxRuns ⌝ }
+    requires { ⌜ length (now starts) ≡ maxStarts ⌝ }
+    requires { ⌜ t .unknown + 1 < 2 ^ 64 ⌝ }
+    requires { ⌜ t .held + 1 < 2 ^ 64 ⌝ }
+    requires { ⌜ t .splits + 1 < 2 ^ 64 ⌝ }
+    ensures { λ r. ⌜ r ≡ countParent (now (starts .entry)) runs t (p .0) ⌝ }
+{
+    match crate::lookups::containing_in(starts, runs, p) {
+        ContainingAnswer::Run(run) => {
+            let next = run.0 as usize + 1;
+            let ended = crate::broken::is_next(p, EventIndex(starts[next]));
+            ParentCounts {
+                unknown: t.unknown,
+                held: t.held + 1,
+                splits: t.splits + one(!ended),
+            }
+        }
+        ContainingAnswer::Unknown => ParentCounts {
+            unknown: t.unknown + 1,
+            held: t.held,
+            splits: t.splits,
+        },
+        ContainingAnswer::Before | ContainingAnswer::Refused(_) => t,
+    }
+}
+
+// The same for all parents.
+fn count_parents(starts: &[u32], runs: usize, ps: &[u32]) -> ParentCounts
+    requires { ⌜ runs ≤ maxRuns ⌝ }
+    requires { ⌜ length (now starts) ≡ maxStarts ⌝ }
+    ensures { λ r. ⌜ r ≡ countParents (now (starts .entry)) runs (now (ps .entry)) ⌝ }
+{
+    let mut t = ParentCounts {
+        unknown: 0,
+        held: 0,
+        splits: 0,
+    };
     let mut i = 0;
     while i < ps.len() {
-        n += crate::splitting::one(first.0 <= ps[i]);
+        t = count_parent(starts, runs, t, EventIndex(ps[i]));
         i += 1;
     }
-    n
+    t
 }
 
 // The last run grows by n events.
@@ -127,22 +179,22 @@ fn add_own<'a>(
     p: EventIndex,
 ) -> Own
     requires { ⌜ OwnFits (now starts) (now seen) runs (now items) ⌝ }
-    requires { ⌜ (getD (now starts) 0 0 ≤ p .0 → t .count < maxEntries) ⌝ }
+    requires { ⌜ t .count + bit (isHeld (sideIn (now starts) runs (p .0))) ≤ maxEntries ⌝ }
     ensures { λ r. ⌜ (now (items .exit), r) ≡ addOwn (now (starts .entry)) (now (seen .entry)) runs (now (items .entry), t) (p .0) ⌝ }
 {
-    if p.0 < starts[0] {
+    let ContainingAnswer::Run(run) = crate::lookups::containing_in(starts, runs, p) else {
         return t;
-    }
-    let run = lists::last_at_most(starts, runs, p.0);
-    let next = run + 1;
+    };
+    let place = run.0 as usize;
+    let next = place + 1;
     let after = seen_after(
-        EventIndex(seen[run]),
-        EventIndex(starts[run]),
+        EventIndex(seen[place]),
+        EventIndex(starts[place]),
         EventIndex(starts[next]),
     );
     let was = t.seen;
     let n = t.count as usize;
-    items[n] = run as u32;
+    items[n] = run.0;
     Own {
         count: t.count + 1,
         seen: EventIndex(lists::larger(was.0, after.0)),
@@ -159,7 +211,7 @@ fn own_all<'a>(
     ps: &[u32],
 ) -> Own
     requires { ⌜ OwnFits (now starts) (now seen) runs (now items) ⌝ }
-    requires { ⌜ t .count + length (filter (λ e. leb (getD (now starts) 0 0) e) (now ps)) ≤ maxEntries ⌝ }
+    requires { ⌜ t .count + count (λ p. isHeld (sideIn (now starts) runs p)) (now ps) ≤ maxEntries ⌝ }
     ensures { λ r. ⌜ (now (items .exit), r) ≡ ownAll (now (starts .entry)) (now (seen .entry)) runs (now (items .entry), t) (now (ps .entry)) ⌝ }
 {
     let mut h = t;
@@ -282,13 +334,14 @@ fn join(g: CausalGraph, ps: &[u32], n: u32, start: EventIndex) -> CausalGraph
 }
 
 // A push whose parents are known events, rising, and whose events fit: growth, or refusals 6, 7, 8, or a new run.
-fn push_known(g: CausalGraph, ps: &[u32], n: u32, start: EventIndex) -> Pushed
+fn push_known(g: CausalGraph, ps: &[u32], n: u32, start: EventIndex, counts: ParentCounts) -> Pushed
     requires { ⌜ Held g ⌝ }
     requires { ⌜ start .0 ≡ len (view g) ⌝ }
     requires { ⌜ rising (now ps) ≡ true ⌝ }
-    requires { ⌜ below (start .0) (now ps) ≡ true ⌝ }
+    requires { ⌜ allKnown (view g) (now ps) ≡ true ⌝ }
     requires { ⌜ 0 < n ⌝ }
     requires { ⌜ start .0 + n < 2 ^ 32 ⌝ }
+    requires { ⌜ counts ≡ countParents (g .starts) (g .«run_count») (now ps) ⌝ }
     ensures { λ r. ⌜ r ≡ pushHeldOf g (now (ps .entry)) n ⌝ }
 {
     let end = start.0 + n;
@@ -299,15 +352,13 @@ fn push_known(g: CausalGraph, ps: &[u32], n: u32, start: EventIndex) -> Pushed
             answer: EventsAnswer::Events(start, EventIndex(end)),
         };
     }
-    let splits = crate::splitting::count_splits(&g.starts, g.run_count, ps);
-    if over(MAX_RUNS, g.run_count + 1, splits) {
+    if over(MAX_RUNS, g.run_count + 1, counts.splits) {
         return Pushed {
             graph: g,
             answer: EventsAnswer::Refused(Refusal::TooManyRuns),
         };
     }
-    let held = count_held(EventIndex(g.starts[0]), ps);
-    if over(MAX_ENTRIES, g.entry_count + splits, held) {
+    if over(MAX_ENTRIES, g.entry_count + counts.splits, counts.held) {
         return Pushed {
             graph: g,
             answer: EventsAnswer::Refused(Refusal::TooManyEntries),
@@ -320,7 +371,7 @@ fn push_known(g: CausalGraph, ps: &[u32], n: u32, start: EventIndex) -> Pushed
             answer: EventsAnswer::Refused(Refusal::FrontierTooLong),
         };
     }
-    let parted = crate::splitting::split_all(g, ps);
+    let parted = crate::splitting::split_all(g, ps, counts.splits);
     let joined = join(parted, ps, n, start);
     Pushed {
         graph: joined,
@@ -354,7 +405,8 @@ pub fn push_held(g: CausalGraph, parents: &[u32], len: u32) -> Pushed
             answer: EventsAnswer::Refused(Refusal::NotRising),
         };
     }
-    if !lists::all_below(parents, parents.len(), start) {
+    let counts = count_parents(&g.starts, runs, parents);
+    if 0 < counts.unknown {
         return Pushed {
             graph: g,
             answer: EventsAnswer::Refused(Refusal::UnknownEvent),
@@ -366,7 +418,7 @@ pub fn push_held(g: CausalGraph, parents: &[u32], len: u32) -> Pushed
             answer: EventsAnswer::Refused(Refusal::TooManyEvents),
         };
     }
-    push_known(g, parents, len, EventIndex(start))
+    push_known(g, parents, len, EventIndex(start), counts)
 }
 
 // Appends a chain of `len` events whose first has `parents`, and answers the first of them and the end.

@@ -2,16 +2,15 @@
 ghost use mathlib.Core.Path.{_≡_};
 ghost use mathlib.Core.Bool.{cond};
 ghost use lib.Dec.{eqb};
-ghost use lib.ListN.{length, getD};
-ghost use Prim.Native.Nat.{ℕ, _+_, _<_, _≤_, _^_, min};
-ghost use Rattle.lists.specs.Lists.{count};
-ghost use Rattle.model.specs.Limits.{maxEntries, maxRuns, maxStarts};
+ghost use Prim.Native.Nat.{_+_, _<_, _≤_, _^_, min};
+ghost use Rattle.model.specs.Limits.{maxEntries, maxRuns};
 ghost use Rattle.model.specs.Graph.{held};
 ghost use Rattle.model.specs.Record.{view, store};
 ghost use Rattle.model.specs.Broken.{Held};
-ghost use Rattle.model.specs.Split.{split, splitAfter};
-ghost use Rattle.graph.specs.Loops.{Room, parts, SplitFits, splitIn, AfterFits, afterIn, needsIn, withParts};
+ghost use Rattle.model.specs.Split.{split, splitAfter, splits as Split·splits};
+ghost use Rattle.graph.specs.Loops.{Room, parts, SplitFits, splitIn, AfterFits, afterIn, withParts};
 use model::CausalGraph;
+use model::ContainingAnswer;
 use model::EventIndex;
 use model::EventRunIndex;
 use model::MAX_ENTRIES;
@@ -130,39 +129,28 @@ fn split_after(
     c: Counts,
     p: EventIndex,
 ) -> Counts
-    requires { ⌜ p .0 + 1 < 2 ^ 32 ⌝ }
     requires { ⌜ AfterFits (parts (now starts) (now heads) (now parents) (now seen) c) (p .0) ⌝ }
     ensures { λ r. ⌜ parts (now (starts .exit)) (now (heads .exit)) (now (parents .exit)) (now (seen .exit)) r ≡
         afterIn (parts (now (starts .entry)) (now (heads .entry)) (now (parents .entry)) (now (seen .entry)) c) (p .0) ⌝ }
 {
-    let runs = c.runs;
-    if p.0 < starts[0] {
+    let ContainingAnswer::Run(run) = crate::lookups::containing_in(starts, c.runs, p) else {
+        return c;
+    };
+    let next = run.0 as usize + 1;
+    if crate::broken::is_next(p, EventIndex(starts[next])) {
         return c;
     }
-    let run = lists::last_at_most(starts, runs, p.0);
-    let next = run + 1;
-    if starts[next] == p.0 + 1 {
-        return c;
-    }
-    split_in(
-        starts,
-        heads,
-        parents,
-        seen,
-        c,
-        EventRunIndex(run as u32),
-        EventIndex(p.0 + 1),
-    )
+    split_in(starts, heads, parents, seen, c, run, EventIndex(p.0 + 1))
 }
 
-// Splits the runs of held parents after them, one parent after another.
-pub(crate) fn split_all(g: CausalGraph, ps: &[u32]) -> CausalGraph
+// Splits the runs of held parents after them, one parent after another: so many splits.
+pub(crate) fn split_all(g: CausalGraph, ps: &[u32], splits: usize) -> CausalGraph
     requires { ⌜ Held g ⌝ }
-    requires { ⌜ ((k : ℕ) → k < length (now ps) → getD (now ps) k 0 + 1 < 2 ^ 32) ⌝ }
     requires { ⌜ Room (view g) (now ps) ⌝ }
+    requires { ⌜ splits ≡ Split·splits (view g) (now ps) ⌝ }
     ensures { λ r. ⌜ r ≡ store (splitAfter (view g) (held (view g) (now (ps .entry)))) ⌝ }
 {
-    if count_splits(&g.starts, g.run_count, ps) == 0 {
+    if splits == 0 {
         return g;
     }
     let mut starts = g.starts;
@@ -188,45 +176,4 @@ pub(crate) fn split_all(g: CausalGraph, ps: &[u32]) -> CausalGraph
         i += 1;
     }
     with_parts(g, starts, heads, parents, seen, c)
-}
-
-// Whether a parent is held and no run, nor the graph, ends in it.
-fn needs_split(starts: &[u32], runs: usize, p: EventIndex) -> bool
-    requires { ⌜ runs ≤ maxRuns ⌝ }
-    requires { ⌜ length (now starts) ≡ maxStarts ⌝ }
-    requires { ⌜ p .0 + 1 < 2 ^ 32 ⌝ }
-    ensures { λ r. ⌜ r ≡ needsIn (now (starts .entry)) runs (p .0) ⌝ }
-{
-    if p.0 < starts[0] {
-        return false;
-    }
-    let run = lists::last_at_most(starts, runs, p.0);
-    let next = run + 1;
-    starts[next] != p.0 + 1
-}
-
-// 1 if a test passes.
-pub(crate) fn one(b: bool) -> usize
-    ensures { λ r. ⌜ r ≡ cond b 1 0 ⌝ }
-{
-    if b {
-        return 1;
-    }
-    0
-}
-
-// How many parents need a split.
-pub(crate) fn count_splits(starts: &[u32], runs: usize, ps: &[u32]) -> usize
-    requires { ⌜ runs ≤ maxRuns ⌝ }
-    requires { ⌜ length (now starts) ≡ maxStarts ⌝ }
-    requires { ⌜ ((k : ℕ) → k < length (now ps) → getD (now ps) k 0 + 1 < 2 ^ 32) ⌝ }
-    ensures { λ r. ⌜ r ≡ count (λ p. needsIn (now (starts .entry)) runs p) (now (ps .entry)) ⌝ }
-{
-    let mut n = 0;
-    let mut i = 0;
-    while i < ps.len() {
-        n += one(needs_split(starts, runs, EventIndex(ps[i])));
-        i += 1;
-    }
-    n
 }

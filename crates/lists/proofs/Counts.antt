@@ -11,7 +11,7 @@ use lib.ListN.{length, drop, getD, drop-of-length-le}
 use lib.Seq.{drop-cons}
 use lib.Dec.{ltb, eqb}
 use borrow.Author.Tests.{ltb-true, eqb-true, lt-ltb, le-ltb, eq-eqb, ne-eqb}
-use Rattle.lists.specs.Lists.{bit, filter, count, sum, from, upto, mem, occurs}
+use Rattle.lists.specs.Lists.{bit, all, filter, count, sum, from, upto, mem, occurs}
 use Rattle.lists.proofs.Truth.{lt-or-le, eq-or-not, false-true, cond-same, or-cases, or-left, or-right, bit-le}
 use Rattle.lists.proofs.Between.{within, within-in, within-before, within-after, none-within, longer}
 
@@ -168,6 +168,26 @@ filter-shorter p x (y ∷ l) m e = go (p y) refl (or-cases (eqb x y) (mem x l) m
     go true q (inl k) ih = false-true (sym e ∙ ap p (eqb-true x y k) ∙ q)
     go true q (inr k) ih = omega (arith, ih k)
     go false q k ih = omega (arith, filter-length p l)
+
+-- as many as pass
+pub filter-count : (p : ℕ → Bool) (xs : List ℕ) → length (filter p xs) ≡ count p xs
+unfolding filter count
+filter-count p [] = refl
+filter-count p (x ∷ xs) = go (p x) (filter-count p xs)
+  where
+    go : (t : Bool) → length (filter p xs) ≡ count p xs → length (cond t (x ∷ filter p xs) (filter p xs)) ≡ bit t + count p xs
+    go true ih = omega arith
+    go false ih = omega arith
+
+-- None fails exactly if each passes
+pub all-none : (p : ℕ → Bool) (xs : List ℕ) → all p xs ≡ eqb (count (λ x. not (p x)) xs) 0
+unfolding all count
+all-none p [] = refl
+all-none p (x ∷ xs) = go (p x) (all-none p xs)
+  where
+    go : (t : Bool) → all p xs ≡ eqb (count (λ x. not (p x)) xs) 0 → t && all p xs ≡ eqb (bit (not t) + count (λ x. not (p x)) xs) 0
+    go true ih = rw zero-add ih
+    go false ih = sym (ne-eqb (1 + count (λ x. not (p x)) xs) 0 (λ z. omega arith))
 
 -- A filter that drops none
 pub filter-true : (p : ℕ → Bool) (xs : List ℕ) → ((x : ℕ) → p x ≡ true) → filter p xs ≡ xs

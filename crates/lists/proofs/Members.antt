@@ -203,6 +203,16 @@ any-same p q [] h = refl
 any-same p q (x ∷ xs) h =
     rw (h x (or-left (mem x xs) (eq-eqb x x refl)), any-same p q xs (λ y m. h y (or-right (eqb y x) m)))
 
+pub all-same : (p q : ℕ → Bool) (xs : List ℕ) → ((x : ℕ) → mem x xs ≡ true → p x ≡ q x) → all p xs ≡ all q xs
+unfolding all
+all-same p q [] h = refl
+all-same p q (x ∷ xs) h = rw (h x (mem-first x xs), all-same p q xs (λ y m. h y (mem-rest x y xs m)))
+
+pub filter-agree : (p q : ℕ → Bool) (xs : List ℕ) → ((x : ℕ) → mem x xs ≡ true → p x ≡ q x) → filter p xs ≡ filter q xs
+unfolding filter
+filter-agree p q [] h = refl
+filter-agree p q (x ∷ xs) h = rw (h x (mem-first x xs), filter-agree p q xs (λ y m. h y (mem-rest x y xs m)))
+
 -- The same numbers in the same order are the same list
 pub same-eq : (xs ys : List ℕ) → same xs ys ≡ true → xs ≡ ys
 unfolding same

@@ -27,4 +27,9 @@ changes = record {
   F4-by-hand = refl;
   F4-by-hand-true = refl;
   F4-by-hand-false = refl;
+  F11 = refl;
+  F11-later = refl;
+  F11-none = refl;
+  F11-new = refl;
+  F11-broken = refl;
 }

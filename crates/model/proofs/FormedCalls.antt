@@ -1,28 +1,56 @@
 -- `start_run_at` and `take_changed_from` keep a graph well-formed and within the limits. Assumes nothing.
-use mathlib.Core.Path.{_≡_, refl, ap}
-use mathlib.Core.Bool.{Bool, true, false, not, _||_}
-use Prim.Native.Nat.{ℕ, suc, _+_, _<_}
+use mathlib.Core.Path.{_≡_, refl, sym, ap, _∙_}
+use mathlib.Core.Logic.{_⊎_, inl, inr}
+use mathlib.Core.Bool.{Bool, true, false, not}
+use Prim.Native.Nat.{ℕ, suc, _+_, _≤_, _<_}
 use native.Mathlib.Omega.{arith}
-use lib.Dec.{leb, eqb}
-use borrow.Author.Tests.{ltb-false, leb-false, eqb-true, eqb-false, lt-leb, eq-eqb, not-true}
-use Rattle.lists.proofs.Truth.{lt-of-ne, false-true, or-first, or-last}
+use lib.Dec.{eqb}
+use borrow.Author.Tests.{ltb-false, eqb-true, eqb-false, eq-eqb, not-true}
+use Rattle.lists.proofs.Truth.{lt-or-le, lt-of-ne, false-true}
 use Rattle.model.specs.declared.answers.Outcome.the-variants.{Done}
-use Rattle.model.specs.Graph.{Graph, runs, start, firstHeld, len, entries, containing, marked}
+use Rattle.model.specs.Graph.{Graph, runs, start, firstHeld, len, entries, containing, marked, Side, inRun, before, unknown, side, isHeld}
 use Rattle.model.specs.Broken.{WellFormed, WithinLimits}
 use Rattle.model.specs.Split.{split}
-use Rattle.model.specs.Start.{Starting, answers, splitting, alone, starting, splitOutcome, taken}
+use Rattle.model.specs.Start.{Starting, answers, splitting, alone, startingIn, starting, splitOutcome, taken}
 use Rattle.model.proofs.Tests.{passed}
-use Rattle.model.proofs.FormedReads.{containing-in}
+use Rattle.model.proofs.FormedReads.{first-start, containing-in, marked-first}
+use Rattle.model.proofs.Siding.{side-run, held-between}
 use Rattle.model.proofs.FormedSplits.{split-runs, split-entries, split-formed}
 
--- What the tests of a run start come to: outside, at a run's start, of a run that stands alone; and the answer at a run's start
-abbrev started : (outside begins lone unmarked : Bool) → Starting
-started outside begins lone unmarked = elim outside as (λ _. Starting) [
-  | true ↦ answers false
-  | false ↦ elim begins as (λ _. Starting) [
-    | true ↦ answers unmarked
-    | false ↦ elim lone as (λ _. Starting) [ true ↦ answers false | false ↦ splitting ]
-  ]
+-- What a run start comes to, by where its event lies
+module _ (g : Graph) (at : ℕ) where
+  abbrev startedAt : Side → Starting
+  startedAt s = elim s as (λ _. Starting) [ inRun r ↦ startingIn g at r | before ↦ answers false | unknown ↦ answers false ]
+
+  pub starting-out : isHeld (side g at) ≡ false → starting g at ≡ answers false
+  unfolding starting isHeld
+  starting-out h = go (side g at) h
+    where
+      go : (s : Side) → isHeld s ≡ false → startedAt s ≡ answers false
+      go (inRun r) q = false-true (sym q)
+      go before q = refl
+      go unknown q = refl
+
+  pub starting-in : (r : ℕ) → side g at ≡ inRun r → starting g at ≡ startingIn g at r
+  unfolding starting
+  starting-in r e = ap startedAt e
+
+  -- One that is not told false lies in a run
+  starting-held : (s : Starting) → starting g at ≡ s → (answers false ≡ s → ⊥) →
+      (firstHeld g ≤ at) × (at < len g) × (startingIn g at (containing g at) ≡ s)
+  starting-held s e other = go (isHeld (side g at)) refl
+    where
+      go : (t : Bool) → isHeld (side g at) ≡ t → (firstHeld g ≤ at) × (at < len g) × (startingIn g at (containing g at) ≡ s)
+      go false h = absurd (other (sym (starting-out h) ∙ e))
+      go true h =
+          let b = held-between g at h in
+          (b .0, b .1, sym (starting-in (containing g at) (side-run g at (b .0) (b .1))) ∙ e)
+
+-- In a run: the tests of its start and of one that stands alone; and the answer at its start
+abbrev started : (begins lone unmarked : Bool) → Starting
+started begins lone unmarked = elim begins as (λ _. Starting) [
+  | true ↦ answers unmarked
+  | false ↦ elim lone as (λ _. Starting) [ true ↦ answers false | false ↦ splitting ]
 ]
 
 abbrev splits-run : Starting → Bool
@@ -33,58 +61,58 @@ abbrev tells-true : Starting → Bool
 tells-true (answers b) = b
 tells-true splitting = false
 
-not-outside : (g : Graph) (at : ℕ) → leb at (firstHeld g) || leb (len g) at ≡ false → (firstHeld g < at) × (at < len g)
-not-outside g at e = (
-  leb-false at (firstHeld g) (or-first (leb at (firstHeld g)) (leb (len g) at) e),
-  leb-false (len g) at (or-last (leb at (firstHeld g)) (leb (len g) at) e),
-)
-
--- A run start that splits has passed each test: it is past the first held event, before `len` and at no run's start
-pub starting-inside : (g : Graph) (at : ℕ) → starting g at ≡ splitting →
+-- A run start that splits lies past the first held event, before `len` and at no run's start
+pub starting-inside : (g : Graph) → WellFormed g → (at : ℕ) → starting g at ≡ splitting →
     (firstHeld g < at) × (at < len g) × (start g (containing g at) ≡ at → ⊥) × (alone g (containing g at) ≡ false)
-unfolding starting
-starting-inside g at e =
+unfolding startingIn
+starting-inside g formed at e =
     let r = containing g at in
-    let w = go (leb at (firstHeld g) || leb (len g) at) (eqb (start g r) at) (alone g r) (not (marked g r)) e in
-    let i = not-outside g at (w .0) in
-    (i .0, i .1, eqb-false (start g r) at (w .1), w .2)
+    let h = starting-held g at splitting e (λ q. false-true (ap splits-run q)) in
+    let w = go (eqb (start g r) at) (alone g r) (not (marked g r)) (h .2) in
+    let off = eqb-false (start g r) at (w .0) in
+    let c = containing-in g formed at (h .0) (h .1) in
+    (omega (arith, first-start g formed r (omega (arith, c .0)), lt-of-ne (start g r) at (c .1) off), h .1, off, w .1)
   where
-    go : (a b c d : Bool) → started a b c d ≡ splitting → (a ≡ false) × (b ≡ false) × (c ≡ false)
-    go true b c d q = false-true (ap splits-run q)
-    go false true c d q = false-true (ap splits-run q)
-    go false false true d q = false-true (ap splits-run q)
-    go false false false d q = (refl, refl, refl)
+    go : (a b c : Bool) → started a b c ≡ splitting → (a ≡ false) × (b ≡ false)
+    go true b c q = false-true (ap splits-run q)
+    go false true c q = false-true (ap splits-run q)
+    go false false c q = (refl, refl)
 
--- One told true is past the first held event, before `len` and at the start of an unmarked run
-pub starting-told : (g : Graph) (at : ℕ) → starting g at ≡ answers true →
+-- One told true lies past the first held event, before `len` and at the start of an unmarked run: a run that starts at the first held
+-- event is marked
+pub starting-told : (g : Graph) → WellFormed g → (at : ℕ) → starting g at ≡ answers true →
     (firstHeld g < at) × (at < len g) × (start g (containing g at) ≡ at) × (marked g (containing g at) ≡ false)
-unfolding starting
-starting-told g at e =
+unfolding startingIn
+starting-told g formed at e =
     let r = containing g at in
-    let w = go (leb at (firstHeld g) || leb (len g) at) (eqb (start g r) at) (alone g r) (not (marked g r)) e in
-    let i = not-outside g at (w .0) in
-    (i .0, i .1, eqb-true (start g r) at (w .1), not-true (marked g r) (w .2))
+    let h = starting-held g at (answers true) e (λ q. false-true (ap tells-true q)) in
+    let w = go (eqb (start g r) at) (alone g r) (not (marked g r)) (h .2) in
+    let begins = eqb-true (start g r) at (w .0) in
+    let unmarked = not-true (marked g r) (w .1) in
+    (past begins unmarked (lt-or-le (firstHeld g) at), h .1, begins, unmarked)
   where
-    go : (a b c d : Bool) → started a b c d ≡ answers true → (a ≡ false) × (b ≡ true) × (d ≡ true)
-    go true b c d q = false-true (ap tells-true q)
-    go false true c d q = (refl, refl, ap tells-true q)
-    go false false true d q = false-true (ap tells-true q)
-    go false false false d q = false-true (ap tells-true q)
+    go : (a b c : Bool) → started a b c ≡ answers true → (a ≡ true) × (c ≡ true)
+    go true b c q = (refl, ap tells-true q)
+    go false true c q = false-true (ap tells-true q)
+    go false false c q = false-true (ap tells-true q)
+
+    past : start g (containing g at) ≡ at → marked g (containing g at) ≡ false → (firstHeld g < at) ⊎ (at ≤ firstHeld g) → firstHeld g < at
+    past begins unmarked (inl h) = h
+    past begins unmarked (inr h) = false-true (sym unmarked ∙ marked-first g formed (containing g at) (omega (arith, begins)))
 
 -- and one there is told true
-pub starting-tells : (g : Graph) (at : ℕ) → firstHeld g < at → at < len g → start g (containing g at) ≡ at → marked g (containing g at) ≡ false →
+pub starting-tells : (g : Graph) (at : ℕ) → firstHeld g ≤ at → at < len g → start g (containing g at) ≡ at → marked g (containing g at) ≡ false →
     starting g at ≡ answers true
-unfolding starting
-starting-tells g at past inside begins unmarked =
+unfolding startingIn
+starting-tells g at from inside begins unmarked =
     let r = containing g at in
-    let within : leb at (firstHeld g) || leb (len g) at ≡ false = rw (lt-leb at (firstHeld g) past, lt-leb (len g) at inside) refl in
-    λ i. started (within i) (eq-eqb (start g r) at begins i) (alone g r) (not (unmarked i))
+    starting-in g at r (side-run g at from inside) ∙ λ i. started (eq-eqb (start g r) at begins i) (alone g r) (not (unmarked i))
 
 -- One that splits lies inside a run, after the run's first event
 pub start-inside : (g : Graph) → WellFormed g → (at : ℕ) → starting g at ≡ splitting →
     (containing g at < runs g) × (start g (containing g at) < at) × (at < start g (suc (containing g at)))
 start-inside g formed at e =
-    let w = starting-inside g at e in
+    let w = starting-inside g formed at e in
     let c = containing-in g formed at (omega (arith, w .0)) (w .1) in
     (c .0, lt-of-ne (start g (containing g at)) at (c .1) (w .2), c .2)
 

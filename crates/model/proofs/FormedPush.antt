@@ -1,25 +1,25 @@
 -- An accepted push keeps a graph well-formed and within the limits. Assumes nothing.
-use mathlib.Core.Path.{_≡_, refl, ap, _∙_}
+use mathlib.Core.Path.{_≡_, refl, sym, ap, _∙_}
 use mathlib.Core.Bool.{Bool, true, false, not, _&&_}
 use mathlib.Core.List.{List, [], _∷_}
 use Prim.Native.Nat.{ℕ, zero, suc, _+_, _-_, _≤_, _<_}
 use native.Mathlib.Omega.{arith}
 use lib.ListN.{length}
-use lib.Dec.{leb, ltb}
-use borrow.Author.Tests.{ltb-true, ltb-false, leb-true, eqb-false, eq-eqb, not-false}
+use lib.Dec.{ltb}
+use borrow.Author.Tests.{ltb-true, ltb-false, eqb-false, eq-eqb, not-false}
 use Rattle.lists.specs.Lists.{count, mem, rising, below, same, filter}
 use Rattle.lists.proofs.Truth.{and-left, and-right, or-left}
-use Rattle.lists.proofs.Members.{mem-filter, same-eq}
+use Rattle.lists.proofs.Members.{same-eq}
 use Rattle.lists.proofs.Counts.{length-snoc, filter-shorter}
 use Rattle.lists.proofs.Rising.{rising-filter}
-use Rattle.lists.proofs.Bounds.{below-at}
 use Rattle.model.specs.declared.answers.Outcome.the-variants.{Done}
-use Rattle.model.specs.Graph.{Graph, runs, firstHeld, len, entries, held, extends}
+use Rattle.model.specs.Graph.{Graph, runs, firstHeld, len, entries, isHeld, side, held, allKnown, extends}
 use Rattle.model.specs.Broken.{WellFormed, WithinLimits}
 use Rattle.model.specs.Split.{ends, splitAfter, splits}
 use Rattle.model.specs.Push.{staying, grown, joined, lowered, push, pushOutcome}
 use Rattle.model.proofs.Tests.{passed}
-use Rattle.model.proofs.FormedReads.{frontier-last}
+use Rattle.model.proofs.Siding.{held-mem, held-agree, known-below}
+use Rattle.model.proofs.FormedReads.{first-len, frontier-last}
 use Rattle.model.proofs.FormedSplitAll.{Inside, SplitAll, splits-frontier, split-all-formed}
 use Rattle.model.proofs.FormedJoins.{joined-runs, joined-entries, grown-len, grown-first, grown-formed, joined-len, joined-first, joined-formed, lowered-formed, lowered-len, lowered-first}
 
@@ -38,9 +38,9 @@ passes : (t : Bool) (a b : ℕ) → not t && ltb a b ≡ false → t ≡ false �
 passes t a b e f = ltb-false a b (rw f at e)
 
 -- An accepted push has each
-pub accepted : (g : Graph) (ps : List ℕ) (n : ℕ) → pushOutcome g ps n ≡ Done → Accepted g ps n
+pub accepted : (g : Graph) → firstHeld g ≤ len g → (ps : List ℕ) (n : ℕ) → pushOutcome g ps n ≡ Done → Accepted g ps n
 unfolding pushOutcome
-accepted g ps n e =
+accepted g le ps n e =
     let t₁ = passed _ _ e in
     let t₂ = passed _ _ (t₁ .1) in
     let t₃ = passed _ _ (t₂ .1) in
@@ -51,7 +51,7 @@ accepted g ps n e =
     record {
       some = positive n (eqb-false n 0 (t₁ .0));
       rises = not-false (rising ps) (t₂ .0);
-      known = not-false (below (len g) ps) (t₃ .0);
+      known = sym (known-below g le ps) ∙ not-false (allKnown g ps) (t₃ .0);
       events = ltb-false 4294967295 (len g + n) (t₄ .0);
       runs-fit = passes (extends g ps) 512 (runs g + splits g ps + 1) (t₅ .0);
       entries-fit = passes (extends g ps) 2048 (entries g + splits g ps + length (held g ps)) (t₆ .0);
@@ -103,28 +103,21 @@ module _ (g : Graph) (ps : List ℕ) (e : extends g ps ≡ true) where
     frontier = unfold grown in omega (arith, length-snoc (staying g ps) (len g + n - 1), staying-shorter f, l .frontier);
   }
 
--- The held parents of an accepted push are rising held events
-pub held-inside : (g : Graph) (ps : List ℕ) → rising ps ≡ true → below (len g) ps ≡ true → Inside g (held g ps)
-unfolding held
-held-inside g ps r b = (rising-filter (λ e. leb (firstHeld g) e) ps r, one)
-  where
-    one : (p : ℕ) → mem p (filter (λ e. leb (firstHeld g) e) ps) ≡ true → (firstHeld g ≤ p) × (p < len g)
-    one p m =
-        let w = mem-filter (λ e. leb (firstHeld g) e) p ps m in
-        (leb-true (firstHeld g) p (w .1), below-at (len g) ps b p (w .0))
+-- The held ones of rising parents are rising held events
+pub held-inside : (g : Graph) (ps : List ℕ) → rising ps ≡ true → Inside g (held g ps)
+held-inside g ps r = ((unfold held in rising-filter (λ e. isHeld (side g e)) ps r), λ p m. let w = held-mem g ps p m in (w .1, w .2))
 
 -- A push that makes a run, after its splits
 module _ (g : Graph) (formed : WellFormed g) (ps : List ℕ) (n : ℕ) (ok : Accepted g ps n) where
   pub pushed-splits : SplitAll g (held g ps)
-  pushed-splits = split-all-formed g formed (held g ps) (held-inside g ps (ok .rises) (ok .known))
+  pushed-splits = split-all-formed g formed (held g ps) (held-inside g ps (ok .rises))
 
   -- the same parents are held after the splits
   pub held-same : held (splitAfter g (held g ps)) ps ≡ held g ps
-  unfolding held
-  held-same = ap (λ (f : ℕ). filter (λ e. leb f e) ps) (pushed-splits .same-first)
+  held-same = held-agree g (splitAfter g (held g ps)) (pushed-splits .same-first) (pushed-splits .same-len) ps
 
   pub inside-after : Inside (splitAfter g (held g ps)) (held (splitAfter g (held g ps)) ps)
-  inside-after = held-inside (splitAfter g (held g ps)) ps (ok .rises) (rw (pushed-splits .same-len) (ok .known))
+  inside-after = held-inside (splitAfter g (held g ps)) ps (ok .rises)
 
   ended-after : (p : ℕ) → mem p (held (splitAfter g (held g ps)) ps) ≡ true → ends (splitAfter g (held g ps)) p ≡ true
   ended-after p m = pushed-splits .all-end p (rw held-same at m)
@@ -162,7 +155,7 @@ lowered-limits g h l = record { runs = l .runs; entries = l .entries; frontier =
 
 -- A push keeps the graph well-formed
 pub push-formed : (g : Graph) → WellFormed g → (ps : List ℕ) (n : ℕ) → pushOutcome g ps n ≡ Done → WellFormed (push g ps n)
-push-formed g formed ps n e = go (extends g ps) refl (accepted g ps n e)
+push-formed g formed ps n e = go (extends g ps) refl (accepted g (first-len g formed) ps n e)
   where
     go : (t : Bool) → extends g ps ≡ t → Accepted g ps n → WellFormed (push g ps n)
     go true q ok = rw (push-grows g ps n q) (grown-formed g formed ps n (ok .some) (extends-runs g ps q))
@@ -172,7 +165,7 @@ push-formed g formed ps n e = go (extends g ps) refl (accepted g ps n e)
 
 -- and within the limits
 pub push-limits : (g : Graph) → WellFormed g → WithinLimits g → (ps : List ℕ) (n : ℕ) → pushOutcome g ps n ≡ Done → WithinLimits (push g ps n)
-push-limits g formed l ps n e = go (extends g ps) refl (accepted g ps n e)
+push-limits g formed l ps n e = go (extends g ps) refl (accepted g (first-len g formed) ps n e)
   where
     go : (t : Bool) → extends g ps ≡ t → Accepted g ps n → WithinLimits (push g ps n)
     go true q ok = rw (push-grows g ps n q) (grown-limits g ps q n formed l)
@@ -182,7 +175,7 @@ push-limits g formed l ps n e = go (extends g ps) refl (accepted g ps n e)
 
 -- It adds its events, and the first held event stays
 pub pushed-len : (g : Graph) → WellFormed g → (ps : List ℕ) (n : ℕ) → pushOutcome g ps n ≡ Done → len (push g ps n) ≡ len g + n
-pushed-len g formed ps n e = go (extends g ps) refl (accepted g ps n e)
+pushed-len g formed ps n e = go (extends g ps) refl (accepted g (first-len g formed) ps n e)
   where
     go : (t : Bool) → extends g ps ≡ t → Accepted g ps n → len (push g ps n) ≡ len g + n
     go true q ok = rw (push-grows g ps n q) (grown-len g formed ps n (ok .some))
@@ -192,7 +185,7 @@ pushed-len g formed ps n e = go (extends g ps) refl (accepted g ps n e)
         rw (push-joins g ps n q) (lowered-len s (joined s ps n) ∙ joined-len s (a .formed) ps n (ok .some) ∙ ap (λ (k : ℕ). k + n) (a .same-len))
 
 pub pushed-first : (g : Graph) → WellFormed g → (ps : List ℕ) (n : ℕ) → pushOutcome g ps n ≡ Done → firstHeld (push g ps n) ≡ firstHeld g
-pushed-first g formed ps n e = go (extends g ps) refl (accepted g ps n e)
+pushed-first g formed ps n e = go (extends g ps) refl (accepted g (first-len g formed) ps n e)
   where
     go : (t : Bool) → extends g ps ≡ t → Accepted g ps n → firstHeld (push g ps n) ≡ firstHeld g
     go true q ok = rw (push-grows g ps n q) (grown-first g formed ps n (ok .some) (extends-runs g ps q))

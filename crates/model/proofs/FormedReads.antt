@@ -101,16 +101,20 @@ module _ (g : Graph) (formed : WellFormed g) where
         leb-false (start g (suc (n - 1))) e (start-count (suc (n - 1)) e (omega arith) ∙ le-ltb (suc (n - 1)) _ (omega arith)),
       )
 
-  -- A run's first event lies in it
-  pub containing-start : (r : ℕ) → r < runs g → containing g (start g r) ≡ r
-  containing-start r lt =
-      let c = containing-in (start g r) (first-start r (omega arith)) (omega (arith, start-less r (suc r) (omega arith) lt, start-len (suc r) lt)) in
-      same (containing g (start g r)) (c .0) (c .1) (c .2) (lt-eq-gt (containing g (start g r)) r)
+  -- and in no other
+  pub containing-only : (e r : ℕ) → r < runs g → start g r ≤ e → e < start g (suc r) → containing g e ≡ r
+  containing-only e r lt from to =
+      let c = containing-in e (omega (arith, first-start r (omega arith))) (omega (arith, start-len (suc r) lt)) in
+      same (containing g e) (c .0) (c .1) (c .2) (lt-eq-gt (containing g e) r)
     where
-      same : (q : ℕ) → q < runs g → start g q ≤ start g r → start g r < start g (suc q) → (q < r) ⊎ ((q ≡ r) ⊎ (r < q)) → q ≡ r
+      same : (q : ℕ) → q < runs g → start g q ≤ e → e < start g (suc q) → (q < r) ⊎ ((q ≡ r) ⊎ (r < q)) → q ≡ r
       same q b lo hi (inl c) = absurd (omega (arith, start-mono (suc q) r c (omega arith)))
       same q b lo hi (inr (inl c)) = c
-      same q b lo hi (inr (inr c)) = absurd (omega (arith, start-less r q c (omega arith)))
+      same q b lo hi (inr (inr c)) = absurd (omega (arith, start-mono (suc r) q c (omega arith)))
+
+  -- A run's first event lies in it
+  pub containing-start : (r : ℕ) → r < runs g → containing g (start g r) ≡ r
+  containing-start r lt = containing-only (start g r) r lt (omega arith) (start-less r (suc r) (omega arith) lt)
 
   -- Where a run ends after p, a later event lies in a later run
   pub containing-less : (p q : ℕ) → firstHeld g ≤ p → p < q → q < len g → ends g p ≡ true → containing g p < containing g q
@@ -140,6 +144,10 @@ module _ (g : Graph) (formed : WellFormed g) where
   marked-of r h = getD-all (λ s. leb (start g r) s) (drop r (g .seen)) (λ i lt.
       rw (getD-drop r (g .seen) i 0)
       (le-leb (start g r) (getD (g .seen) (r + i) 0) (h (r + i) (omega arith) (omega (arith, length-drop r (g .seen), formed .seen-count)))))
+
+  -- so one that starts at the first held event, or before, is
+  pub marked-first : (r : ℕ) → start g r ≤ firstHeld g → marked g r ≡ true
+  marked-first r h = marked-of r (λ q le lt. omega (arith, seen-within q lt .0))
 
   -- The frontier rises, below `len`
   frontier-order : rising (g .frontier) && below (len g) (g .frontier) ≡ true

@@ -2,22 +2,23 @@
 -- and pushes. Assumes nothing.
 use mathlib.Core.Path.{_≡_, refl, sym, ap, _∙_, subst}
 use mathlib.Core.Logic.{_⊎_, inl, inr}
-use mathlib.Core.Bool.{Bool, true, false, not}
+use mathlib.Core.Bool.{Bool, true, false, not, _||_}
 use mathlib.Core.List.{List, [], _∷_, _++_}
 use Prim.Native.Nat.{ℕ, suc, _+_, _-_, _≤_, _<_}
 use native.Mathlib.Omega.{arith}
 use lib.Dec.{leb}
-use borrow.Author.Tests.{leb-true, le-leb, eq-eqb, not-true}
+use borrow.Author.Tests.{le-leb, eq-eqb, not-true}
 use Rattle.lists.specs.Lists.{filter, mem, below}
 use Rattle.lists.proofs.Truth.{lt-or-le, false-true, not-so, or-cases, or-left, or-right}
 use Rattle.lists.proofs.Members.{mem-one, mem-append, mem-filter, filter-mem}
 use Rattle.lists.proofs.Bounds.{below-at}
 use Rattle.model.specs.EventGraph.{VersionOf}
-use Rattle.model.specs.Graph.{Graph, firstHeld, len, start, held, extends}
+use Rattle.model.specs.Graph.{Graph, runs, firstHeld, len, start, held, extends}
 use Rattle.model.specs.Fresh.{fresh}
 use Rattle.model.specs.Split.{split, splitAfter}
 use Rattle.model.specs.Push.{staying, grown, joined, lowered, push}
 use Rattle.model.specs.Log.{Log, emptyLog, heldOf, heldBefore, logPush, logStart, eventGraph}
+use Rattle.model.proofs.Siding.{held-mem, mem-held, held-agree}
 use Rattle.model.proofs.FormedSplitAll.{splits-frontier}
 use Rattle.model.proofs.FormedPush.{push-grows, push-joins}
 use Rattle.model.proofs.Runs.{held-is, held-bounds}
@@ -55,12 +56,10 @@ unbare l e h = (
 )
 
 -- No held event has come to a fresh graph
-pub fresh-childless : (events : ℕ) (frontier : List ℕ) → below events frontier ≡ true → Childless (fresh events frontier) (emptyLog events)
-unfolding fresh emptyLog firstHeld start held
-fresh-childless events frontier b e = (
-  λ m.
-      let k : (mem e frontier ≡ true) × (leb events e ≡ true) = mem-filter (λ x. leb events x) e frontier m in
-      absurd (omega (arith, leb-true events e (k .1), below-at events frontier b e (k .0))),
+pub fresh-childless : (events : ℕ) (frontier : List ℕ) → Childless (fresh events frontier) (emptyLog events)
+unfolding fresh emptyLog firstHeld len runs start
+fresh-childless events frontier e = (
+  λ m. let k = held-mem (fresh events frontier) frontier e m in absurd (omega (arith, k .1, k .2)),
   λ h. let k : Bare (emptyLog events) e = bare (emptyLog events) e h in absurd (omega (arith, k .0, k .1)),
 )
 
@@ -69,11 +68,12 @@ pub edge-childless : (g : Graph) (l : Log) (at : ℕ) → Childless g l → Chil
 unfolding heldOf heldBefore logStart
 edge-childless g l at h = h
 
-pub split-childless : (g : Graph) (l : Log) (r at : ℕ) → firstHeld (split g r at) ≡ firstHeld g → Childless g l → Childless (split g r at) (logStart l at)
-split-childless g l r at f h = edge-childless (split g r at) l at (subst (VersionOf (eventGraph l)) (sym held-same) h)
+pub split-childless : (g : Graph) (l : Log) (r at : ℕ) → firstHeld (split g r at) ≡ firstHeld g → len (split g r at) ≡ len g → Childless g l →
+    Childless (split g r at) (logStart l at)
+split-childless g l r at f n h = edge-childless (split g r at) l at (subst (VersionOf (eventGraph l)) (sym same) h)
   where
-    held-same : held (split g r at) (split g r at .frontier) ≡ held g (g .frontier)
-    held-same = unfold held split in ap (λ (k : ℕ). filter (λ e. leb k e) (g .frontier)) f
+    same : held (split g r at) (split g r at .frontier) ≡ held g (g .frontier)
+    same = held-agree g (split g r at) f n (split g r at .frontier) ∙ unfold split in refl
 
 -- Those not named stay
 stays : (g : Graph) (ps : List ℕ) (x : ℕ) → mem x (g .frontier) ≡ true → mem x ps ≡ false → mem x (staying g ps) ≡ true
@@ -144,9 +144,9 @@ module _ (l : Log) (ps : List ℕ) (n : ℕ) (le : l .firstHeld ≤ l .next) (po
 
 -- A push takes its parents out of the version and puts its last event in
 pub push-childless : (g : Graph) (l : Log) (ps : List ℕ) (n : ℕ) → firstHeld g ≡ l .firstHeld → len g ≡ l .next → l .firstHeld ≤ l .next →
-    firstHeld (push g ps n) ≡ firstHeld g → len (splitAfter g (held g ps)) ≡ len g → 0 < n → below (len g) ps ≡ true → ParentsLower l → Childless g l →
-    Childless (push g ps n) (logPush l ps n)
-push-childless g l ps n f e le f₂ e₂ pos b low h x = (λ m. into m, λ k. back (bare-before l ps n le pos known low x (bare (logPush l ps n) x k)))
+    firstHeld (push g ps n) ≡ firstHeld g → len (push g ps n) ≡ len g + n → len (splitAfter g (held g ps)) ≡ len g → 0 < n → below (len g) ps ≡ true →
+    ((q : ℕ) → mem q (g .frontier) ≡ true → q < l .next) → ParentsLower l → Childless g l → Childless (push g ps n) (logPush l ps n)
+push-childless g l ps n f e le f₂ e₂ e₃ pos b under low h x = (into, λ k. back (bare-before l ps n le pos known low x (bare (logPush l ps n) x k)))
   where
     known : (p : ℕ) → mem p ps ≡ true → p < l .next
     known p m = omega (arith, e, below-at (len g) ps b p m)
@@ -154,37 +154,34 @@ push-childless g l ps n f e le f₂ e₂ pos b low h x = (λ m. into m, λ k. ba
     after : List ℕ
     after = staying g ps ++ (len g + n - 1) ∷ []
 
-    held-after : held (push g ps n) (push g ps n .frontier) ≡ filter (λ y. leb (l .firstHeld) y) after
-    held-after = unfold held in λ i. filter (λ y. leb ((f₂ ∙ f) i) y) (push-frontier g ps n e₂ i)
-
-    held-before : held g (g .frontier) ≡ filter (λ y. leb (l .firstHeld) y) (g .frontier)
-    held-before = unfold held in ap (λ (k : ℕ). filter (λ y. leb k y) (g .frontier)) f
+    named : mem x after ≡ mem x (staying g ps) || mem x ((len g + n - 1) ∷ [])
+    named = mem-append x (staying g ps) ((len g + n - 1) ∷ [])
 
     into : mem x (held (push g ps n) (push g ps n .frontier)) ≡ true → Last (logPush l ps n) x
     into m =
-        unbare (logPush l ps n) x
-        (cases (or-cases (mem x (staying g ps)) (mem x ((len g + n - 1) ∷ [])) (sym (mem-append x (staying g ps) ((len g + n - 1) ∷ [])) ∙ both .0)))
+        let k = held-mem (push g ps n) (push g ps n .frontier) x m in
+        let i : mem x after ≡ true = sym (ap (mem x) (push-frontier g ps n e₃)) ∙ k .0 in
+        unbare (logPush l ps n) x (cases (omega (arith, k .1, f₂)) (or-cases (mem x (staying g ps)) (mem x ((len g + n - 1) ∷ [])) (sym named ∙ i)))
       where
-        both : (mem x after ≡ true) × (leb (l .firstHeld) x ≡ true)
-        both = mem-filter (λ y. leb (l .firstHeld) y) x after (sym (ap (mem x) held-after) ∙ m)
-
-        cases : (mem x (staying g ps) ≡ true) ⊎ (mem x ((len g + n - 1) ∷ []) ≡ true) → Bare (logPush l ps n) x
-        cases (inl s) =
+        cases : firstHeld g ≤ x → (mem x (staying g ps) ≡ true) ⊎ (mem x ((len g + n - 1) ∷ []) ≡ true) → Bare (logPush l ps n) x
+        cases lo (inl s) =
             let k : (mem x (g .frontier) ≡ true) × (mem x ps ≡ false) = stayed g ps x s in
             bare-stays l ps n le pos known low x
-            (bare l x (h x .0 (ap (mem x) held-before ∙ filter-mem (λ y. leb (l .firstHeld) y) x (g .frontier) (k .0) (both .1)))) (k .1)
-        cases (inr s) = bare-last l ps n le pos known low x (mem-one x (len g + n - 1) s ∙ ap (λ (k : ℕ). k + n - 1) e)
+            (bare l x (h x .0 (mem-held g (g .frontier) x (k .0) lo (omega (arith, e, under x (k .0)))))) (k .1)
+        cases lo (inr s) = bare-last l ps n le pos known low x (mem-one x (len g + n - 1) s ∙ ap (λ (k : ℕ). k + n - 1) e)
 
     back : (Bare l x × (mem x ps ≡ false)) ⊎ (x ≡ l .next + n - 1) → mem x (held (push g ps n) (push g ps n .frontier)) ≡ true
-    back k = ap (mem x) held-after ∙ found k
+    back k = mem-held (push g ps n) (push g ps n .frontier) x (ap (mem x) (push-frontier g ps n e₃) ∙ named ∙ found k) (omega (arith, f, f₂, low-of k)) (omega (arith, e, e₂, high-of k))
       where
-        found : (Bare l x × (mem x ps ≡ false)) ⊎ (x ≡ l .next + n - 1) → mem x (filter (λ y. leb (l .firstHeld) y) after) ≡ true
+        found : (Bare l x × (mem x ps ≡ false)) ⊎ (x ≡ l .next + n - 1) → mem x (staying g ps) || mem x ((len g + n - 1) ∷ []) ≡ true
         found (inl s) =
-            let m : mem x (filter (λ y. leb (l .firstHeld) y) (g .frontier)) ≡ true = sym (ap (mem x) held-before) ∙ h x .1 (unbare l x (s .0)) in
-            let k : (mem x (g .frontier) ≡ true) × (leb (l .firstHeld) x ≡ true) = mem-filter (λ y. leb (l .firstHeld) y) x (g .frontier) m in
-            filter-mem (λ y. leb (l .firstHeld) y) x after
-            (mem-append x (staying g ps) ((len g + n - 1) ∷ []) ∙ or-left (mem x ((len g + n - 1) ∷ [])) (stays g ps x (k .0) (s .1))) (k .1)
-        found (inr q) =
-            filter-mem (λ y. leb (l .firstHeld) y) x after
-            (mem-append x (staying g ps) ((len g + n - 1) ∷ []) ∙ or-right (mem x (staying g ps)) (unfold mem in or-left false (eq-eqb x (len g + n - 1) (omega arith))))
-            (le-leb (l .firstHeld) x (omega arith))
+            or-left (mem x ((len g + n - 1) ∷ [])) (stays g ps x (held-mem g (g .frontier) x (h x .1 (unbare l x (s .0))) .0) (s .1))
+        found (inr q) = or-right (mem x (staying g ps)) (unfold mem in or-left false (eq-eqb x (len g + n - 1) (omega arith)))
+
+        low-of : (Bare l x × (mem x ps ≡ false)) ⊎ (x ≡ l .next + n - 1) → l .firstHeld ≤ x
+        low-of (inl s) = s .0 .0
+        low-of (inr q) = omega arith
+
+        high-of : (Bare l x × (mem x ps ≡ false)) ⊎ (x ≡ l .next + n - 1) → x < l .next + n
+        high-of (inl s) = omega (arith, s .0 .1)
+        high-of (inr q) = omega arith

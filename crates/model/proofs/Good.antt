@@ -7,7 +7,7 @@ use Prim.Native.Nat.{ℕ}
 use Rattle.lists.proofs.Bounds.{below-at}
 use Rattle.model.specs.declared.record.CausalGraph.{CausalGraph}
 use Rattle.model.specs.declared.answers.Outcome.the-variants.{Done}
-use Rattle.model.specs.Graph.{Graph, start, firstHeld, containing, held}
+use Rattle.model.specs.Graph.{Graph, runs, start, firstHeld, len, containing, side, held}
 use Rattle.model.specs.Record.{view}
 use Rattle.model.specs.Broken.{WellFormed, WithinLimits}
 use Rattle.model.specs.Fresh.{fresh, afterOutcome}
@@ -17,8 +17,9 @@ use Rattle.model.specs.Start.{answers, splitting, starting, splitOutcome
 use Rattle.model.specs.Log.{Fresh, Call, takeChangedFrom, Log, begin, emptyLog, beginLog, logPush, logStart, afterCalls, madeBy}
 use Rattle.model.specs.Claim.{takeless, Unchanged}
 use Rattle.model.proofs.Begins.{fresh-formed, fresh-limits, after-passed}
-use Rattle.model.proofs.FormedSplits.{split-first}
-use Rattle.model.proofs.FormedPush.{accepted, pushed-splits, push-formed, push-limits, pushed-first}
+use Rattle.model.proofs.FormedReads.{first-len}
+use Rattle.model.proofs.FormedSplits.{split-len, split-first}
+use Rattle.model.proofs.FormedPush.{accepted, pushed-splits, push-formed, push-limits, pushed-len, pushed-first}
 use Rattle.model.proofs.FormedCalls.{start-inside, start-formed, start-limits, taken-formed, taken-limits}
 use Rattle.model.proofs.Runs.{first-next}
 use Rattle.model.proofs.Seen.{Inv}
@@ -42,33 +43,36 @@ good-fresh events frontier e =
       formed = fresh-formed events frontier (p .0) (p .1);
       limits = fresh-limits events frontier (p .2);
       inv = fresh-inv events frontier (below-at events frontier (p .1));
-      front = fresh-childless events frontier (p .1);
+      front = fresh-childless events frontier;
     }
 
 good-push : (g : Graph) (l : Log) → Good g l → (ps : List ℕ) (n : ℕ) → pushOutcome g ps n ≡ Done → Good (push g ps n) (logPush l ps n)
 good-push g l G ps n e =
-    let a = accepted g ps n e in
+    let a = accepted g (first-len g (G .formed)) ps n e in
     record {
       formed = push-formed g (G .formed) ps n e;
       limits = push-limits g (G .formed) (G .limits) ps n e;
       inv = push-inv g l (G .inv) ps n e;
       front = push-childless g l ps n (first-is g l (G .inv)) (len-is g l (G .inv)) (first-next l (G .inv .tied .edged))
-          (pushed-first g (G .formed) ps n e) (pushed-splits g (G .formed) ps n a .same-len) (a .some) (a .known) (G .inv .lower) (G .front);
+          (pushed-first g (G .formed) ps n e) (pushed-len g (G .formed) ps n e) (pushed-splits g (G .formed) ps n a .same-len)
+          (a .some) (a .known) (G .inv .front .below) (G .inv .lower) (G .front);
     }
 
 good-split : (g : Graph) (l : Log) → Good g l → (at : ℕ) → starting g at ≡ splitting → splitOutcome g ≡ Done → Good (split g (containing g at) at) (logStart l at)
 good-split g l G at e q = record {
   formed = start-formed g (G .formed) at e;
   limits = start-limits g (G .formed) (G .limits) at e q;
-  inv = start-split g l (G .inv) at e;
-  front = split-childless g l (containing g at) at (split-first g (G .formed) (containing g at) at ((start-inside g (G .formed) at e) .0)) (G .front);
+  inv = start-split g l (G .formed) (G .inv) at e;
+  front =
+      let b = (start-inside g (G .formed) at e) .0 in
+      split-childless g l (containing g at) at (split-first g (G .formed) (containing g at) at b) (split-len g (G .formed) (containing g at) at b) (G .front);
 }
 
 good-told : (g : Graph) (l : Log) → Good g l → (at : ℕ) → starting g at ≡ answers true → Good g (logStart l at)
-good-told g l G at e = record { formed = G .formed; limits = G .limits; inv = start-told g l (G .inv) at e; front = edge-childless g l at (G .front) }
+good-told g l G at e = record { formed = G .formed; limits = G .limits; inv = start-told g l (G .formed) (G .inv) at e; front = edge-childless g l at (G .front) }
 
 taken-childless : (g : Graph) (l : Log) → Childless g l → Childless (taken g) l
-unfolding taken held firstHeld start
+unfolding taken held side firstHeld len runs start containing
 taken-childless g l c = c
 
 good-taken : (g : Graph) (l : Log) → Good g l → Good (taken g) l

@@ -98,7 +98,7 @@ module _ (g : Graph) (l : Log) (t : Tied g l) (ps : List ℕ) (n : ℕ) (pos : 0
   unfolding parentRuns
   own-below p m =
       let k : (q : ℕ) × (mem q (held g ps) ≡ true) × (p ≡ containing g q) = map-mem (containing g) p (held g ps) m in
-      omega (arith, k .2, (ends-run (k .0) (subst (λ (xs : List ℕ). mem (k .0) xs ≡ true) (held-tied g l t ps) (k .1))) .0)
+      omega (arith, k .2, (ends-run (k .0) (subst (λ (xs : List ℕ). mem (k .0) xs ≡ true) (held-tied g l t ps known) (k .1))) .0)
 
   below₂ : Below parents₂
   below₂ x p m = go (lt-eq-gt x c)
@@ -115,7 +115,7 @@ module _ (g : Graph) (l : Log) (t : Tied g l) (ps : List ℕ) (n : ℕ) (pos : 0
       go : (x < c) ⊎ ((x ≡ c) ⊎ (c < x)) → filter (λ p. leb (l .firstHeld) p) (l₂ .parents (runStart l₂ x)) ≡ map (lastOf l₂) (at parents₂ x)
       go (inl a) = rw (old-start x (omega arith), old-parents l ps n es₂ (runStart l x) (omega (arith, step g l t x a, high g l t (suc x))), parents-old x a)
           (t .parents x a ∙ sym (lasts-old (at (g .parents) x) (λ p m. omega (arith, t .below x p m))))
-      go (inr (inl a)) = rw (a, old-start c (omega arith), top-start, own-parents l ps n es₂ (l .next) refl, parents-new, held-tied g l t ps) (sym (lasts-own (filter (λ p. leb (l .firstHeld) p) ps) (λ p m. m)))
+      go (inr (inl a)) = rw (a, old-start c (omega arith), top-start, own-parents l ps n es₂ (l .next) refl, parents-new, held-tied g l t ps known) (sym (lasts-own (filter (λ p. leb (l .firstHeld) p) ps) (λ p m. m)))
       go (inr (inr a)) = absurd (omega arith)
 
   -- One edge more

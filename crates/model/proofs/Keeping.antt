@@ -18,6 +18,7 @@ use Rattle.lists.proofs.Bounds.{below-at}
 use Rattle.model.specs.EventGraph.{Lower}
 use Rattle.model.specs.declared.answers.Outcome.the-variants.{Done}
 use Rattle.model.specs.Graph.{Graph, start, runs, len, firstHeld, containing, held, extends}
+use Rattle.model.specs.Broken.{WellFormed}
 use Rattle.model.specs.History.{at}
 use Rattle.model.specs.Fresh.{fresh}
 use Rattle.model.specs.Split.{split, splitAfter}
@@ -26,6 +27,7 @@ use Rattle.model.specs.Start.{answers, splitting, starting, taken}
 use Rattle.model.specs.Log.{Log, emptyLog, runStart, heldOf, eventGraph, edge, edgesAt, goesOn, logPush, logStart}
 use Rattle.model.proofs.FormedPush.{accepted, extends-runs, extends-parents}
 use Rattle.model.proofs.FormedCalls.{starting-inside, starting-told}
+use Rattle.model.proofs.Runs.{first-next}
 use Rattle.model.proofs.Tied.{Tied, high, step, mono}
 use Rattle.model.proofs.Seen.{Inv, start-is, len-tied, first-tied, held-tied, containing-is, lower-tied}
 use Rattle.model.proofs.Edges.{edge-member, edge-last, edges-in}
@@ -120,7 +122,7 @@ module _ (g : Graph) (l : Log) (v : Inv g l) where
       (λ p m. subst (λ (xs : List ℕ). mem (suc p) xs ≡ true) (sym (K .2)) (edges-in p hs (l .edges ++ l .next ∷ []) m)) in
       let q : K .0 ++ l .next ∷ [] ≡ edgesAt (map suc hs) (edge (l .next) (l .edges)) =
       K .2 ∙ ap (λ (xs : List ℕ). edgesAt (map suc hs) xs) (sym (edge-last (l .firstHeld) (l .edges) (l .next) (t .edged .up))) in
-      subst (λ (xs : List ℕ). Inv (lowered (splitAfter g xs) (joined (splitAfter g xs) ps n)) (added l ps n (edgesAt (map suc hs) (edge (l .next) (l .edges))))) (sym (held-tied g l t ps))
+      subst (λ (xs : List ℕ). Inv (lowered (splitAfter g xs) (joined (splitAfter g xs) ps n)) (added l ps n (edgesAt (map suc hs) (edge (l .next) (l .edges))))) (sym (held-tied g l t ps known))
       (lowered-inv (splitAfter g hs) (joined (splitAfter g hs) ps n) (added l ps n (edgesAt (map suc hs) (edge (l .next) (l .edges))))
       (subst (λ (xs : List ℕ). Inv (joined (splitAfter g hs) ps n) (added l ps n xs)) q J))
 
@@ -151,7 +153,7 @@ module _ (g : Graph) (l : Log) (v : Inv g l) where
 pub push-inv : (g : Graph) (l : Log) → Inv g l → (ps : List ℕ) (n : ℕ) → pushOutcome g ps n ≡ Done → Inv (push g ps n) (logPush l ps n)
 unfolding push logPush
 push-inv g l v ps n e =
-    let a = accepted g ps n e in
+    let a = accepted g (omega (arith, first-is g l v, len-is g l v, first-next l (v .tied .edged))) ps n e in
     go (extends g ps) refl (goesOn l ps) refl (a .some) (λ p m. omega (arith, below-at (len g) ps (a .known) p m, len-is g l v))
   where
     go : (x : Bool) → extends g ps ≡ x → (y : Bool) → goesOn l ps ≡ y → 0 < n → ((p : ℕ) → mem p ps ≡ true → p < l .next) →
@@ -163,19 +165,19 @@ push-inv g l v ps n e =
     go false x false y pos k = joins-inv g l v ps n pos k
 
 -- So does a run start that splits a run
-pub start-split : (g : Graph) (l : Log) → Inv g l → (at : ℕ) → starting g at ≡ splitting → Inv (split g (containing g at) at) (logStart l at)
-start-split g l v a e =
-    let w = starting-inside g a e in
+pub start-split : (g : Graph) (l : Log) → WellFormed g → Inv g l → (at : ℕ) → starting g at ≡ splitting → Inv (split g (containing g at) at) (logStart l at)
+start-split g l formed v a e =
+    let w = starting-inside g formed a e in
     let lo : l .firstHeld < a = omega (arith, first-tied g l (v .tied), w .0) in
     let hi : a < l .next = omega (arith, len-tied g l (v .tied), w .1) in
     split-inv g l v a (containing g a) lo hi (sym (starts-at g l v a lo hi) ∙ ne-eqb (start g (containing g a)) a (w .2))
     (containing-is g l (v .tied) a hi (omega arith))
 
 -- and one told true at a run's start: the event is an edge already
-pub start-told : (g : Graph) (l : Log) → Inv g l → (at : ℕ) → starting g at ≡ answers true → Inv g (logStart l at)
+pub start-told : (g : Graph) (l : Log) → WellFormed g → Inv g l → (at : ℕ) → starting g at ≡ answers true → Inv g (logStart l at)
 unfolding logStart
-start-told g l v a e =
-    let w = starting-told g a e in
+start-told g l formed v a e =
+    let w = starting-told g formed a e in
     let lo : l .firstHeld < a = omega (arith, first-tied g l (v .tied), w .0) in
     let hi : a < l .next = omega (arith, len-tied g l (v .tied), w .1) in
     let m : mem a (l .edges) ≡ true = sym (starts-at g l v a lo hi) ∙ eq-eqb (start g (containing g a)) a (w .2) in

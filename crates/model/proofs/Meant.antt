@@ -24,7 +24,8 @@ use Rattle.model.specs.Choice.{Range, rangeOf, passed, isReady, newlyRea
 use Rattle.model.specs.Log.{madeBy}
 use Rattle.model.specs.Meaning.{RunBefore, Ready, Meaning}
 use Rattle.model.proofs.Stored.{unbroken-iff}
-use Rattle.model.proofs.FormedReads.{start-len, containing-in}
+use Rattle.model.proofs.FormedReads.{start-len}
+use Rattle.model.proofs.Sides.{sides}
 use Rattle.model.proofs.Ancestry.{ancestor-iff}
 use Rattle.model.proofs.Histories.{fit-below, history-length, history-rises, history-iff, history-is}
 use Rattle.model.proofs.Kahn.{ready-when, ready-due, ready-parents, ready-firsts, due}
@@ -140,7 +141,7 @@ meaning = record {
   lower = λ g formed. fit-below (g .parents) (formed .parents);
   last = last;
   ancestors = ancestor-iff;
-  containing-in = containing-in;
+  sides = sides;
   history = history;
   history-rises = history-rises;
   range-history = range-history;

@@ -17,6 +17,8 @@ use Rattle.model.specs.declared.answers.EventsAnswer.{EventsAnswer}
 use Rattle.model.specs.declared.answers.EventsAnswer.the-variants.{Events, Refused as RefusedEvents}
 use Rattle.model.specs.declared.answers.RunAnswer.{RunAnswer}
 use Rattle.model.specs.declared.answers.RunAnswer.the-variants.{Run, Refused as RefusedRun}
+use Rattle.model.specs.declared.answers.ContainingAnswer.{ContainingAnswer}
+use Rattle.model.specs.declared.answers.ContainingAnswer.the-variants.{Run as InRun, Before, Unknown, Refused as RefusedContaining}
 use Rattle.model.specs.declared.answers.BoolAnswer.{BoolAnswer}
 use Rattle.model.specs.declared.answers.BoolAnswer.the-variants.{Told, Refused as RefusedBool}
 use Rattle.model.specs.declared.answers.BookAnswer.{BookAnswer}
@@ -26,7 +28,8 @@ use Rattle.model.specs.declared.steps.WalkStep.the-variants.{Retreat, Ad
 use Rattle.model.specs.declared.steps.NextStep.{NextStep}
 use Rattle.model.specs.declared.steps.NextStep.the-variants.{Step as Given, End, Refused as RefusedStep}
 use Rattle.model.specs.Refusals.{number, table, caseAt, refusal}
-use Rattle.model.specs.Answers.{eventOr, eventsOr, runOr, boolOr, outcomeNumber, eventNumbers, eventsNumbers, runNumbers, boolNumbers, bookNumbers, stepNumbers, nextNumbers}
+use Rattle.model.specs.Answers.{eventOr, eventsOr, runOr, containingOr, boolOr, outcomeNumber, eventNumbers, eventsNumbers, runNumbers, containingNumbers, boolNumbers, bookNumbers, stepNumbers, nextNumbers}
+use Rattle.model.specs.Graph.{Side, inRun, before, unknown}
 use Rattle.model.specs.Steps.{Step, retreat, advance, opened, apply, stepWords}
 use Rattle.model.specs.Reader.{decoded, asStep}
 use Rattle.model.specs.Numbered.{ToldApart, Numbered}
@@ -127,6 +130,22 @@ unfolding runAgain runNumbers outcomeOf
 run-again (Run n) = refl
 run-again (RefusedRun r) = ap (λ (o : Outcome). runOr o 0) (refused-again r)
 
+-- The side of a number, with the run
+sideAgain : ℕ → ℕ → Side
+sideAgain zero r = inRun r
+sideAgain (suc zero) r = before
+sideAgain (suc (suc n)) r = unknown
+
+containingAgain : List ℕ → ContainingAnswer
+containingAgain ns = containingOr (outcomeOf (getD ns 0 0)) (sideAgain (getD ns 1 0) (getD ns 2 0))
+
+containing-again : (a : ContainingAnswer) → containingAgain (containingNumbers a) ≡ a
+unfolding containingAgain sideAgain containingNumbers outcomeOf
+containing-again (InRun n) = refl
+containing-again Before = refl
+containing-again Unknown = refl
+containing-again (RefusedContaining r) = ap (λ (o : Outcome). containingOr o (inRun 0)) (refused-again r)
+
 boolAgain : List ℕ → BoolAnswer
 boolAgain ns = boolOr (outcomeOf (getD ns 0 0)) (eqb (getD ns 1 0) 1)
 
@@ -194,6 +213,7 @@ numbered = record {
   event = apart eventNumbers eventAgain event-again;
   events = apart eventsNumbers eventsAgain events-again;
   run = apart runNumbers runAgain run-again;
+  containing = apart containingNumbers containingAgain containing-again;
   bool = apart boolNumbers boolAgain bool-again;
   book = apart bookNumbers bookAgain book-again;
   step = apart stepNumbers stepAgain step-again;

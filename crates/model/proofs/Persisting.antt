@@ -9,6 +9,7 @@ use Rattle.model.specs.Broken.{WellFormed}
 use Rattle.model.specs.Split.{split, ends, splitAfter}
 use Rattle.model.specs.Push.{grown, joined, lowered, push, pushOutcome}
 use Rattle.model.specs.Start.{splitting, starting}
+use Rattle.model.proofs.FormedReads.{first-len}
 use Rattle.model.proofs.FormedSplitAll.{Inside, rest-inside, first-inside, first-formed, rest-after}
 use Rattle.model.proofs.FormedPush.{Accepted, accepted, push-grows, push-joins, held-inside, pushed-splits, inside-after}
 use Rattle.model.proofs.FormedCalls.{start-inside}
@@ -38,14 +39,14 @@ module _ (P : Graph → Type 0) (K : Persists P) where
 
   -- An accepted push
   pub push-persists : (g : Graph) (ps : List ℕ) (n : ℕ) → WellFormed g → pushOutcome g ps n ≡ Done → P g → P (push g ps n)
-  push-persists g ps n w e p = go (extends g ps) refl (accepted g ps n e)
+  push-persists g ps n w e p = go (extends g ps) refl (accepted g (first-len g w) ps n e)
     where
       go : (t : Bool) → extends g ps ≡ t → Accepted g ps n → P (push g ps n)
       go true x ok = subst P (sym (push-grows g ps n x)) (K .grows g ps n w p)
       go false x ok =
           subst P (sym (push-joins g ps n x))
           (K .joins (splitAfter g (held g ps)) ps n (pushed-splits g w ps n ok .formed) (inside-after g w ps n ok)
-          (splits-persist g (held g ps) w (held-inside g ps (ok .rises) (ok .known)) p))
+          (splits-persist g (held g ps) w (held-inside g ps (ok .rises)) p))
 
   -- A run start that splits
   pub start-persists : (g : Graph) (at : ℕ) → WellFormed g → starting g at ≡ splitting → P g → P (split g (containing g at) at)

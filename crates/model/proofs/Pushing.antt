@@ -111,7 +111,7 @@ module _ (g : Graph) (l : Log) (v : Inv g l) (ps : List ℕ) (n : ℕ) (pos : 0 
           let a : (j : ℕ) × (mem j own ≡ true) × (z .0 ≡ seenAfter g j) = map-mem (seenAfter g) (z .0) own (z .1) in
           let b : (p : ℕ) × (mem p (held g ps) ≡ true) × (a .0 ≡ containing g p) = map-mem (containing g) (a .0) (held g ps) (a .1) in
           let k : z .0 ≡ seenAfter g (containing g (b .0)) = a .2 ∙ ap (seenAfter g) (b .2) in
-          (b .0, subst (λ (xs : List ℕ). mem (b .0) xs ≡ true) (held-tied g l t ps) (b .1), omega (arith, z .2, k))
+          (b .0, subst (λ (xs : List ℕ). mem (b .0) xs ≡ true) (held-tied g l t ps known) (b .1), omega (arith, z .2, k))
 
   -- What a parent run hands on lies between the first held event and the next one
   after-bounds : (j : ℕ) → j < c → (l .firstHeld ≤ seenAfter g j) × (seenAfter g j ≤ l .next)
@@ -123,7 +123,7 @@ module _ (g : Graph) (l : Log) (v : Inv g l) (ps : List ℕ) (n : ℕ) (pos : 0 
   unfolding parentRuns
   own-run j m =
       let b : (p : ℕ) × (mem p (held g ps) ≡ true) × (j ≡ containing g p) = map-mem (containing g) j (held g ps) m in
-      omega (arith, b .2, (ends-run (b .0) (subst (λ (xs : List ℕ). mem (b .0) xs ≡ true) (held-tied g l t ps) (b .1))) .0)
+      omega (arith, b .2, (ends-run (b .0) (subst (λ (xs : List ℕ). mem (b .0) xs ≡ true) (held-tied g l t ps known) (b .1))) .0)
 
   -- and so does what the new run has seen
   news-bounds : (l .firstHeld ≤ news) × (news ≤ l .next)

@@ -13,10 +13,12 @@ use Rattle.lists.specs.Lists.{mem, count}
 use Rattle.lists.proofs.Truth.{false-true, or-right}
 use Rattle.lists.proofs.Members.{getD-snoc, mem-filter, any-intro, any-elim}
 use Rattle.lists.proofs.Counts.{count-append}
+use Rattle.lists.proofs.Bounds.{below-of}
 use Rattle.lists.proofs.Rising.{up-count}
 use Rattle.model.specs.EventGraph.{EventGraph, reaches, Lower}
 use Rattle.model.specs.Graph.{Graph, start, runs, len, firstHeld, containing, held}
 use Rattle.model.specs.Log.{Log, runStart, heldOf, eventGraph}
+use Rattle.model.proofs.Siding.{held-below}
 use Rattle.model.proofs.Exact.{ancestors}
 use Rattle.model.proofs.Runs.{Edged}
 use Rattle.model.proofs.Tied.{Tied}
@@ -51,7 +53,7 @@ module _ (g : Graph) (l : Log) (t : Tied g l) where
   unfolding start runStart
   start-is r le = rw (t .starts) (getD-snoc (l .edges) (l .next) 0 r le)
 
-  -- They have the same next event, first held event and held parents
+  -- They have the same next event and first held event, and of known parents the same are held
   pub len-tied : len g ≡ l .next
   unfolding len runs runStart
   len-tied = rw (t .rows) (start-is (length (l .edges)) (omega arith) ∙ List·getD-eq-default (l .edges) (l .next) (omega arith))
@@ -60,9 +62,9 @@ module _ (g : Graph) (l : Log) (t : Tied g l) where
   unfolding firstHeld
   first-tied = start-is 0 (omega arith) ∙ t .edged .first
 
-  pub held-tied : (ps : List ℕ) → held g ps ≡ heldOf l ps
-  unfolding held heldOf
-  held-tied ps = rw first-tied
+  pub held-tied : (ps : List ℕ) → ((p : ℕ) → mem p ps ≡ true → p < l .next) → held g ps ≡ heldOf l ps
+  unfolding heldOf
+  held-tied ps known = held-below g ps (below-of (len g) ps (λ p m. omega (arith, len-tied, known p m))) ∙ rw first-tied
 
   -- The run of a held event, by the log's edges
   pub containing-is : (p : ℕ) → p < l .next → l .firstHeld ≤ p → suc (containing g p) ≡ count (λ s. leb s p) (l .edges)

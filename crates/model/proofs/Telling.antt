@@ -1,12 +1,12 @@
 -- The numbers that a graph tells of its runs and events are those of the plain log that it is tied to. Assumes nothing.
 use mathlib.Core.Path.{_≡_, refl, sym, ap, ap₂, _∙_, subst, fun-ext}
 use mathlib.Core.Logic.{_⊎_, inl, inr}
-use mathlib.Core.Bool.{Bool, true, false}
-use mathlib.Core.List.{List, [], _∷_}
+use mathlib.Core.Bool.{Bool, true, false, cond}
+use mathlib.Core.List.{List, [], _∷_, map}
 use Prim.Native.Nat.{ℕ, suc, _+_, _-_, _≤_, _<_}
 use native.Mathlib.Omega.{arith}
 use lib.ListN.{length}
-use lib.Dec.{leb}
+use lib.Dec.{leb, eqb}
 use borrow.Author.Tests.{leb-true, eq-eqb, ne-eqb}
 use Rattle.lists.specs.Lists.{mem}
 use Rattle.lists.proofs.Truth.{eq-or-not, lt-of-ne, false-true}
@@ -21,13 +21,14 @@ use Rattle.model.specs.declared.answers.Refusal.the-variants.{Broken}
 use Rattle.model.specs.declared.answers.Outcome.{Outcome}
 use Rattle.model.specs.declared.answers.Outcome.the-variants.{Done, Refused}
 use Rattle.model.specs.EventGraph.{EventGraph}
-use Rattle.model.specs.Graph.{Graph, len, containing}
+use Rattle.model.specs.Graph.{Graph, start, len, containing, Side, inRun, before, unknown, side, isHeld}
 use Rattle.model.specs.Record.{view}
 use Rattle.model.specs.Broken.{broken}
 use Rattle.model.specs.History.{at}
-use Rattle.model.specs.HeldEvents.{isHeld, lastEvent, eventParents, heldEvents}
+use Rattle.model.specs.HeldEvents.{lastEvent, eventParents, heldEvents}
 use Rattle.model.specs.Push.{pushOutcome, pushed, pushRefused, pushHeldOf, pushOf}
 use Rattle.model.specs.Log.{Log, runStart, heldOf, heldBefore, eventGraph}
+use Rattle.model.proofs.Siding.{side-run, is-held, held-between}
 use Rattle.model.proofs.Runs.{held-is, held-bounds, runOf}
 use Rattle.model.proofs.Tied.{lastOf, Tied, alone-held, in-run}
 use Rattle.model.proofs.Seen.{ParentsLower, start-is, len-tied, first-tied, containing-is}
@@ -40,13 +41,35 @@ no-members (x ∷ xs) h = absurd (h x (mem-first x xs))
 abbrev eventGraphOf : (ℕ → Bool) → (ℕ → List ℕ) → EventGraph
 eventGraphOf isEvent parents = record { isEvent = isEvent; parents = parents }
 
+-- The parents of an event, by where it lies
+module _ (g : Graph) (e : ℕ) where
+  abbrev parentsBy : Side → List ℕ
+  parentsBy s = elim s as (λ _. List ℕ) [
+    | inRun r ↦ cond (eqb e (start g r)) (map (lastEvent g) (at (g .parents) r)) ((e - 1) ∷ [])
+    | before ↦ []
+    | unknown ↦ []
+  ]
+
+  parents-in : (r : ℕ) → side g e ≡ inRun r → eventParents g e ≡ cond (eqb e (start g r)) (map (lastEvent g) (at (g .parents) r)) ((e - 1) ∷ [])
+  unfolding eventParents
+  parents-in r h = ap parentsBy h
+
+  parents-out : isHeld (side g e) ≡ false → eventParents g e ≡ []
+  unfolding eventParents isHeld
+  parents-out h = go (side g e) h
+    where
+      go : (s : Side) → isHeld s ≡ false → parentsBy s ≡ []
+      go (inRun r) q = false-true (sym q)
+      go before q = refl
+      go unknown q = refl
+
 module _ (g : Graph) (l : Log) (t : Tied g l) (lower : ParentsLower l) where
-  held-same : (e : ℕ) → isHeld g e ≡ heldBefore l (l .next) e
-  unfolding isHeld heldBefore
-  held-same e = rw (first-tied g l t, len-tied g l t)
+  held-same : (e : ℕ) → isHeld (side g e) ≡ heldBefore l (l .next) e
+  unfolding heldBefore
+  held-same e = is-held g e ∙ rw (first-tied g l t, len-tied g l t)
 
   parents-same : (e : ℕ) → eventParents g e ≡ heldOf l (l .parents e)
-  unfolding eventParents lastEvent heldOf runOf
+  unfolding lastEvent heldOf runOf
   parents-same e = go (heldBefore l (l .next) e) refl
     where
       none : heldBefore l (l .next) e ≡ false → (p : ℕ) → ¬ (mem p (heldOf l (l .parents e)) ≡ true)
@@ -55,17 +78,22 @@ module _ (g : Graph) (l : Log) (t : Tied g l) (lower : ParentsLower l) where
           let b : (p < e) × (e < l .next) = lower e p (f .0) in
           false-true (sym h ∙ held-is l (l .next) e (omega (arith, leb-true (l .firstHeld) p (f .1), b .0)) (b .1))
 
+      lies : heldBefore l (l .next) e ≡ true → (r : ℕ) → containing g e ≡ r → side g e ≡ inRun r
+      lies h r c = let b = held-between g e (held-same e ∙ h) in side-run g e (b .0) (b .1) ∙ ap inRun c
+
       held : heldBefore l (l .next) e ≡ true → (r : ℕ) → containing g e ≡ r → r < length (l .edges) → runStart l r ≤ e → e < runStart l (suc r) →
           (e ≡ runStart l r) ⊎ (e ≡ runStart l r → ⊥) → eventParents g e ≡ heldOf l (l .parents e)
       held h r c lt p q (inl z) =
-          rw (held-same e, h, c, start-is g l t r (omega arith), eq-eqb e (runStart l r) z)
+          parents-in g e r (lies h r c) ∙
+          rw (start-is g l t r (omega arith), eq-eqb e (runStart l r) z)
           (map-same (lastEvent g) (lastOf l) (at (g .parents) r) (λ j m. ap (λ (k : ℕ). k - 1) (start-is g l t (suc j) (omega (arith, t .below r j m)))) ∙
           (sym (t .parents r lt) ∙ ap (λ (x : ℕ). heldOf l (l .parents x)) (sym z)))
       held h r c lt p q (inr z) =
-          rw (held-same e, h, c, start-is g l t r (omega arith), ne-eqb e (runStart l r) z) (sym (alone-held g l t r e (lt-of-ne (runStart l r) e p (λ w. z (sym w))) q))
+          parents-in g e r (lies h r c) ∙
+          rw (start-is g l t r (omega arith), ne-eqb e (runStart l r) z) (sym (alone-held g l t r e (lt-of-ne (runStart l r) e p (λ w. z (sym w))) q))
 
       go : (b : Bool) → heldBefore l (l .next) e ≡ b → eventParents g e ≡ heldOf l (l .parents e)
-      go false h = rw (held-same e, h) (sym (no-members (heldOf l (l .parents e)) (none h)))
+      go false h = parents-out g e (held-same e ∙ h) ∙ sym (no-members (heldOf l (l .parents e)) (none h))
       go true h =
           let b = held-bounds l (l .next) e h in
           let i = in-run g l t e h in

@@ -1,7 +1,7 @@
 -- An unmarked run stays unmarked, and run starts are told true exactly where one starts, or comes to start by a split. Assumes nothing.
 use mathlib.Core.Path.{_≡_, refl, sym, ap, _∙_}
 use mathlib.Core.Logic.{_⊎_, inl, inr}
-use mathlib.Core.Bool.{Bool, true, false, not, cond, _&&_, _||_}
+use mathlib.Core.Bool.{Bool, true, false, cond, _&&_, _||_}
 use mathlib.Core.List.{List}
 use Prim.Native.Nat.{ℕ, suc, _≤_, _<_}
 use native.Mathlib.Omega.{arith}
@@ -12,13 +12,13 @@ use Rattle.lists.specs.Lists.{all, insertAt}
 use Rattle.lists.proofs.Truth.{lt-or-le, lt-of-ne, false-true, not-so, and-left, and-right, and-both}
 use Rattle.lists.proofs.Members.{all-from-on}
 use Rattle.lists.proofs.Inserts.{insert-at, all-insert}
-use Rattle.model.specs.Graph.{Graph, runs, start, firstHeld, containing, marked}
+use Rattle.model.specs.Graph.{Graph, runs, start, containing, marked}
 use Rattle.model.specs.Broken.{WellFormed}
 use Rattle.model.specs.Split.{secondSeen, split}
 use Rattle.model.specs.Push.{grown, joined, lowered}
 use Rattle.model.specs.Start.{answers, splitting, alone, starting, taken}
 use Rattle.model.specs.StaysTrue.{UnmarkedAt, SeenStarts}
-use Rattle.model.proofs.FormedReads.{start-mono, start-less, start-len, containing-in, containing-start, marked-of, seen-within}
+use Rattle.model.proofs.FormedReads.{start-mono, start-less, start-len, first-start, containing-in, containing-start, marked-of}
 use Rattle.model.proofs.FormedSplits.{split-runs}
 use Rattle.model.proofs.FormedJoins.{joined-runs}
 use Rattle.model.proofs.FormedCalls.{starting-inside, starting-told, starting-tells, start-inside}
@@ -149,23 +149,19 @@ module _ (g : Graph) (w : WellFormed g) (S : SeenStarts g) (r at : ℕ) (b : r <
 pub splitting-unmarked : (g : Graph) → WellFormed g → SeenStarts g → (at : ℕ) → starting g at ≡ splitting → UnmarkedAt (split g (containing g at) at) at
 splitting-unmarked g w S at e =
     let i = start-inside g w at e in
-    second-unmarked g w S (containing g at) at (i .0) (i .1) (starting-inside g at e .3)
+    second-unmarked g w S (containing g at) at (i .0) (i .1) (starting-inside g w at e .3)
 
 -- One told true at a run's start has found one
 pub told-unmarked : (g : Graph) → WellFormed g → (at : ℕ) → starting g at ≡ answers true → UnmarkedAt g at
 told-unmarked g w at e =
-    let t = starting-told g at e in
+    let t = starting-told g w at e in
     record { run = containing g at; held = containing-in g w at (omega (arith, t .0)) (t .1) .0; starts = t .2; unmarked = t .3 }
 
--- Where an unmarked run starts, a run start is told true: only run 0 starts at the first held event, and run 0 is marked
+-- Where an unmarked run starts, a run start is told true
 pub unmarked-tells : (g : Graph) → WellFormed g → (at : ℕ) → UnmarkedAt g at → starting g at ≡ answers true
 unmarked-tells g w at U =
     let r : ℕ = U .run in
     let c : containing g at ≡ r = ap (containing g) (sym (U .starts)) ∙ containing-start g w r (U .held) in
-    starting-tells g at (past (lt-or-le (firstHeld g) at))
+    starting-tells g at (omega (arith, U .starts, first-start g w r (omega (arith, U .held))))
     (omega (arith, U .starts, start-less g w r (suc r) (omega arith) (U .held), start-len g w (suc r) (U .held))) (ap (start g) c ∙ U .starts)
     (ap (marked g) c ∙ U .unmarked)
-  where
-    past : (firstHeld g < at) ⊎ (at ≤ firstHeld g) → firstHeld g < at
-    past (inl h) = h
-    past (inr h) = false-true (sym (U .unmarked) ∙ marked-of g w (U .run) (λ q le lt. omega (arith, U .starts, seen-within g w q lt .0)))

@@ -16,6 +16,8 @@ use Rattle.model.specs.declared.answers.EventsAnswer.{EventsAnswer}
 use Rattle.model.specs.declared.answers.EventsAnswer.the-variants.{Events, Refused as RefusedEvents}
 use Rattle.model.specs.declared.answers.RunAnswer.{RunAnswer}
 use Rattle.model.specs.declared.answers.RunAnswer.the-variants.{Run, Refused as RefusedRun}
+use Rattle.model.specs.declared.answers.ContainingAnswer.{ContainingAnswer}
+use Rattle.model.specs.declared.answers.ContainingAnswer.the-variants.{Run as InRun, Before, Unknown, Refused as RefusedContaining}
 use Rattle.model.specs.declared.answers.BoolAnswer.{BoolAnswer}
 use Rattle.model.specs.declared.answers.BoolAnswer.the-variants.{Told, Refused as RefusedBool}
 use Rattle.model.specs.declared.answers.ParentRuns.{ParentRuns}
@@ -28,6 +30,7 @@ use Rattle.model.specs.declared.steps.NextStep.{NextStep}
 use Rattle.model.specs.declared.steps.NextStep.the-variants.{Step as Given, End, Refused as RefusedStep}
 use Rattle.model.specs.Limits.{maxRuns, maxFrontier}
 use Rattle.model.specs.Refusals.{number}
+use Rattle.model.specs.Graph.{Side, inRun, before, unknown}
 
 -- an event
 abbrev pub eventOr : Outcome → ℕ → EventAnswer
@@ -43,6 +46,13 @@ eventsOr (Refused r) a b = RefusedEvents r
 abbrev pub runOr : Outcome → ℕ → RunAnswer
 runOr Done n = Run (record { 0 = n })
 runOr (Refused r) n = RefusedRun r
+
+-- where an event lies
+abbrev pub containingOr : Outcome → Side → ContainingAnswer
+containingOr Done (inRun n) = InRun (record { 0 = n })
+containingOr Done before = Before
+containingOr Done unknown = Unknown
+containingOr (Refused r) s = RefusedContaining r
 
 -- a truth
 abbrev pub boolOr : Outcome → Bool → BoolAnswer
@@ -81,6 +91,13 @@ eventsNumbers (RefusedEvents r) = number r ∷ 0 ∷ 0 ∷ []
 unfoldable pub runNumbers : RunAnswer → List ℕ
 runNumbers (Run n) = 0 ∷ n .0 ∷ []
 runNumbers (RefusedRun r) = number r ∷ 0 ∷ []
+
+-- the side, 0 the run, 1 before the graph, 2 not yet known; and the run
+unfoldable pub containingNumbers : ContainingAnswer → List ℕ
+containingNumbers (InRun n) = 0 ∷ 0 ∷ n .0 ∷ []
+containingNumbers Before = 0 ∷ 1 ∷ 0 ∷ []
+containingNumbers Unknown = 0 ∷ 2 ∷ 0 ∷ []
+containingNumbers (RefusedContaining r) = number r ∷ 0 ∷ 0 ∷ []
 
 -- 1 where told true
 unfoldable pub boolNumbers : BoolAnswer → List ℕ

@@ -1,20 +1,21 @@
 -- The cases of document 02's change requests, by computing. Assumes nothing.
 use mathlib.Core.Path.{_≡_}
 use mathlib.Core.Bool.{false}
-use mathlib.Core.List.{List, [], _∷_}
+use mathlib.Core.List.{List, [], _∷_, map}
 use Prim.Native.Nat.{ℕ}
 use lib.ListN.{replicate}
 use Rattle.model.specs.declared.record.CausalGraph.{CausalGraph}
 use Rattle.model.specs.declared.answers.Written.{Written}
-use Rattle.model.specs.Answers.{outcomeNumber, boolNumbers, bookNumbers}
+use Rattle.model.specs.Answers.{outcomeNumber, containingNumbers, boolNumbers, bookNumbers}
 use Rattle.model.specs.Record.{view, store}
 use Rattle.model.specs.Broken.{broken}
-use Rattle.model.specs.Fresh.{newOf}
+use Rattle.model.specs.Fresh.{newOf, afterOf}
 use Rattle.model.specs.Start.{startRunAtOf}
+use Rattle.model.specs.Lookups.{containingOf}
 use Rattle.model.specs.Beside.{concurrencyListOf}
 use Rattle.model.specs.Book.{bookOf}
 use Rattle.model.specs.Print.{ascii, replayText}
-use Rattle.model.specs.Log.{new, Call, push, startRunAt, takeChangedFrom, madeBy}
+use Rattle.model.specs.Log.{new, after, Call, push, startRunAt, takeChangedFrom, madeBy}
 use Rattle.model.specs.Cases.{branches}
 
 -- What a call wrote into a lent list: the refusal's number, the count, the list afterwards
@@ -36,6 +37,14 @@ startedAfter cs at = boolNumbers (startRunAtOf (madeBy new cs .0) at .answer)
 -- A record that no calls make: run 1 has seen up to event 1, at which no run starts
 unfoldable pub byHand : CausalGraph
 byHand = store (record { starts = 0 ∷ 2 ∷ 3 ∷ []; parents = [] ∷ [] ∷ []; frontier = 1 ∷ 2 ∷ []; seen = 0 ∷ 1 ∷ []; changed = 0 })
+
+-- Where events lie, each in numbers: refusal, side (0 the run, 1 before the graph, 2 not yet known), run
+unfoldable pub sidesOf : CausalGraph → List ℕ → List (List ℕ)
+sidesOf g es = map (λ e. containingNumbers (containingOf g e)) es
+
+-- After three earlier events: events 3 and 4 on event 2, then event 5 on event 3
+unfoldable pub later : CausalGraph
+later = madeBy (after 3 (2 ∷ [])) (push (2 ∷ []) 2 ∷ push (3 ∷ []) 1 ∷ []) .0
 
 pub record Changes : Type 0 where
   -- F-1: "a book of length 0" is whole, "a fresh graph from `new`"; "the program then prints `moved 0` alone"
@@ -69,3 +78,12 @@ pub record Changes : Type 0 where
   pub F4-by-hand : broken byHand ≡ false
   pub F4-by-hand-true : boolNumbers (startRunAtOf byHand 1 .answer) ≡ 0 ∷ 1 ∷ []
   pub F4-by-hand-false : boolNumbers (startRunAtOf (startRunAtOf byHand 1 .graph) 1 .answer) ≡ 0 ∷ 0 ∷ []
+  -- F-11: "one of: the run, before the graph, or not yet known". Event 4 lies in the last run, run 4; event 5, which is `len`, in none
+  pub F11 : sidesOf branches (0 ∷ 4 ∷ 5 ∷ 4294967295 ∷ []) ≡ (0 ∷ 0 ∷ 0 ∷ []) ∷ (0 ∷ 0 ∷ 4 ∷ []) ∷ (0 ∷ 2 ∷ 0 ∷ []) ∷ (0 ∷ 2 ∷ 0 ∷ []) ∷ []
+  -- the last event before the graph, the first held one, run by run up to `len`
+  pub F11-later : sidesOf later (2 ∷ 3 ∷ 4 ∷ 5 ∷ 6 ∷ []) ≡ (0 ∷ 1 ∷ 0 ∷ []) ∷ (0 ∷ 0 ∷ 0 ∷ []) ∷ (0 ∷ 0 ∷ 1 ∷ []) ∷ (0 ∷ 0 ∷ 2 ∷ []) ∷ (0 ∷ 2 ∷ 0 ∷ []) ∷ []
+  -- with no runs: below the first held event before the graph, all others not yet known
+  pub F11-none : sidesOf (afterOf 3 (2 ∷ []) .graph) (2 ∷ 3 ∷ []) ≡ (0 ∷ 1 ∷ 0 ∷ []) ∷ (0 ∷ 2 ∷ 0 ∷ []) ∷ []
+  pub F11-new : sidesOf newOf (0 ∷ []) ≡ (0 ∷ 2 ∷ 0 ∷ []) ∷ []
+  -- "1 does": of a broken graph, whose starts fall
+  pub F11-broken : sidesOf (store (record { starts = 2 ∷ 1 ∷ []; parents = [] ∷ []; frontier = 0 ∷ []; seen = 2 ∷ []; changed = 0 })) (0 ∷ 3 ∷ []) ≡ (1 ∷ 0 ∷ 0 ∷ []) ∷ (1 ∷ 0 ∷ 0 ∷ []) ∷ []

@@ -1,5 +1,5 @@
 -- 01, "The graph record" and "lib.rs": the graph as plain lists with no padding, and what is read off it. Assumes nothing.
-use mathlib.Core.Bool.{Bool, _&&_}
+use mathlib.Core.Bool.{Bool, true, false, cond, _&&_}
 use mathlib.Core.List.{List, [], _∷_}
 use Prim.Native.Nat.{ℕ, _-_}
 use lib.ListN.{length, getD, drop}
@@ -43,9 +43,35 @@ marked g r = all (λ s. leb (start g r) s) (drop r (g .seen))
 unfoldable pub marks : Graph → List ℕ
 marks g = filter (marked g) (upto (runs g))
 
+-- Where an event lies. 02, F-11: "the run, before the graph, or not yet known"
+pub data Side : Type 0 where
+  inRun : ℕ → Side
+  before : Side
+  unknown : Side
+
+-- below the first held event, not below `len`, or in the run that holds it
+unfoldable pub side : Graph → ℕ → Side
+side g e = cond (ltb e (firstHeld g)) before (cond (ltb e (len g)) (inRun (containing g e)) unknown)
+
+-- a held event lies in a run
+unfoldable pub isHeld : Side → Bool
+isHeld (inRun r) = true
+isHeld before = false
+isHeld unknown = false
+
+-- a known event is held or lies before the graph
+unfoldable pub isKnown : Side → Bool
+isKnown (inRun r) = true
+isKnown before = true
+isKnown unknown = false
+
 -- of a list of events, those that are held
 unfoldable pub held : Graph → List ℕ → List ℕ
-held g es = filter (λ e. leb (firstHeld g) e) es
+held g es = filter (λ e. isHeld (side g e)) es
+
+-- each event of a list is known
+unfoldable pub allKnown : Graph → List ℕ → Bool
+allKnown g es = all (λ e. isKnown (side g e)) es
 
 -- "With runs held and the parents just the last event"
 unfoldable pub extends : Graph → List ℕ → Bool

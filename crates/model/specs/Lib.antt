@@ -11,6 +11,7 @@ pub mod Split
 pub mod Push
 pub mod Start
 pub mod Lookups
+pub mod Sides
 pub mod Cut
 pub mod History
 pub mod HeldEvents

@@ -1,5 +1,5 @@
 -- 01, "pushes and run starts": the lookups, on every input. Assumes nothing.
-use mathlib.Core.Bool.{Bool, false, not, _&&_}
+use mathlib.Core.Bool.{Bool, false}
 use mathlib.Core.List.{List, [], _∷_}
 use Prim.Native.Nat.{ℕ, suc}
 use lib.ListN.{getD}
@@ -7,14 +7,14 @@ use lib.Dec.{leb, ltb, eqb}
 use Rattle.model.specs.declared.record.CausalGraph.{CausalGraph}
 use Rattle.model.specs.declared.answers.EventAnswer.{EventAnswer}
 use Rattle.model.specs.declared.answers.EventsAnswer.{EventsAnswer}
-use Rattle.model.specs.declared.answers.RunAnswer.{RunAnswer}
+use Rattle.model.specs.declared.answers.ContainingAnswer.{ContainingAnswer}
 use Rattle.model.specs.declared.answers.BoolAnswer.{BoolAnswer}
 use Rattle.model.specs.declared.answers.ParentRuns.{ParentRuns}
 use Rattle.model.specs.declared.answers.FrontierEvents.{FrontierEvents}
 use Rattle.model.specs.declared.answers.Outcome.{Outcome}
 use Rattle.model.specs.Refusals.{firstOf}
-use Rattle.model.specs.Answers.{eventOr, eventsOr, runOr, boolOr, parentRunsOr, frontierOr}
-use Rattle.model.specs.Graph.{runs, start, firstHeld, len, containing, extends}
+use Rattle.model.specs.Answers.{eventOr, eventsOr, containingOr, boolOr, parentRunsOr, frontierOr}
+use Rattle.model.specs.Graph.{runs, start, firstHeld, len, side, extends}
 use Rattle.model.specs.Record.{view}
 use Rattle.model.specs.Broken.{broken}
 
@@ -34,9 +34,10 @@ eventsOf g r = eventsOr (lookup g (leb (runs (view g)) r)) (start (view g) r) (s
 unfoldable pub parentsOf : CausalGraph → ℕ → ParentRuns
 parentsOf g r = parentRunsOr (lookup g (leb (runs (view g)) r)) (getD (view g .parents) r [])
 
--- `containing(event)`: the run of a held event
-unfoldable pub containingOf : CausalGraph → ℕ → RunAnswer
-containingOf g e = runOr (lookup g (not (leb (firstHeld (view g)) e && ltb e (len (view g))))) (containing (view g) e)
+-- `containing(event)`. 02, F-11: "`containing` shall answer one of: the run, before the graph, or not yet known. Refusal 9 no longer comes
+-- from it; 1 does"
+unfoldable pub containingOf : CausalGraph → ℕ → ContainingAnswer
+containingOf g e = containingOr (lookup g false) (side (view g) e)
 
 -- `len()`
 unfoldable pub lenOf : CausalGraph → EventAnswer

@@ -9,9 +9,10 @@ use lib.Dec.{leb, ltb}
 use Rattle.lists.specs.Lists.{bit, count, sum, concat, upto, mem, occurs, rising, largest}
 use Rattle.model.specs.declared.record.CausalGraph.{CausalGraph}
 use Rattle.model.specs.EventGraph.{EventGraph, HappenedBefore, Concurrent, Lower, ancestor}
-use Rattle.model.specs.Graph.{Graph, runs, start, firstHeld, len, containing}
+use Rattle.model.specs.Graph.{Graph, runs, start, len}
 use Rattle.model.specs.Record.{view, Sized}
 use Rattle.model.specs.Broken.{broken, WellFormed, Held}
+use Rattle.model.specs.Sides.{Sides}
 use Rattle.model.specs.History.{at, runGraph, histories}
 use Rattle.model.specs.Beside.{concurrentRun, concurrencyList}
 use Rattle.model.specs.Choice.{Range, rangeOf, isReady, newlyReady}
@@ -93,9 +94,8 @@ pub record Meaning : Type 0 where
   pub last : (g : Graph) → WellFormed g → largest 0 (g .starts) ≡ len g
   -- ancestors by computing are the paper's
   pub ancestors : (G : EventGraph) → Lower G → (e p : ℕ) → HappenedBefore G p e ↔ (ancestor G e p ≡ true)
-  -- a held event lies in the run that is told to hold it
-  pub containing-in : (g : Graph) → WellFormed g → (e : ℕ) → firstHeld g ≤ e → e < len g →
-      (containing g e < runs g) × (start g (containing g e) ≤ e) × (e < start g (suc (containing g e)))
+  -- where an event is told to lie
+  pub sides : (g : Graph) → WellFormed g → Sides g
   -- a run's history is exactly the runs that happened before it, each once, rising
   pub history : (ps : List (List ℕ)) → Lower (runGraph ps) → (q r : ℕ) → (mem q (at (histories ps) r) ≡ true) ↔ HappenedBefore (runGraph ps) q r
   pub history-rises : (ps : List (List ℕ)) → Lower (runGraph ps) → (r : ℕ) → rising (at (histories ps) r) ≡ true

@@ -5,7 +5,7 @@ use Prim.Native.Nat.{ℕ, _≤_}
 use lib.ListN.{length}
 use Rattle.model.specs.declared.answers.Refusal.{Refusal}
 use Rattle.model.specs.Refusals.{number, table, refusal}
-use Rattle.model.specs.Answers.{outcomeNumber, eventNumbers, eventsNumbers, runNumbers, boolNumbers, bookNumbers, stepNumbers, nextNumbers}
+use Rattle.model.specs.Answers.{outcomeNumber, eventNumbers, eventsNumbers, runNumbers, containingNumbers, boolNumbers, bookNumbers, stepNumbers, nextNumbers}
 use Rattle.model.specs.Steps.{Step, stepWords}
 use Rattle.model.specs.Reader.{asStep}
 
@@ -23,6 +23,7 @@ pub record Numbered : Type 0 where
   pub event : ToldApart eventNumbers
   pub events : ToldApart eventsNumbers
   pub run : ToldApart runNumbers
+  pub containing : ToldApart containingNumbers
   pub bool : ToldApart boolNumbers
   pub book : ToldApart bookNumbers
   pub step : ToldApart stepNumbers

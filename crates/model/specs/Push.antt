@@ -4,7 +4,7 @@ use mathlib.Core.List.{List, [], _∷_, _++_, map}
 use Prim.Native.Nat.{ℕ, suc, _+_, _-_, min}
 use lib.ListN.{length, getD, take}
 use lib.Dec.{ltb, eqb}
-use Rattle.lists.specs.Lists.{filter, mem, same, rising, below, largest, least}
+use Rattle.lists.specs.Lists.{filter, mem, same, rising, largest, least}
 use Rattle.model.specs.declared.record.CausalGraph.{CausalGraph}
 use Rattle.model.specs.declared.answers.Pushed.{Pushed}
 use Rattle.model.specs.declared.answers.Refusal.{Refusal}
@@ -13,7 +13,7 @@ use Rattle.model.specs.declared.answers.Outcome.the-variants.{Done, Refu
 use Rattle.model.specs.Limits.{maxLen, maxRuns, maxEntries, maxFrontier}
 use Rattle.model.specs.Refusals.{refusal, firstOf}
 use Rattle.model.specs.Answers.{eventsOr}
-use Rattle.model.specs.Graph.{Graph, runs, start, firstHeld, len, entries, containing, marks, held, extends}
+use Rattle.model.specs.Graph.{Graph, runs, start, firstHeld, len, entries, containing, marks, held, allKnown, extends}
 use Rattle.model.specs.Record.{view, store}
 use Rattle.model.specs.Broken.{broken}
 use Rattle.model.specs.Split.{splits, splitAfter}
@@ -79,7 +79,7 @@ pushOutcome g ps n =
     firstOf (
     (eqb n 0, 2) ∷
     (not (rising ps), 3) ∷
-    (not (below (len g) ps), 4) ∷
+    (not (allKnown g ps), 4) ∷
     (ltb maxLen (len g + n), 5) ∷
     (new && ltb maxRuns (runs g + splits g ps + 1), 6) ∷
     (new && ltb maxEntries (entries g + splits g ps + length (held g ps)), 7) ∷

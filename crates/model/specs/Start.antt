@@ -2,7 +2,7 @@
 use mathlib.Core.Bool.{Bool, true, false, not, _&&_, _||_}
 use mathlib.Core.List.{[], _∷_}
 use Prim.Native.Nat.{ℕ, suc, _+_}
-use lib.Dec.{leb, ltb, eqb}
+use lib.Dec.{ltb, eqb}
 use Rattle.model.specs.declared.record.CausalGraph.{CausalGraph}
 use Rattle.model.specs.declared.answers.Started.{Started}
 use Rattle.model.specs.declared.answers.Taken.{Taken}
@@ -12,7 +12,7 @@ use Rattle.model.specs.declared.answers.Outcome.the-variants.{Done, Refu
 use Rattle.model.specs.Limits.{maxRuns, maxEntries}
 use Rattle.model.specs.Refusals.{refusal, firstOf}
 use Rattle.model.specs.Answers.{boolOr, runOr}
-use Rattle.model.specs.Graph.{Graph, runs, start, firstHeld, len, entries, containing, marked}
+use Rattle.model.specs.Graph.{Graph, runs, start, entries, containing, marked, inRun, before, unknown, side}
 use Rattle.model.specs.Record.{view, store}
 use Rattle.model.specs.Broken.{broken}
 use Rattle.model.specs.Split.{split}
@@ -26,15 +26,15 @@ pub data Starting : Type 0 where
 unfoldable pub alone : Graph → ℕ → Bool
 alone g r = marked g r && (eqb (suc r) (runs g) || marked g (suc r))
 
--- "false if `at` is at most the first held event or at least `len`. At a run's start: true exactly if unmarked. Inside run r: false if
--- r is marked and r is last or r+1 marked; else split, true"
+-- In run r. "At a run's start: true exactly if unmarked. Inside run r: false if r is marked and r is last or r+1 marked; else split, true"
+unfoldable pub startingIn : Graph → ℕ → ℕ → Starting
+startingIn g at r =
+    elim (eqb (start g r) at) [ true ↦ answers (not (marked g r)) | false ↦ elim (alone g r) [ true ↦ answers false | false ↦ splitting ] ]
+
+-- "false if `at` is at most the first held event or at least `len`": it lies in no run; or it is the first held event, at which run 0
+-- starts, and that run is marked in every graph that is not broken (`starts` of specs/Sides.antt)
 unfoldable pub starting : Graph → ℕ → Starting
-starting g at =
-    let r = containing g at in
-    elim (leb at (firstHeld g) || leb (len g) at) [
-      | true ↦ answers false
-      | false ↦ elim (eqb (start g r) at) [ true ↦ answers (not (marked g r)) | false ↦ elim (alone g r) [ true ↦ answers false | false ↦ splitting ] ]
-    ]
+starting g at = elim (side g at) [ inRun r ↦ startingIn g at r | before ↦ answers false | unknown ↦ answers false ]
 
 -- A split takes one run and one entry: refusals 6 and 7
 unfoldable pub splitOutcome : Graph → Outcome

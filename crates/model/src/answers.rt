@@ -57,7 +57,7 @@ pub enum Outcome {
     Refused(Refusal),
 }
 
-// An event; a range of events, first and end, exclusive; a run; a truth.
+// An event; a range of events, first and end, exclusive; a run; where an event lies; a truth.
 pub enum EventAnswer {
     Event(EventIndex),
     Refused(Refusal),
@@ -70,6 +70,14 @@ pub enum EventsAnswer {
 
 pub enum RunAnswer {
     Run(EventRunIndex),
+    Refused(Refusal),
+}
+
+// In a run; before the graph; or not yet known.
+pub enum ContainingAnswer {
+    Run(EventRunIndex),
+    Before,
+    Unknown,
     Refused(Refusal),
 }
 

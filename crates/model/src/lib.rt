@@ -9,6 +9,7 @@ pub mod steps;
 pub use answers::BookAnswer;
 pub use answers::BookRead;
 pub use answers::BoolAnswer;
+pub use answers::ContainingAnswer;
 pub use answers::EventAnswer;
 pub use answers::EventsAnswer;
 pub use answers::FrontierEvents;

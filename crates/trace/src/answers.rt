@@ -3,6 +3,7 @@ use crate::lines;
 use crate::lines::Said;
 use crate::words;
 use model::BoolAnswer;
+use model::ContainingAnswer;
 use model::EventAnswer;
 use model::EventsAnswer;
 use model::Outcome;
@@ -48,6 +49,16 @@ pub fn run(pattern: u32, answer: RunAnswer) -> Said {
     match answer {
         RunAnswer::Run(r) => given(pattern, r.0, 0),
         RunAnswer::Refused(r) => refused(pattern, r),
+    }
+}
+
+// The side: 0 a run, which follows; 1 before the graph; 2 not yet known.
+pub fn containing(pattern: u32, answer: ContainingAnswer) -> Said {
+    match answer {
+        ContainingAnswer::Run(r) => given(pattern, 0, r.0),
+        ContainingAnswer::Before => given(pattern, 1, 0),
+        ContainingAnswer::Unknown => given(pattern, 2, 0),
+        ContainingAnswer::Refused(r) => refused(pattern, r),
     }
 }
 

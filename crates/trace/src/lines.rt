@@ -45,7 +45,7 @@ pub fn named(pattern: u32) -> Said {
 fn pattern(i: usize) -> u8 {
     let all =
         b"new.........afterA......pushABC.....startAB.....takeAB......cutAB.......walkABC.....replayABC...\
-        archiveAB...concurrentABrunAB :CDE :eventAB.....extendsAB...graphABCD...raw.........reader......\
+        archiveAB...concurrentABrunAB :CDE :eventABC....extendsAB...graphABCD...raw.........reader......\
         graphA......ABC......... end........ refusedA...";
     if i < all.len() { all[i] } else { b'.' }
 }

@@ -60,7 +60,7 @@ fn graph(g: CausalGraph) -> Said {
 pub fn look(g: CausalGraph, operation: u32, first: u32, list: &[u32]) -> Said {
     match operation {
         10 => run(g, first),
-        11 => answers::run(11, graph::lookups::containing(g, EventIndex(first))),
+        11 => answers::containing(11, graph::lookups::containing(g, EventIndex(first))),
         12 => answers::truth(12, graph::lookups::extends_last_event(g, list)),
         13 => graph(g),
         _ => lines::named(15),

@@ -7,24 +7,22 @@ use Prim.Native.Nat.{ℕ, zero, suc, _+_, _*_, _/_, _≤_, _<_}
 use native.Mathlib.Omega.{arith}
 use lib.ListN.{length, getD, take, drop, length-append, length-map, length-drop}
 use lib.Seq.{take-all, drop-drop, getD-drop}
-use lib.Dec.{leb}
-use borrow.Author.Tests.{lt-ltb, le-ltb, le-leb, lt-leb}
+use borrow.Author.Tests.{lt-ltb, le-ltb, lt-leb}
 use Rattle.lists.specs.Lists.{concat}
 use Rattle.lists.specs.Areas.{over}
 use Rattle.lists.proofs.Truth.{eq-or-not}
-use Rattle.lists.proofs.Members.{getD-all}
 use Rattle.model.specs.declared.record.CausalGraph.{CausalGraph}
 use Rattle.model.specs.declared.answers.Written.{Written}
 use Rattle.model.specs.declared.answers.Refusal.the-variants.{ListTooShort}
 use Rattle.model.specs.declared.answers.Outcome.{Outcome}
 use Rattle.model.specs.declared.answers.Outcome.the-variants.{Done, Refused}
 use Rattle.model.specs.Refusals.{firstOf}
-use Rattle.model.specs.Graph.{runs, start, firstHeld, marked}
+use Rattle.model.specs.Graph.{runs, firstHeld, marked}
 use Rattle.model.specs.Record.{view}
 use Rattle.model.specs.Broken.{Held}
 use Rattle.model.specs.Cut.{HistoryRange, linear, concurrent, rangeWords, cutFrom, writing, unwritten, cutOutcome, cutOf}
 use Rattle.model.proofs.Stored.{not-broken}
-use Rattle.model.proofs.FormedReads.{seen-within}
+use Rattle.model.proofs.FormedReads.{marked-first}
 use Rattle.model.proofs.Lasting.{marks-list}
 use Rattle.model.proofs.RoomsReplay.{Laid, cut-laid}
 use Rattle.graph.proofs.Views.{facts, runs-view}
@@ -151,9 +149,8 @@ module _ (g : CausalGraph) (held : Held g) where
 
   -- Run 0 is marked
   first-marked : marked (view g) 0 ≡ true
-  unfolding marked
-  first-marked = getD-all (λ x. leb (start (view g) 0) x) (view g .seen) (λ i lt. le-leb (start (view g) 0) (getD (view g .seen) i 0)
-      (unfold firstHeld in (seen-within (view g) (held .formed) i (omega (arith, held .formed .seen-count)) .0)))
+  unfolding firstHeld
+  first-marked = marked-first (view g) (held .formed) 0 (omega arith)
 
   -- The whole history can be cut
   cut-outcome : cutOutcome g 0 ≡ Done

@@ -8,7 +8,7 @@ use native.Mathlib.Omega.{arith}
 use lib.ListN.{length}
 use lib.Dec.{eqb}
 use borrow.Author.Tests.{eq-eqb, ne-eqb, eqb-false}
-use Rattle.lists.specs.Lists.{bit, all, mem, count, filter, from, rising}
+use Rattle.lists.specs.Lists.{bit, mem, count, filter, from, rising}
 use Rattle.lists.proofs.Truth.{eq-or-not, false-true, not-so, bool-iff, and-left, and-right, and-both, or-right}
 use Rattle.lists.proofs.Members.{mem-first, mem-rest, mem-append, mem-filter, filter-mem}
 use Rattle.lists.proofs.Counts.{mem-from}
@@ -99,11 +99,6 @@ filter-test p x xs =
     (λ e. let q = mem-filter p x xs e in and-both (p x) (mem x xs) (q .1) (q .0))
     (λ e. filter-mem p x xs (and-right (p x) (mem x xs) e) (and-left (p x) (mem x xs) e))
 
-pub filter-agree : (p q : ℕ → Bool) (xs : List ℕ) → ((x : ℕ) → mem x xs ≡ true → p x ≡ q x) → filter p xs ≡ filter q xs
-unfolding filter
-filter-agree p q [] h = refl
-filter-agree p q (x ∷ xs) h = rw (h x (mem-first x xs), filter-agree p q xs (λ y m. h y (mem-rest x y xs m)))
-
 pub filter-twice : (p q : ℕ → Bool) (xs : List ℕ) → filter p (filter q xs) ≡ filter (λ x. q x && p x) xs
 unfolding filter
 filter-twice p q [] = refl
@@ -144,19 +139,6 @@ from-split a (suc m) n =
     let e : suc m + n ≡ suc (m + n) = omega arith in
     let f : suc a + m ≡ a + suc m = omega arith in
     rw e (ap (λ (l : List ℕ). a ∷ l) (from-split (suc a) m n ∙ ap (λ (k : ℕ). from (suc a) m ++ from k n) f))
-
--- All pass exactly if none fails
-pub all-none : (p : ℕ → Bool) (xs : List ℕ) → all p xs ≡ eqb (count (λ x. not (p x)) xs) 0
-unfolding all count
-all-none p [] = refl
-all-none p (x ∷ xs) = go (p x) (all-none p xs)
-  where
-    go : (t : Bool) → all p xs ≡ eqb (count (λ x. not (p x)) xs) 0 → t && all p xs ≡ eqb (bit (not t) + count (λ x. not (p x)) xs) 0
-    go true ih = ih ∙ ap (λ (n : ℕ). eqb n 0) (zero-on (count (λ x. not (p x)) xs))
-      where
-        zero-on : (n : ℕ) → n ≡ 0 + n
-        zero-on n = omega arith
-    go false ih = sym (ne-eqb (1 + count (λ x. not (p x)) xs) 0 (λ e. omega arith))
 
 -- One number more passes: where it is in the list, one fails less
 pub count-seen : (p : ℕ → Bool) (r : ℕ) (xs : List ℕ) → Once xs → p r ≡ false →

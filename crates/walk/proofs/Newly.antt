@@ -10,14 +10,14 @@ use lib.Dec.{leb, ltb, eqb}
 use borrow.Author.Tests.{lt-ltb, le-ltb, eq-eqb, ne-eqb, eqb-true, eqb-false, le-leb, lt-leb, not-true}
 use Rattle.lists.specs.Lists.{bit, mem, count, filter, from, upto}
 use Rattle.lists.proofs.Truth.{lt-or-le, eq-or-not, false-true, and-left, and-right, and-false, or-cases}
-use Rattle.lists.proofs.Members.{mem-append, mem-filter}
+use Rattle.lists.proofs.Members.{mem-append, mem-filter, filter-agree}
 use Rattle.lists.proofs.Counts.{mem-from, count-same}
 use Rattle.model.specs.History.{at}
 use Rattle.model.specs.Choice.{Range, passed, isReady, newlyReady}
 use Rattle.model.proofs.Choosing.{readyAfter}
 use Rattle.model.proofs.Kahn.{keeps-ready}
 use Rattle.tables.specs.Tables.{childrenOf}
-use Rattle.walk.proofs.Distinct.{filter-once, once-append, filter-test, filter-agree, filter-twice, filter-append, filter-none, from-split, count-seen}
+use Rattle.walk.proofs.Distinct.{filter-once, once-append, filter-test, filter-twice, filter-append, filter-none, from-split, count-seen}
 use Rattle.walk.proofs.Waiting.{passed-next, leftOf, held, waits, ready-iff, ready-waits, ready-fresh, ready-unvisited, newly-test, newly-once, newly-under, left-step, Going}
 
 -- the cases of a run's being newly ready: visited, the run itself, waiting for none before and after

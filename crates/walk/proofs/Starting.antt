@@ -13,6 +13,7 @@ use borrow.Author.Tests.{lt-ltb, le-ltb, le-leb, lt-leb, eq-eqb, ne-eqb}
 use Rattle.lists.specs.Lists.{bit, mem, count, filter, from, upto}
 use Rattle.lists.specs.Areas.{part}
 use Rattle.lists.proofs.Truth.{lt-or-le, eq-or-not, and-false}
+use Rattle.lists.proofs.Members.{filter-agree}
 use Rattle.lists.proofs.Groups.{group-at, length-groups}
 use Rattle.lists.proofs.Keeping.{filter-snoc}
 use Rattle.lists.proofs.Counts.{count-same}
@@ -20,7 +21,7 @@ use Rattle.model.specs.History.{at}
 use Rattle.model.specs.Choice.{Range, passed, isReady, newlyReady}
 use Rattle.tables.specs.Laid.{grouped}
 use Rattle.walk.specs.Readiness.{Wakes, waitsAt, startOf, startAll}
-use Rattle.walk.proofs.Distinct.{filter-agree, from-split}
+use Rattle.walk.proofs.Distinct.{from-split}
 use Rattle.walk.proofs.Waiting.{held, waits, ready-iff, left-start}
 use Rattle.walk.proofs.Telling.{Tells}
 

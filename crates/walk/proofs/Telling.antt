@@ -11,6 +11,7 @@ use lib.Dec.{leb, ltb, eqb}
 use borrow.Author.Tests.{lt-ltb, le-ltb, le-leb, lt-leb, eq-eqb, ne-eqb}
 use Rattle.lists.specs.Lists.{bit, mem, filter, from, upto, reverse}
 use Rattle.lists.proofs.Truth.{lt-or-le, not-so, and-false}
+use Rattle.lists.proofs.Members.{filter-agree}
 use Rattle.lists.proofs.Counts.{mem-from, from-mem}
 use Rattle.lists.proofs.Passing.{passing, passing-test}
 use Rattle.model.specs.History.{at}
@@ -18,7 +19,7 @@ use Rattle.model.specs.Choice.{Range, isReady, newlyReady, choice, chosen, weig
 use Rattle.model.proofs.Choosing.{readyAfter}
 use Rattle.tables.specs.Tables.{childrenOf}
 use Rattle.walk.specs.Readiness.{Wakes, wakeAll, wokenOf, leftAfter}
-use Rattle.walk.proofs.Distinct.{Once, few, from-once, filter-once, filter-agree}
+use Rattle.walk.proofs.Distinct.{Once, few, from-once, filter-once}
 use Rattle.walk.proofs.Waiting.{leftOf, waits, Going, ready-unknown, ready-unvisited, left-other, left-first}
 use Rattle.walk.proofs.Newly.{last, waits-step, newly-children, newly-both, going-next}
 use Rattle.walk.proofs.Waking.{Says, says-same, wake-list, wake-keeps}

@@ -10,12 +10,12 @@ use lib.Dec.{leb, ltb, eqb}
 use borrow.Author.Tests.{lt-ltb, le-ltb, ltb-true, ltb-false, eq-eqb, ne-eqb, eqb-true, le-leb, lt-leb, not-true}
 use Rattle.lists.specs.Lists.{bit, all, mem, count, from, upto}
 use Rattle.lists.proofs.Truth.{lt-or-le, eq-or-not, not-so, and-left, and-right, and-true, and-false, and-assoc, or-first, or-last, or-false}
-use Rattle.lists.proofs.Counts.{mem-from, from-mem, from-length, count-same}
+use Rattle.lists.proofs.Counts.{mem-from, from-mem, from-length, count-same, all-none}
 use Rattle.lists.proofs.Passing.{passing, passing-test}
 use Rattle.model.specs.EventGraph.{available}
 use Rattle.model.specs.History.{at}
 use Rattle.model.specs.Choice.{Range, passed, isReady, newlyReady}
-use Rattle.walk.proofs.Distinct.{Once, from-once, filter-once, all-none, count-seen, count-whole, count-out}
+use Rattle.walk.proofs.Distinct.{Once, from-once, filter-once, count-seen, count-whole, count-out}
 
 zero-both : (a b : ℕ) → eqb a 0 && eqb b 0 ≡ eqb (a + b) 0
 zero-both a b = go (eq-or-not a 0) (eq-or-not b 0)

@@ -13,9 +13,9 @@ use lib.Dec.{leb, ltb, eqb}
 use borrow.Author.Tests.{lt-ltb, le-ltb, le-leb, lt-leb, eq-eqb, ne-eqb, eqb-true}
 use Rattle.lists.specs.Lists.{bit, mem, filter, from}
 use Rattle.lists.proofs.Truth.{eq-or-not, false-true}
-use Rattle.lists.proofs.Members.{mem-first, mem-rest}
+use Rattle.lists.proofs.Members.{mem-first, mem-rest, filter-agree}
 use Rattle.walk.specs.Readiness.{Wakes, wakeOf, wakeAll, wokenOf, leftAfter}
-use Rattle.walk.proofs.Distinct.{Once, filter-agree}
+use Rattle.walk.proofs.Distinct.{Once}
 
 -- The next of a list and its end; the next of a range and its end
 pub wake-next : (s : Wakes) (cs : List ℕ) (i : ℕ) → i < length cs → wakeAll (wakeOf s (getD cs i 0)) (drop (i + 1) cs) ≡ wakeAll s (drop i cs)

@@ -6,8 +6,7 @@ use Prim.Native.Nat.{ℕ}
 use native.Mathlib.Omega.{arith}
 use Rattle.lists.specs.Lists.{same}
 use Rattle.graph.proofs.Views.{facts, runs-view, entries-view, frontier-list}
-use Rattle.graph.proofs.Extending.{held-from}
-use Rattle.graph.proofs.Owning.{own-begun}
+use Rattle.graph.proofs.Owning.{own-begun, held-counted}
 use Rattle.graph.proofs.Assembling.{own-fits, left-room, joined-stored}
 use borrow.Author.Needs.{needs}
 use Rattle.graph.proofs.pushing.join.Statement.{statement}
@@ -41,7 +40,7 @@ own-all-requires c κs =
     let g = c₁ .args .t1 in
     let f = facts g (p .0) in (
       record { starts-long = f .sized .starts; seen-long = f .sized .«seen_prefix_len»; few = f .runs; items-long = f .sized .parents },
-      omega (arith, p .1 .1 .0 .for-entries, held-from g (p .0) (c₁ .args .ps .now), entries-view g (p .0)),
+      omega (arith, p .1 .1 .0 .for-entries, held-counted g (p .0) (c₁ .args .ps .now), entries-view g (p .0)),
     )
 
 keep-all-requires : tie.Need-keep-all-requires

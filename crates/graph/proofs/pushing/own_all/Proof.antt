@@ -4,11 +4,11 @@ use mathlib.Core.Path.{_≡_, refl, sym, _∙_, ap}
 use Prim.Native.Nat.{_≤_, _-_, _+_}
 use native.Mathlib.Omega.{arith}
 use lib.ListN.{length, drop, getD}
-use lib.Dec.{leb}
-use Rattle.lists.specs.Lists.{filter}
-use Rattle.graph.specs.Loops.{ownAll}
-use Rattle.graph.proofs.Extending.{from-step}
-use Rattle.graph.proofs.Owning.{Owned, own-step, own-end, own-room, own-count, own-long}
+use Rattle.lists.specs.Lists.{count}
+use Rattle.lists.proofs.Counts.{count-next}
+use Rattle.model.specs.Graph.{isHeld}
+use Rattle.graph.specs.Loops.{sideIn, ownAll}
+use Rattle.graph.proofs.Owning.{Owned, own-step, own-end, own-count, own-long}
 use borrow.Author.Needs.{needs}
 use Rattle.graph.proofs.pushing.own_all.Statement.{statement}
 use Rattle.graph.proofs.pushing.own_all.Tie as tie
@@ -16,7 +16,7 @@ use Rattle.graph.proofs.pushing.own_all.Tie as tie
 abbrev Inv-loop : tie.InvT-loop
 Inv-loop starts seen runs items₀ ps h₀ i₀ items h i =
     (i ≤ length ps) × ((length items ≡ 2048) ×
-    ((h .count + length (filter (λ e. leb (getD starts 0 0) e) (drop i ps)) ≤ 2048) × (ownAll starts seen runs (items, h) (drop i ps) ≡ ownAll starts seen runs (items₀, h₀) ps)))
+    ((h .count + count (λ p. isHeld (sideIn starts runs p)) (drop i ps) ≤ 2048) × (ownAll starts seen runs (items, h) (drop i ps) ≡ ownAll starts seen runs (items₀, h₀) ps)))
 
 abbrev μ-loop : tie.MeasureT-loop
 μ-loop starts seen runs items₀ ps h₀ i₀ items h i = length ps - i
@@ -40,7 +40,7 @@ add-own-requires c κs =
     let l = c₁ .loop in
     let a = c₂ .args in (
       record { starts-long = p .starts-long; seen-long = p .seen-long; few = p .few; items-long = l .inv .1 .0 },
-      λ f. own-room (getD (a .starts .now) 0 0) (a .ps .now) (l .h .count) (l .i) (c .before .before .loop-test .taken) (l .inv .1 .1 .0) f,
+      omega (arith, count-next (λ p. isHeld (sideIn (a .starts .now) (a .runs) p)) (a .ps .now) (l .i) (c .before .before .loop-test .taken), l .inv .1 .1 .0),
     )
 
 add-i : tie.Need-add-i Inv-loop μ-loop
@@ -63,7 +63,7 @@ loop-again c =
     let p = getD ps (l .i) 0 in
     let k = own-count xs ss (a .runs) t p in
     let n = ap (λ (x : Owned). x .1 .count) e in
-    let s = from-step (getD xs 0 0) ps (l .i) (c₁ .loop-test .taken) in (
+    let s = count-next (λ p. isHeld (sideIn xs (a .runs) p)) ps (l .i) (c₁ .loop-test .taken) in (
       omega arith,
       (
         ap (λ (x : Owned). length (x .0)) e ∙ own-long xs ss (a .runs) t p ∙ l .inv .1 .0,

@@ -4,7 +4,6 @@
 use mathlib.Core.Path.{_∙_}
 use Prim.Native.Nat.{_-_}
 use lib.ListN.{length, getD}
-use Rattle.graph.proofs.Views.{facts}
 use Rattle.graph.specs.Loops.{parts, withParts}
 use Rattle.graph.proofs.PartingAll.{Going, going-one, going-done}
 use Rattle.graph.proofs.SplitParts.{with-long, after-fits, parts-start, parts-on, none-stored, changed-fits}
@@ -13,37 +12,30 @@ use Rattle.graph.proofs.splitting.split_all.Statement.{statement}
 use Rattle.graph.proofs.splitting.split_all.Tie as tie
 
 abbrev Inv-loop : tie.InvT-loop
-Inv-loop ps g starts₀ heads₀ parents₀ seen₀ c₀ i₀ starts heads parents seen c i = Going ps g (withParts g (parts starts heads parents seen c)) i
+Inv-loop g ps splits starts₀ heads₀ parents₀ seen₀ c₀ i₀ starts heads parents seen c i = Going ps g (withParts g (parts starts heads parents seen c)) i
 
 abbrev μ-loop : tie.MeasureT-loop
-μ-loop ps g starts₀ heads₀ parents₀ seen₀ c₀ i₀ starts heads parents seen c i = length ps - i
-
-count-splits-requires : tie.Need-count-splits-requires Inv-loop μ-loop
-count-splits-requires c κs =
-    let c₁ = c .before .before .before .before in
-    let p = c₁ .pre in
-    let f = facts (c₁ .args .t1) (p .0) in
-    (f .runs, (f .sized .starts, p .1 .0))
+μ-loop g ps splits starts₀ heads₀ parents₀ seen₀ c₀ i₀ starts heads parents seen c i = length ps - i
 
 returns : tie.Need-returns Inv-loop μ-loop
 returns c =
-    let c₁ = c .before .before .before .before .before .before in
-    let p = c₁ .pre in
-    none-stored (c₁ .args .t1) (p .0) (c₁ .args .ps .now) (p .1 .1 .known) (c .before .count-splits .ensures) (c .if1 .taken)
+    let c₁ = c .before .before in
+    none-stored (c₁ .args .g) (c₁ .pre .0) (c₁ .args .ps .now) (c₁ .pre .1 .1) (c .if1 .taken)
 
-cast-t19 : tie.Need-cast-t19 Inv-loop μ-loop
-cast-t19 c = search needs
+cast-t12 : tie.Need-cast-t12 Inv-loop μ-loop
+cast-t12 c = search needs
 
 loop-holds : tie.Need-loop-holds Inv-loop μ-loop
 loop-holds c =
-    let c₁ = c .before .before .before .before .before .before .before .before .before .before .before .before in
-    parts-start (c₁ .args .t1) (c₁ .pre .0) (c₁ .args .ps .now) (c₁ .pre .1 .1)
+    let c₁ = c .before .before .before .before .before .before .before .before in
+    parts-start (c₁ .args .g) (c₁ .pre .0) (c₁ .args .ps .now) (c₁ .pre .1 .0)
 
 slice-aggregate-split-after : tie.Need-slice-aggregate-split-after Inv-loop μ-loop
 slice-aggregate-split-after c =
-    let c₁ = c .before .before .before .before .before .before .before .before .before .before .before .before .before .before .before in
-    let l = c .before .before .loop in
-    let w = with-long (c₁ .args .t1) (parts (l .starts) (l .heads) (l .parents) (l .seen) (l .c)) (l .inv .is-held) in
+    let c₁ = c .before .before in
+    let c₂ = c₁ .before .before .before .before .before .before .before .before .before in
+    let l = c₁ .loop in
+    let w = with-long (c₂ .args .g) (parts (l .starts) (l .heads) (l .parents) (l .seen) (l .c)) (l .inv .is-held) in
     let a₁ = w .starts in
     let a₂ = w .heads in
     let a₃ = w .parents in
@@ -53,9 +45,9 @@ slice-aggregate-split-after c =
 slice-aggregate-split-after-2 : tie.Need-slice-aggregate-split-after-2 Inv-loop μ-loop
 slice-aggregate-split-after-2 c =
     let c₁ = c .before .before .before in
-    let c₂ = c₁ .before .before .before .before .before .before .before .before .before .before .before .before .before in
+    let c₂ = c₁ .before .before .before .before .before .before .before .before .before in
     let l = c₁ .loop in
-    let w = with-long (c₂ .args .t1) (parts (l .starts) (l .heads) (l .parents) (l .seen) (l .c)) (l .inv .is-held) in
+    let w = with-long (c₂ .args .g) (parts (l .starts) (l .heads) (l .parents) (l .seen) (l .c)) (l .inv .is-held) in
     let a₁ = w .starts in
     let a₂ = w .heads in
     let a₃ = w .parents in
@@ -65,9 +57,9 @@ slice-aggregate-split-after-2 c =
 slice-aggregate-split-after-3 : tie.Need-slice-aggregate-split-after-3 Inv-loop μ-loop
 slice-aggregate-split-after-3 c =
     let c₁ = c .before .before .before .before in
-    let c₂ = c₁ .before .before .before .before .before .before .before .before .before .before .before .before .before in
+    let c₂ = c₁ .before .before .before .before .before .before .before .before .before in
     let l = c₁ .loop in
-    let w = with-long (c₂ .args .t1) (parts (l .starts) (l .heads) (l .parents) (l .seen) (l .c)) (l .inv .is-held) in
+    let w = with-long (c₂ .args .g) (parts (l .starts) (l .heads) (l .parents) (l .seen) (l .c)) (l .inv .is-held) in
     let a₁ = w .starts in
     let a₂ = w .heads in
     let a₃ = w .parents in
@@ -77,29 +69,29 @@ slice-aggregate-split-after-3 c =
 slice-aggregate-split-after-4 : tie.Need-slice-aggregate-split-after-4 Inv-loop μ-loop
 slice-aggregate-split-after-4 c =
     let c₁ = c .before .before .before .before .before in
-    let c₂ = c₁ .before .before .before .before .before .before .before .before .before .before .before .before .before in
+    let c₂ = c₁ .before .before .before .before .before .before .before .before .before in
     let l = c₁ .loop in
-    let w = with-long (c₂ .args .t1) (parts (l .starts) (l .heads) (l .parents) (l .seen) (l .c)) (l .inv .is-held) in
+    let w = with-long (c₂ .args .g) (parts (l .starts) (l .heads) (l .parents) (l .seen) (l .c)) (l .inv .is-held) in
     let a₁ = w .starts in
     let a₂ = w .heads in
     let a₃ = w .parents in
     let a₄ = w .seen in
     search needs
 
-mul-t20 : tie.Need-mul-t20 Inv-loop μ-loop
-mul-t20 c = search needs
+mul-t13 : tie.Need-mul-t13 Inv-loop μ-loop
+mul-t13 c = search needs
 
-shared-slice-read-t31 : tie.Need-shared-slice-read-t31 Inv-loop μ-loop
-shared-slice-read-t31 c = search needs
+shared-slice-read-t24 : tie.Need-shared-slice-read-t24 Inv-loop μ-loop
+shared-slice-read-t24 c = search needs
 
 split-after-requires : tie.Need-split-after-requires Inv-loop μ-loop
 split-after-requires c κs =
     let c₁ = c .before .before .before .before .before in
-    let c₂ = c₁ .before .before .before .before .before .before .before .before .before .before .before .before .before .before in
-    let l = c₁ .before .loop in
-    let h = c₁ .loop-test .taken in
-    let r = going-one (c₂ .args .ps .now) (c₂ .args .t1) (withParts (c₂ .args .t1) (parts (l .starts) (l .heads) (l .parents) (l .seen) (l .c))) (l .i) h (l .inv) in
-    (c₂ .pre .1 .0 (l .i) h, after-fits (c₂ .args .t1) (parts (l .starts) (l .heads) (l .parents) (l .seen) (l .c)) (l .inv .is-held) (getD (c₂ .args .ps .now) (l .i) 0) r)
+    let c₂ = c₁ .before in
+    let c₃ = c₂ .before .before .before .before .before .before .before .before .before in
+    let l = c₂ .loop in
+    let r = going-one (c₃ .args .ps .now) (c₃ .args .g) (withParts (c₃ .args .g) (parts (l .starts) (l .heads) (l .parents) (l .seen) (l .c))) (l .i) (c₁ .loop-test .taken) (l .inv) in
+    after-fits (c₃ .args .g) (parts (l .starts) (l .heads) (l .parents) (l .seen) (l .c)) (l .inv .is-held) (getD (c₃ .args .ps .now) (l .i) 0) r
 
 add-i : tie.Need-add-i Inv-loop μ-loop
 add-i c = search needs
@@ -111,25 +103,28 @@ loop-again : tie.Need-loop-again Inv-loop μ-loop
 loop-again c =
     let c₁ = c .before .before .before .before in
     let c₂ = c₁ .before .before .before .before .before .before in
-    let c₃ = c₂ .before .before .before .before .before .before .before .before .before .before .before .before .before .before in
-    let l = c₂ .before .loop in
-    parts-on (c₃ .args .ps .now) (c₃ .args .t1) (parts (l .starts) (l .heads) (l .parents) (l .seen) (l .c)) _ (l .i) (c₂ .loop-test .taken) (l .inv) (c₁ .split-after .ensures)
+    let c₃ = c₂ .before in
+    let c₄ = c₃ .before .before .before .before .before .before .before .before .before in
+    let l = c₃ .loop in
+    parts-on (c₄ .args .ps .now) (c₄ .args .g) (parts (l .starts) (l .heads) (l .parents) (l .seen) (l .c)) _ (l .i) (c₂ .loop-test .taken) (l .inv) (c₁ .split-after .ensures)
 
 with-parts-requires : tie.Need-with-parts-requires Inv-loop μ-loop
 with-parts-requires c κs =
-    let c₁ = c .before .before .before .before .before .before .before .before .before .before .before .before .before .before in
-    let l = c .before .loop in (
-      with-long (c₁ .args .t1) (parts (l .starts) (l .heads) (l .parents) (l .seen) (l .c)) (l .inv .is-held) .runs,
-      changed-fits (c₁ .args .t1)
-          (parts (l .starts) (l .heads) (l .parents) (l .seen) (l .c)) (l .inv .is-held),
+    let c₁ = c .before in
+    let c₂ = c₁ .before .before .before .before .before .before .before .before .before in
+    let l = c₁ .loop in (
+      with-long (c₂ .args .g) (parts (l .starts) (l .heads) (l .parents) (l .seen) (l .c)) (l .inv .is-held) .runs,
+      changed-fits (c₂ .args .g) (parts (l .starts) (l .heads) (l .parents) (l .seen) (l .c)) (l .inv .is-held),
     )
 
 returns-2 : tie.Need-returns-2 Inv-loop μ-loop
 returns-2 c =
-    let c₁ = c .before .before .before .before .before .before .before .before .before .before .before .before .before .before .before in
-    let l = c .before .before .loop in
-    c .with-parts .ensures ∙ going-done (c₁ .args .ps .now) (c₁ .args .t1) (withParts (c₁ .args .t1) (parts (l .starts) (l .heads) (l .parents) (l .seen) (l .c))) (l .i)
-    (c .before .loop-test .left) (l .inv)
+    let c₁ = c .before in
+    let c₂ = c₁ .before in
+    let c₃ = c₂ .before .before .before .before .before .before .before .before .before in
+    let l = c₂ .loop in
+    c .with-parts .ensures ∙ going-done (c₃ .args .ps .now) (c₃ .args .g) (withParts (c₃ .args .g) (parts (l .starts) (l .heads) (l .parents) (l .seen) (l .c))) (l .i)
+    (c₁ .loop-test .left) (l .inv)
 
 pub split-all-spec : {M : Type 1} → statement M
 split-all-spec =
@@ -137,16 +132,15 @@ split-all-spec =
     (tie.spec
     Inv-loop
     μ-loop
-    count-splits-requires
     returns
-    cast-t19
+    cast-t12
     loop-holds
     slice-aggregate-split-after
     slice-aggregate-split-after-2
     slice-aggregate-split-after-3
     slice-aggregate-split-after-4
-    mul-t20
-    shared-slice-read-t31
+    mul-t13
+    shared-slice-read-t24
     split-after-requires
     add-i
     loop-less

@@ -6,7 +6,7 @@ use borrow.Author.Needs.{needs}
 use Rattle.model.specs.declared.record.CausalGraph.{CausalGraph}
 use Rattle.model.specs.Start.{told, startRefused}
 use Rattle.graph.proofs.Views.{facts}
-use Rattle.graph.proofs.StartWays.{start-there, start-alone, start-full, start-crowded, start-splits}
+use Rattle.graph.proofs.StartWays.{in-runs, start-there, start-alone, start-full, start-crowded, start-splits}
 use Rattle.graph.proofs.starting.start_in.Statement.{statement}
 use Rattle.graph.proofs.starting.start_in.Tie as tie
 
@@ -14,13 +14,22 @@ cast-place : tie.Need-cast-place
 cast-place c = search needs
 
 mul-if1 : tie.Need-mul-if1
-mul-if1 c = omega (arith, c .before .pre, facts (c .before .args .t1) (c .before .pre .0))
+mul-if1 c =
+    let a = c .before .args in
+    let p = c .before .pre in
+    omega (arith, in-runs (a .t1) (p .0) (a .at .0) (a .run .0) (p .1), facts (a .t1) (p .0))
 
 element-copy-out-if1 : tie.Need-element-copy-out-if1
-element-copy-out-if1 c = omega (arith, c .before .pre, facts (c .before .args .t1) (c .before .pre .0))
+element-copy-out-if1 c =
+    let a = c .before .args in
+    let p = c .before .pre in
+    omega (arith, in-runs (a .t1) (p .0) (a .at .0) (a .run .0) (p .1), facts (a .t1) (p .0))
 
 is-marked-requires : tie.Need-is-marked-requires
-is-marked-requires c κs = search needs
+is-marked-requires c κs =
+    let a = c .before .before .before .before .args in
+    let p = c .before .before .before .before .pre in
+    (p .0, in-runs (a .t1) (p .0) (a .at .0) (a .run .0) (p .1))
 
 returns : tie.Need-returns
 unfolding told
@@ -28,10 +37,13 @@ returns c =
     let a = c .before .before .before .before .before .args in
     let p = c .before .before .before .before .before .pre in
     ap (λ (b : Bool). told (a .t1) (not b)) (c .is-marked .ensures) ∙
-    start-there (a .t1) (p .0) (a .at .0) (a .run .0) (p .1 .0) (p .1 .1 .0) (p .1 .1 .1 .0) (p .1 .1 .1 .1) (c .before .if1 .taken)
+    start-there (a .t1) (p .0) (a .at .0) (a .run .0) (p .1) (c .before .if1 .taken)
 
 is-alone-requires : tie.Need-is-alone-requires
-is-alone-requires c κs = search needs
+is-alone-requires c κs =
+    let a = c .before .before .before .before .args in
+    let p = c .before .before .before .before .pre in
+    (p .0, in-runs (a .t1) (p .0) (a .at .0) (a .run .0) (p .1))
 
 returns-2 : tie.Need-returns-2
 unfolding told
@@ -39,7 +51,7 @@ returns-2 c =
     let a = c .before .before .before .before .before .before .args in
     let p = c .before .before .before .before .before .before .pre in
     let is-it = sym (c .before .is-alone .ensures) ∙ c .if2 .taken in
-    start-alone (a .t1) (p .0) (a .at .0) (a .run .0) (p .1 .0) (p .1 .1 .0) (p .1 .1 .1 .0) (p .1 .1 .1 .1) (c .before .before .if1 .left) is-it
+    start-alone (a .t1) (p .0) (a .at .0) (a .run .0) (p .1) (c .before .before .if1 .left) is-it
 
 returns-3 : tie.Need-returns-3
 unfolding startRefused
@@ -47,7 +59,7 @@ returns-3 c =
     let a = c .before .before .before .before .before .before .before .args in
     let p = c .before .before .before .before .before .before .before .pre in
     let is-not = sym (c .before .before .is-alone .ensures) ∙ c .before .if2 .left in
-    start-full (a .t1) (p .0) (a .at .0) (a .run .0) (p .1 .0) (p .1 .1 .0) (p .1 .1 .1 .0) (p .1 .1 .1 .1) (c .before .before .before .if1 .left) is-not (c .if3 .taken)
+    start-full (a .t1) (p .0) (a .at .0) (a .run .0) (p .1) (c .before .before .before .if1 .left) is-not (c .if3 .taken)
 
 returns-4 : tie.Need-returns-4
 unfolding startRefused
@@ -55,11 +67,15 @@ returns-4 c =
     let a = c .before .before .before .before .before .before .before .before .args in
     let p = c .before .before .before .before .before .before .before .before .pre in
     let is-not = sym (c .before .before .before .is-alone .ensures) ∙ c .before .before .if2 .left in
-    start-crowded (a .t1) (p .0) (a .at .0) (a .run .0) (p .1 .0) (p .1 .1 .0) (p .1 .1 .1 .0) (p .1 .1 .1 .1)
+    start-crowded (a .t1) (p .0) (a .at .0) (a .run .0) (p .1)
     (c .before .before .before .before .if1 .left) is-not (c .before .if3 .left) (c .if4 .taken)
 
 split-run-requires : tie.Need-split-run-requires
-split-run-requires c κs = search needs
+split-run-requires c κs =
+    let a = c .before .before .before .before .before .before .before .before .args in
+    let p = c .before .before .before .before .before .before .before .before .pre in
+    let r = in-runs (a .t1) (p .0) (a .at .0) (a .run .0) (p .1) in
+    search needs
 
 returns-5 : tie.Need-returns-5
 unfolding told
@@ -68,7 +84,7 @@ returns-5 c =
     let p = c .before .before .before .before .before .before .before .before .before .pre in
     let is-not = sym (c .before .before .before .before .is-alone .ensures) ∙ c .before .before .before .if2 .left in
     ap (λ (h : CausalGraph). told h true) (c .split-run .ensures) ∙
-    start-splits (a .t1) (p .0) (a .at .0) (a .run .0) (p .1 .0) (p .1 .1 .0) (p .1 .1 .1 .0) (p .1 .1 .1 .1)
+    start-splits (a .t1) (p .0) (a .at .0) (a .run .0) (p .1)
     (c .before .before .before .before .before .if1 .left) is-not (c .before .before .if3 .left) (c .before .if4 .left)
 
 pub start-in-spec : {M : Type 1} → statement M
