@@ -95,7 +95,8 @@ pub fn parents(g: CausalGraph, run: EventRunIndex) -> ParentRuns
     }
 }
 
-// Where an event lies, by the starts of a graph that is known not to be broken: all who ask on which side of a graph an event is ask here.
+// Where an event lies, by the starts of a graph that is known not to be broken. No other function compares an event with the first held
+// one or with the number of events to tell that.
 pub(crate) fn containing_in(starts: &[u32], runs: usize, event: EventIndex) -> ContainingAnswer
     requires { ⌜ runs ≤ maxRuns ⌝ }
     requires { ⌜ length (now starts) ≡ maxStarts ⌝ }

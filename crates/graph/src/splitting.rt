@@ -143,7 +143,7 @@ fn split_after(
     split_in(starts, heads, parents, seen, c, run, EventIndex(p.0 + 1))
 }
 
-// Splits the runs of held parents after them, one parent after another: so many splits.
+// Splits the runs of held parents after them, one parent after another. `splits` is how many of them split a run.
 pub(crate) fn split_all(g: CausalGraph, ps: &[u32], splits: usize) -> CausalGraph
     requires { ⌜ Held g ⌝ }
     requires { ⌜ Room (view g) (now ps) ⌝ }
