@@ -7,7 +7,6 @@ use Prim.Native.Nat.{ℕ, zero, suc, _-_, _≤_, _<_}
 use native.Mathlib.Omega.{arith}
 use lib.ListN.{getD}
 use lib.Dec.{leb}
-use borrow.Author.Tests.{lt-ltb, le-ltb}
 use denote.Enum.Declared.{tagOf}
 use types.Run.{OneOf}
 use Rattle.lists.specs.Scans.{lastAtMost}
@@ -22,7 +21,7 @@ use Rattle.model.specs.Answers.{containingOr}
 use Rattle.model.specs.Graph.{firstHeld, len, Side, inRun, before, unknown, side, isHeld}
 use Rattle.model.specs.Record.{view}
 use Rattle.model.specs.Broken.{Held}
-use Rattle.model.proofs.Siding.{side-before, side-unknown, side-run}
+use Rattle.model.proofs.Siding.{by-before, by-unknown, by-run, by-told, side-before, side-unknown, side-run}
 use Rattle.graph.specs.Loops.{sideIn}
 use Rattle.graph.proofs.Views.{first-view, len-view, containing-view}
 
@@ -40,43 +39,32 @@ module _ (xs : List ℕ) (n e : ℕ) where
   -- The three sides
   pub in-before : e < getD xs 0 0 → sideIn xs n e ≡ before
   unfolding sideIn
-  in-before h = rw (lt-ltb e (getD xs 0 0) h)
+  in-before h = by-before (getD xs 0 0) (getD xs n 0) (lastAtMost xs e n) e h
 
   pub in-unknown : getD xs 0 0 ≤ e → getD xs n 0 ≤ e → sideIn xs n e ≡ unknown
   unfolding sideIn
-  in-unknown h k = rw (le-ltb e (getD xs 0 0) h, le-ltb e (getD xs n 0) k)
+  in-unknown h k = by-unknown (getD xs 0 0) (getD xs n 0) (lastAtMost xs e n) e h k
 
   pub in-run : getD xs 0 0 ≤ e → e < getD xs n 0 → sideIn xs n e ≡ inRun (lastAtMost xs e n)
   unfolding sideIn
-  in-run h k = rw (le-ltb e (getD xs 0 0) h, lt-ltb e (getD xs n 0) k)
+  in-run h k = by-run (getD xs 0 0) (getD xs n 0) (lastAtMost xs e n) e h k
 
 -- What is told of an event in a run: the scan found it, below the run count, and the event is below the last start
 pub record Found (xs : List ℕ) (n e r : ℕ) : Type 0 where
   pub there : sideIn xs n e ≡ inRun r
   pub is : r ≡ lastAtMost xs e n
   pub low : r < n
-  pub first : getD xs 0 0 ≤ e
   pub under : e < getD xs n 0
 
-module _ (xs : List ℕ) (n e : ℕ) where
-  pub found-in : (r : ℕ) → sideIn xs n e ≡ inRun r → Found xs n e r
-  found-in r q = go (lt-or-le e (getD xs 0 0)) (lt-or-le e (getD xs n 0))
-    where
-      number : Side → ℕ
-      number (inRun k) = suc k
-      number before = 0
-      number unknown = 0
-
-      some : (n : ℕ) → getD xs 0 0 ≤ e → e < getD xs n 0 → 0 < n
-      some zero h k = absurd (omega arith)
-      some (suc n) h k = omega arith
-
-      go : (e < getD xs 0 0) ⊎ (getD xs 0 0 ≤ e) → (e < getD xs n 0) ⊎ (getD xs n 0 ≤ e) → Found xs n e r
-      go (inl h) k = absurd (omega (arith, ap number (sym (in-before xs n e h) ∙ q)))
-      go (inr h) (inr k) = absurd (omega (arith, ap number (sym (in-unknown xs n e h k) ∙ q)))
-      go (inr h) (inl k) =
-          let f : suc (lastAtMost xs e n) ≡ suc r = ap number (sym (in-run xs n e h k) ∙ q) in
-          record { there = q; is = omega arith; low = omega (arith, last-low xs e n, some n h k); first = h; under = k }
+pub found-in : (xs : List ℕ) (n e r : ℕ) → sideIn xs n e ≡ inRun r → Found xs n e r
+unfolding sideIn
+found-in xs n e r q =
+    let t = by-told (getD xs 0 0) (getD xs n 0) (lastAtMost xs e n) e r q in
+    record { there = q; is = sym (t .2); low = omega (arith, t .2, last-low xs e n, some n (t .0) (t .1)); under = t .1 }
+  where
+    some : (n : ℕ) → getD xs 0 0 ≤ e → e < getD xs n 0 → 0 < n
+    some zero h k = absurd (omega arith)
+    some (suc n) h k = omega arith
 
 pub found-held : {xs : List ℕ} {n e r : ℕ} → Found xs n e r → isHeld (sideIn xs n e) ≡ true
 unfolding isHeld

@@ -1,7 +1,7 @@
 -- Where an event lies, by comparisons with the first held event and `len`; so which events are held and which known. Assumes nothing.
 use mathlib.Core.Path.{_≡_, sym, ap, _∙_}
 use mathlib.Core.Logic.{_⊎_, inl, inr}
-use mathlib.Core.Bool.{true, _&&_}
+use mathlib.Core.Bool.{true, cond, _&&_}
 use mathlib.Core.List.{List}
 use Prim.Native.Nat.{ℕ, suc, _≤_, _<_}
 use native.Mathlib.Omega.{arith}
@@ -13,32 +13,50 @@ use Rattle.lists.proofs.Members.{mem-filter, filter-mem, all-same, filter-agree
 use Rattle.lists.proofs.Bounds.{below-at}
 use Rattle.model.specs.Graph.{Graph, firstHeld, len, containing, Side, inRun, before, unknown, side, isHeld, isKnown, held, allKnown}
 
-module _ (g : Graph) (e : ℕ) where
-  -- The three sides
-  pub side-before : e < firstHeld g → side g e ≡ before
-  unfolding side
-  side-before h = rw (lt-ltb e (firstHeld g) h)
+-- The sides of the events from `first` up to `len`, where run r would hold event e
+abbrev pub sideBy : (first len r e : ℕ) → Side
+sideBy first len r e = cond (ltb e first) before (cond (ltb e len) (inRun r) unknown)
 
-  pub side-unknown : firstHeld g ≤ e → len g ≤ e → side g e ≡ unknown
-  unfolding side
-  side-unknown h k = rw (le-ltb e (firstHeld g) h, le-ltb e (len g) k)
+module _ (first len r e : ℕ) where
+  pub by-before : e < first → sideBy first len r e ≡ before
+  by-before h = rw (lt-ltb e first h)
 
-  pub side-run : firstHeld g ≤ e → e < len g → side g e ≡ inRun (containing g e)
-  unfolding side
-  side-run h k = rw (le-ltb e (firstHeld g) h, lt-ltb e (len g) k)
+  pub by-unknown : first ≤ e → len ≤ e → sideBy first len r e ≡ unknown
+  by-unknown h k = rw (le-ltb e first h, le-ltb e len k)
 
-  pub run-told : (r : ℕ) → side g e ≡ inRun r → (firstHeld g ≤ e) × (e < len g) × (containing g e ≡ r)
-  run-told r q = go (lt-or-le e (firstHeld g)) (lt-or-le e (len g))
+  pub by-run : first ≤ e → e < len → sideBy first len r e ≡ inRun r
+  by-run h k = rw (le-ltb e first h, lt-ltb e len k)
+
+  pub by-told : (k : ℕ) → sideBy first len r e ≡ inRun k → (first ≤ e) × (e < len) × (r ≡ k)
+  by-told k q = go (lt-or-le e first) (lt-or-le e len)
     where
       number : Side → ℕ
-      number (inRun k) = suc k
+      number (inRun n) = suc n
       number before = 0
       number unknown = 0
 
-      go : (e < firstHeld g) ⊎ (firstHeld g ≤ e) → (e < len g) ⊎ (len g ≤ e) → (firstHeld g ≤ e) × (e < len g) × (containing g e ≡ r)
-      go (inl h) k = absurd (omega (arith, ap number (sym (side-before h) ∙ q)))
-      go (inr h) (inl k) = (h, k, omega (arith, ap number (sym (side-run h k) ∙ q)))
-      go (inr h) (inr k) = absurd (omega (arith, ap number (sym (side-unknown h k) ∙ q)))
+      go : (e < first) ⊎ (first ≤ e) → (e < len) ⊎ (len ≤ e) → (first ≤ e) × (e < len) × (r ≡ k)
+      go (inl a) b = absurd (omega (arith, ap number (sym (by-before a) ∙ q)))
+      go (inr a) (inl b) = (a, b, omega (arith, ap number (sym (by-run a b) ∙ q)))
+      go (inr a) (inr b) = absurd (omega (arith, ap number (sym (by-unknown a b) ∙ q)))
+
+module _ (g : Graph) (e : ℕ) where
+  -- The three sides of a graph
+  pub side-before : e < firstHeld g → side g e ≡ before
+  unfolding side
+  side-before h = by-before (firstHeld g) (len g) (containing g e) e h
+
+  pub side-unknown : firstHeld g ≤ e → len g ≤ e → side g e ≡ unknown
+  unfolding side
+  side-unknown h k = by-unknown (firstHeld g) (len g) (containing g e) e h k
+
+  pub side-run : firstHeld g ≤ e → e < len g → side g e ≡ inRun (containing g e)
+  unfolding side
+  side-run h k = by-run (firstHeld g) (len g) (containing g e) e h k
+
+  pub run-told : (r : ℕ) → side g e ≡ inRun r → (firstHeld g ≤ e) × (e < len g) × (containing g e ≡ r)
+  unfolding side
+  run-told r q = by-told (firstHeld g) (len g) (containing g e) e r q
 
   -- A held event is one from the first held event on and before `len`
   pub is-held : isHeld (side g e) ≡ leb (firstHeld g) e && ltb e (len g)
