@@ -4,7 +4,6 @@ use mathlib.Core.Bool.{Bool, true, false, not}
 use Prim.Native.Nat.{ℕ, suc, _+_, _<_, _≤_}
 use native.Mathlib.Omega.{arith}
 use lib.ListN.{take, getD}
-use lib.Dec.{eqb}
 use borrow.Author.Tests.{lt-ltb, le-ltb, eq-eqb, ne-eqb}
 use Rattle.lists.specs.Lists.{mem}
 use Rattle.lists.proofs.Truth.{false-true}
@@ -23,7 +22,7 @@ use Rattle.model.specs.Broken.{broken, Held}
 use Rattle.model.specs.Split.{split}
 use Rattle.model.specs.Start.{Starting, answers, splitting, alone, startingIn, starting, splitOutcome, told, startRefused, startHeldOf, startRunAtOf, taken, takeHeldOf, takeChangedFromOf}
 use Rattle.model.proofs.Siding.{run-told}
-use Rattle.model.proofs.FormedCalls.{starting-out, starting-in}
+use Rattle.model.proofs.FormedCalls.{starting-out, starting-in, in-there, in-alone, in-splits}
 use Rattle.model.proofs.Sides.{sides}
 use Rattle.model.proofs.Lasting.{marks-list as marks-mem}
 use Rattle.graph.proofs.Views.{runs-view, entries-view, tips-view, marks-view, start-view, marks-list, starts-pad, heads-pad, parents-pad, frontier-pad, seen-pad, marks-pad}
@@ -36,20 +35,6 @@ if-true a b false e = false-true e
 if-false : {A : Type 0} (a b : A) (t : Bool) → t ≡ false → (elim t as (λ _. A) [ true ↦ a | false ↦ b ]) ≡ b
 if-false a b true e = false-true (sym e)
 if-false a b false e = refl
-
--- What a run start comes to in run r
-module _ (g : Graph) (at r : ℕ) where
-  in-there : start g r ≡ at → startingIn g at r ≡ answers (not (marked g r))
-  unfolding startingIn
-  in-there e = if-true _ _ (eqb (start g r) at) (eq-eqb _ _ e)
-
-  in-alone : (start g r ≡ at → ⊥) → alone g r ≡ true → startingIn g at r ≡ answers false
-  unfolding startingIn
-  in-alone n a = if-false _ _ (eqb (start g r) at) (ne-eqb _ _ n) ∙ if-true _ _ (alone g r) a
-
-  in-splits : (start g r ≡ at → ⊥) → alone g r ≡ false → startingIn g at r ≡ splitting
-  unfolding startingIn
-  in-splits n a = if-false _ _ (eqb (start g r) at) (ne-eqb _ _ n) ∙ if-false _ _ (alone g r) a
 
 -- What a split comes to
 split-runs : (g : Graph) → 512 ≤ runs g → splitOutcome g ≡ Refused TooManyRuns

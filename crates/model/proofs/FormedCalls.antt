@@ -5,7 +5,7 @@ use mathlib.Core.Bool.{Bool, true, false, not}
 use Prim.Native.Nat.{ℕ, suc, _+_, _≤_, _<_}
 use native.Mathlib.Omega.{arith}
 use lib.Dec.{eqb}
-use borrow.Author.Tests.{ltb-false, eqb-true, eqb-false, eq-eqb, not-true}
+use borrow.Author.Tests.{ltb-false, eqb-true, eqb-false, eq-eqb, ne-eqb, not-true}
 use Rattle.lists.proofs.Truth.{lt-or-le, lt-of-ne, false-true}
 use Rattle.model.specs.declared.answers.Outcome.the-variants.{Done}
 use Rattle.model.specs.Graph.{Graph, runs, start, firstHeld, len, entries, containing, marked, Side, inRun, before, unknown, side, isHeld}
@@ -52,6 +52,19 @@ started begins lone unmarked = elim begins as (λ _. Starting) [
   | true ↦ answers unmarked
   | false ↦ elim lone as (λ _. Starting) [ true ↦ answers false | false ↦ splitting ]
 ]
+
+module _ (g : Graph) (at r : ℕ) where
+  pub in-there : start g r ≡ at → startingIn g at r ≡ answers (not (marked g r))
+  unfolding startingIn
+  in-there e = ap (λ (b : Bool). started b (alone g r) (not (marked g r))) (eq-eqb (start g r) at e)
+
+  pub in-alone : (start g r ≡ at → ⊥) → alone g r ≡ true → startingIn g at r ≡ answers false
+  unfolding startingIn
+  in-alone n a = λ i. started (ne-eqb (start g r) at n i) (a i) (not (marked g r))
+
+  pub in-splits : (start g r ≡ at → ⊥) → alone g r ≡ false → startingIn g at r ≡ splitting
+  unfolding startingIn
+  in-splits n a = λ i. started (ne-eqb (start g r) at n i) (a i) (not (marked g r))
 
 abbrev splits-run : Starting → Bool
 splits-run (answers b) = false
@@ -103,10 +116,9 @@ starting-told g formed at e =
 -- and one there is told true
 pub starting-tells : (g : Graph) (at : ℕ) → firstHeld g ≤ at → at < len g → start g (containing g at) ≡ at → marked g (containing g at) ≡ false →
     starting g at ≡ answers true
-unfolding startingIn
 starting-tells g at from inside begins unmarked =
     let r = containing g at in
-    starting-in g at r (side-run g at from inside) ∙ λ i. started (eq-eqb (start g r) at begins i) (alone g r) (not (unmarked i))
+    starting-in g at r (side-run g at from inside) ∙ in-there g at r begins ∙ ap (λ (b : Bool). answers (not b)) unmarked
 
 -- One that splits lies inside a run, after the run's first event
 pub start-inside : (g : Graph) → WellFormed g → (at : ℕ) → starting g at ≡ splitting →

@@ -1,19 +1,19 @@
 -- What the side of an event tells in a well-formed graph, and that it agrees with 01's comparisons. Assumes nothing.
 use mathlib.Core.Path.{_≡_, sym, ap, _∙_}
 use mathlib.Core.Logic.{_⊎_, inl, inr, _↔_}
-use mathlib.Core.Bool.{true, false, cond, not, _||_}
+use mathlib.Core.Bool.{Bool, false, cond, not, _||_}
 use Prim.Native.Nat.{ℕ, suc, _≤_, _<_}
 use native.Mathlib.Omega.{arith}
 use lib.Dec.{leb}
-use borrow.Author.Tests.{le-ltb, le-leb, lt-leb, eq-eqb}
+use borrow.Author.Tests.{le-ltb, le-leb, lt-leb}
 use Rattle.lists.proofs.Truth.{lt-or-le, lt-eq-gt}
 use Rattle.model.specs.Graph.{Graph, runs, start, firstHeld, len, containing, Side, inRun, before, unknown, side}
 use Rattle.model.specs.Broken.{WellFormed}
-use Rattle.model.specs.Start.{Starting, answers, splitting, alone, startingIn, starting}
+use Rattle.model.specs.Start.{answers, startingIn, starting}
 use Rattle.model.specs.Sides.{Sides}
 use Rattle.model.proofs.FormedReads.{start-len, first-start, first-len, containing-in, containing-only, marked-first}
 use Rattle.model.proofs.Siding.{side-before, side-unknown, side-run, run-told, is-held, held-below, known-below}
-use Rattle.model.proofs.FormedCalls.{starting-out, starting-in}
+use Rattle.model.proofs.FormedCalls.{starting-out, starting-in, in-there}
 
 -- The sides are told apart
 abbrev sideNumber : Side → ℕ
@@ -51,15 +51,11 @@ module _ (g : Graph) (formed : WellFormed g) where
 
   -- At the first held event run 0 starts, which is marked
   starting-first : (at : ℕ) → firstHeld g ≤ at → at ≤ firstHeld g → at < len g → startingIn g at (containing g at) ≡ answers false
-  unfolding startingIn
   starting-first at h j k =
       let c = containing-in g formed at h k in
       let r = containing g at in
       let begins : start g r ≡ at = omega (arith, c .1, first-start g formed r (omega (arith, c .0))) in
-      λ i. elim (eq-eqb (start g r) at begins i) as (λ _. Starting) [
-        | true ↦ answers (not (marked-first g formed r (omega (arith, begins)) i))
-        | false ↦ elim (alone g r) as (λ _. Starting) [ true ↦ answers false | false ↦ splitting ]
-      ]
+      in-there g at r begins ∙ ap (λ (b : Bool). answers (not b)) (marked-first g formed r (omega (arith, begins)))
 
   starts : (at : ℕ) → starting g at ≡ cond (leb at (firstHeld g) || leb (len g) at) (answers false) (startingIn g at (containing g at))
   starts at = go (lt-eq-gt at (firstHeld g)) (lt-or-le at (len g))
