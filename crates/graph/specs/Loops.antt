@@ -12,7 +12,7 @@ use Rattle.lists.specs.Scans.{keptIn, insertIn, grow, lastAtMost}
 use Rattle.lists.specs.declared.Kept.{Kept}
 use Rattle.model.specs.declared.record.CausalGraph.{CausalGraph}
 use Rattle.model.specs.Limits.{maxEntries, maxFrontier, maxLen, maxRuns, maxStarts}
-use Rattle.model.specs.Graph.{Graph, runs, entries, Side, inRun, before, unknown, isHeld, isKnown, held}
+use Rattle.model.specs.Graph.{Graph, runs, entries, Side, sideBy, isHeld, isKnown, held}
 use Rattle.model.specs.Split.{splits}
 use Rattle.model.specs.Push.{staying}
 use Rattle.graph.specs.declared.pushing.Own.{Own}
@@ -58,7 +58,7 @@ splitIn p r at =
 
 -- where event e lies, by the starts of n runs in their array
 unfoldable pub sideIn : List ℕ → ℕ → ℕ → Side
-sideIn starts n e = cond (ltb e (getD starts 0 0)) before (cond (ltb e (getD starts n 0)) (inRun (lastAtMost starts e n)) unknown)
+sideIn starts n e = sideBy (getD starts 0 0) (getD starts n 0) (lastAtMost starts e n) e
 
 -- event p is held, and no run, nor the graph, ends in it
 unfoldable pub needsIn : List ℕ → ℕ → ℕ → Bool

@@ -1,7 +1,7 @@
 -- Where an event lies, by comparisons with the first held event and `len`; so which events are held and which known. Assumes nothing.
 use mathlib.Core.Path.{_≡_, sym, ap, _∙_}
 use mathlib.Core.Logic.{_⊎_, inl, inr}
-use mathlib.Core.Bool.{true, cond, _&&_}
+use mathlib.Core.Bool.{true, _&&_}
 use mathlib.Core.List.{List}
 use Prim.Native.Nat.{ℕ, suc, _≤_, _<_}
 use native.Mathlib.Omega.{arith}
@@ -11,20 +11,20 @@ use Rattle.lists.specs.Lists.{filter, mem, below}
 use Rattle.lists.proofs.Truth.{lt-or-le, and-left, and-right, and-true}
 use Rattle.lists.proofs.Members.{mem-filter, filter-mem, all-same, filter-agree}
 use Rattle.lists.proofs.Bounds.{below-at}
-use Rattle.model.specs.Graph.{Graph, firstHeld, len, containing, Side, inRun, before, unknown, side, isHeld, isKnown, held, allKnown}
+use Rattle.model.specs.Graph.{Graph, firstHeld, len, containing, Side, inRun, before, unknown, sideBy, side, isHeld, isKnown, held, allKnown}
 
--- The sides of the events from `first` up to `len`, where run r would hold event e
-abbrev pub sideBy : (first len r e : ℕ) → Side
-sideBy first len r e = cond (ltb e first) before (cond (ltb e len) (inRun r) unknown)
-
+-- The three sides, and what is known of an event that lies in a run
 module _ (first len r e : ℕ) where
   pub by-before : e < first → sideBy first len r e ≡ before
+  unfolding sideBy
   by-before h = rw (lt-ltb e first h)
 
   pub by-unknown : first ≤ e → len ≤ e → sideBy first len r e ≡ unknown
+  unfolding sideBy
   by-unknown h k = rw (le-ltb e first h, le-ltb e len k)
 
   pub by-run : first ≤ e → e < len → sideBy first len r e ≡ inRun r
+  unfolding sideBy
   by-run h k = rw (le-ltb e first h, lt-ltb e len k)
 
   pub by-told : (k : ℕ) → sideBy first len r e ≡ inRun k → (first ≤ e) × (e < len) × (r ≡ k)
@@ -41,7 +41,7 @@ module _ (first len r e : ℕ) where
       go (inr a) (inr b) = absurd (omega (arith, ap number (sym (by-unknown a b) ∙ q)))
 
 module _ (g : Graph) (e : ℕ) where
-  -- The three sides of a graph
+  -- The same of a graph's events
   pub side-before : e < firstHeld g → side g e ≡ before
   unfolding side
   side-before h = by-before (firstHeld g) (len g) (containing g e) e h

@@ -49,9 +49,13 @@ pub data Side : Type 0 where
   before : Side
   unknown : Side
 
--- below the first held event, not below `len`, or in the run that holds it
+-- event e, where the events from `first` up to `len` are held: below the first held one, not below `len`, or else in run r
+unfoldable pub sideBy : (first len r e : ℕ) → Side
+sideBy first len r e = cond (ltb e first) before (cond (ltb e len) (inRun r) unknown)
+
+-- event e of a graph
 unfoldable pub side : Graph → ℕ → Side
-side g e = cond (ltb e (firstHeld g)) before (cond (ltb e (len g)) (inRun (containing g e)) unknown)
+side g e = sideBy (firstHeld g) (len g) (containing g e) e
 
 -- a held event lies in a run
 unfoldable pub isHeld : Side → Bool
