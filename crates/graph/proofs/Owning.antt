@@ -18,12 +18,13 @@ use Rattle.lists.proofs.Counts.{count-same, filter-count}
 use Rattle.lists.proofs.Bounds.{largest-has}
 use Rattle.model.specs.declared.record.CausalGraph.{CausalGraph}
 use Rattle.model.specs.declared.record.EventIndex.{EventIndex}
-use Rattle.model.specs.Graph.{Graph, runs, firstHeld, entries, containing, side, isHeld, held}
+use Rattle.model.specs.Graph.{Graph, firstHeld, entries, containing, side, isHeld, held}
 use Rattle.model.specs.Record.{view}
 use Rattle.model.specs.Broken.{WellFormed, Held}
 use Rattle.model.specs.Push.{parentRuns, seenAfter}
-use Rattle.model.proofs.FormedReads.{containing-in, seenAfter-within}
-use Rattle.model.proofs.Siding.{side-run, held-between, held-mem}
+use Rattle.model.proofs.FormedReads.{seenAfter-within}
+use Rattle.model.proofs.FormedJoins.{parentRuns-below}
+use Rattle.model.proofs.Siding.{side-run, held-between}
 use Rattle.model.proofs.Stored.{entries-flat}
 use Rattle.graph.specs.declared.pushing.Own.{Own}
 use Rattle.graph.specs.Loops.{sideIn, ownIn, addOwn, ownAll}
@@ -213,14 +214,6 @@ own-most a t (p ∷ ps) = go (isHeld (side a p)) refl (own-most a t ps) (own-mos
         ∙ largest-more (t .1 .seen .0) (seenAfter a (containing a p)) (map (seenAfter a) (map (containing a) rest))
     go false e f k = ap (λ (u : Owned). ownRuns a u ps .1 .seen .0) (own-skip a t p e) ∙ f
 
--- The runs of the held parents
-pub parent-run-in : (a : Graph) → WellFormed a → (ps : List ℕ) (r : ℕ) → mem r (parentRuns a ps) ≡ true → r < runs a
-unfolding parentRuns
-parent-run-in a formed ps r m =
-    let w : (e : ℕ) × (mem e (held a ps) ≡ true) × (r ≡ containing a e) = map-mem (containing a) r (held a ps) m in
-    let h = held-mem a ps (w .0) (w .1) in
-    omega (arith, w .2, containing-in a formed (w .0) (h .1) (h .2) .0)
-
 -- and for a well-formed graph it is the most that those have seen, or the first held event
 pub own-seen : (a : Graph) → WellFormed a → (ps : List ℕ) →
     ownRuns a (ownIn (concat (a .parents)) (firstHeld a)) ps .1 .seen .0 ≡ largest (firstHeld a) (map (seenAfter a) (parentRuns a ps))
@@ -231,5 +224,5 @@ own-seen a formed ps =
     one : (x : ℕ) → mem x (map (seenAfter a) (parentRuns a ps)) ≡ true → firstHeld a ≤ x
     one x m =
         let w : (r : ℕ) × (mem r (parentRuns a ps) ≡ true) × (x ≡ seenAfter a r) = map-mem (seenAfter a) x (parentRuns a ps) m in
-        let s = seenAfter-within a formed (w .0) (parent-run-in a formed ps (w .0) (w .1)) in
+        let s = seenAfter-within a formed (w .0) (parentRuns-below a formed ps (w .0) (w .1)) in
         omega (arith, w .2, s .0)

@@ -98,7 +98,7 @@ module _ (g : CausalGraph) (ps : List ℕ) (n : ℕ) where
     unfolding pushed
     taken-out h q e = (λ i. takenBy (q i) (at-end i) n) ∙ done-way e
 
--- The parents counted: those not yet known, the held ones, and the splits
+-- The parents counted that are not yet known
 module _ (g : CausalGraph) (good : Held g) (ps : List ℕ) {c : ParentCounts} (e : c ≡ countParents (g .starts) (g .«run_count») ps) where
   known-counted : allKnown (view g) ps ≡ eqb (c .unknown) 0
   unfolding allKnown countParents
@@ -113,14 +113,6 @@ module _ (g : CausalGraph) (good : Held g) (ps : List ℕ) {c : ParentCounts} (e
 
   pub one-unknown : 0 < c .unknown → allKnown (view g) ps ≡ false
   one-unknown h = known-counted ∙ ne-eqb (c .unknown) 0 (λ z. omega arith)
-
-  held-count : c .held ≡ length (held (view g) ps)
-  unfolding countParents
-  held-count = ap (λ (x : ParentCounts). x .held) e ∙ held-counted g good ps
-
-  splits-counted : c .splits ≡ splits (view g) ps
-  unfolding countParents
-  splits-counted = ap (λ (x : ParentCounts). x .splits) e ∙ splits-in g good ps
 
 -- What a push has that passed the tests for refusals 2 to 5
 pub record Known (g : CausalGraph) (ps : List ℕ) (n start : ℕ) (c : ParentCounts) : Type 0 where
@@ -158,10 +150,12 @@ module _ {g : CausalGraph} {ps : List ℕ} {n start : ℕ} {c : ParentCounts} (k
   extends-are e = e ∙ extends-view g (k .holds) ps
 
   pub splits-are : c .splits ≡ splits (view g) ps
-  splits-are = splits-counted g (k .holds) ps (k .counted)
+  unfolding countParents
+  splits-are = ap (λ (x : ParentCounts). x .splits) (k .counted) ∙ splits-in g (k .holds) ps
 
   held-are : c .held ≡ length (held (view g) ps)
-  held-are = held-count g (k .holds) ps (k .counted)
+  unfolding countParents
+  held-are = ap (λ (x : ParentCounts). x .held) (k .counted) ∙ held-counted g (k .holds) ps
 
   -- The last run grows
   pub some-runs : {e : Bool} → e ≡ extends (view g) ps → e ≡ true → 0 < g .«run_count»

@@ -22,6 +22,7 @@ use Rattle.model.specs.Push.{staying, grown, parentRuns, newSeen, joined
 use Rattle.model.proofs.SeenFrom.{new-has}
 use Rattle.model.proofs.FormedReads.{parents-row, parents-first, start-len, first-len, containing-in, containing-less, seenAfter-within, frontier-rising, frontier-below}
 use Rattle.model.proofs.FormedSplitAll.{Inside}
+use Rattle.model.proofs.Siding.{held-mem}
 
 -- A frontier whose last is the last event
 frontier-snoc : (n l v : ℕ) (f : List ℕ) → rising f ≡ true → below v f ≡ true → l ≡ suc v → frontierFits n l (f ++ v ∷ []) ≡ true
@@ -75,14 +76,14 @@ joined-entries g ps n =
     omega (arith, sum-snoc (λ qs. length qs) (g .parents) (map (containing g) (held g ps)), length-map (held g ps) (containing g))
 
 -- What a new run takes from its held parents
-module _ (g : Graph) (formed : WellFormed g) (ps : List ℕ) (inside : Inside g (held g ps)) where
+module _ (g : Graph) (formed : WellFormed g) (ps : List ℕ) where
   -- Its parent runs are below it
   pub parentRuns-below : (r : ℕ) → mem r (parentRuns g ps) ≡ true → r < runs g
   unfolding parentRuns
   parentRuns-below r m =
       let w : (e : ℕ) × (mem e (held g ps) ≡ true) × (r ≡ containing g e) = map-mem (containing g) r (held g ps) m in
-      let i = inside .1 (w .0) (w .1) in
-      omega (arith, w .2, containing-in g formed (w .0) (i .0) (i .1) .0)
+      let h = held-mem g ps (w .0) (w .1) in
+      omega (arith, w .2, containing-in g formed (w .0) (h .1) (h .2) .0)
 
   -- What it has seen lies between the first held event and `len`
   pub newSeen-within : (firstHeld g ≤ newSeen g ps) × (newSeen g ps ≤ len g)
@@ -177,7 +178,7 @@ module _ (g : Graph) (formed : WellFormed g) (ps : List ℕ) (n : ℕ) (some : 0
     joined-parents =
         let z : 0 + length (g .parents) ≡ runs g = unfold runs in omega arith in
         parents-snoc 0 (g .parents) (parentRuns g ps) (formed .parents) parentRuns-rising
-        (rw z (below-of (runs g) (parentRuns g ps) (parentRuns-below g formed ps inside)))
+        (rw z (below-of (runs g) (parentRuns g ps) (parentRuns-below g formed ps)))
 
     -- A new run keeps the graph well-formed
     pub joined-formed : WellFormed (joined g ps n)
@@ -198,11 +199,11 @@ module _ (g : Graph) (formed : WellFormed g) (ps : List ℕ) (n : ℕ) (some : 0
         counts = omega (arith, formed .starts-count, formed .seen-count)
 
         seen-end : newSeen g ps ≤ getD (g .starts) (length (g .seen)) 0
-        seen-end = rw (formed .seen-count) (unfold len start in newSeen-within g formed ps inside .1)
+        seen-end = rw (formed .seen-count) (unfold len start in newSeen-within g formed ps .1)
 
         seen-is : between (firstHeld g) (g .starts ++ (len g + n) ∷ []) (g .seen ++ newSeen g ps ∷ []) ≡ true
         seen-is =
-            seen-snoc (firstHeld g) (len g + n) (newSeen g ps) (g .starts) (g .seen) counts (formed .seen) (newSeen-within g formed ps inside .0) seen-end
+            seen-snoc (firstHeld g) (len g + n) (newSeen g ps) (g .starts) (g .seen) counts (formed .seen) (newSeen-within g formed ps .0) seen-end
 
         changed-is : min (runs g) (g .changed) ≤ suc (runs g)
         changed-is = omega arith

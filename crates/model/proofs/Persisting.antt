@@ -11,14 +11,14 @@ use Rattle.model.specs.Push.{grown, joined, lowered, push, pushOutcome}
 use Rattle.model.specs.Start.{splitting, starting}
 use Rattle.model.proofs.FormedReads.{first-len}
 use Rattle.model.proofs.FormedSplitAll.{Inside, rest-inside, first-inside, first-formed, rest-after}
-use Rattle.model.proofs.FormedPush.{Accepted, accepted, push-grows, push-joins, held-inside, pushed-splits, inside-after}
+use Rattle.model.proofs.FormedPush.{Accepted, accepted, push-grows, push-joins, held-inside, pushed-splits}
 use Rattle.model.proofs.FormedCalls.{start-inside}
 
--- A fact of well-formed graphs that a split inside a run keeps, growth of the last run, and a new run whose held parents end runs
+-- A fact of well-formed graphs that a split inside a run keeps, growth of the last run, and a new run
 pub record Persists (P : Graph → Type 0) : Type 0 where
   pub splits : (g : Graph) (r at : ℕ) → WellFormed g → r < runs g → start g r < at → at < start g (suc r) → P g → P (split g r at)
   pub grows : (g : Graph) (ps : List ℕ) (n : ℕ) → WellFormed g → P g → P (grown g ps n)
-  pub joins : (s : Graph) (ps : List ℕ) (n : ℕ) → WellFormed s → Inside s (held s ps) → P s → P (lowered s (joined s ps n))
+  pub joins : (s : Graph) (ps : List ℕ) (n : ℕ) → WellFormed s → P s → P (lowered s (joined s ps n))
 
 module _ (P : Graph → Type 0) (K : Persists P) where
   -- The splits after rising held events
@@ -45,7 +45,7 @@ module _ (P : Graph → Type 0) (K : Persists P) where
       go true x ok = subst P (sym (push-grows g ps n x)) (K .grows g ps n w p)
       go false x ok =
           subst P (sym (push-joins g ps n x))
-          (K .joins (splitAfter g (held g ps)) ps n (pushed-splits g w ps n ok .formed) (inside-after g w ps n ok)
+          (K .joins (splitAfter g (held g ps)) ps n (pushed-splits g w ps n ok .formed)
           (splits-persist g (held g ps) w (held-inside g ps (ok .rises)) p))
 
   -- A run start that splits

@@ -11,7 +11,7 @@ use Rattle.lists.specs.Lists.{mem, insertAt}
 use Rattle.lists.proofs.Truth.{lt-or-le, eq-or-not, false-true, or-cases, or-left}
 use Rattle.lists.proofs.Members.{mem-one, mem-append, mem-index, getD-mem}
 use Rattle.lists.proofs.Inserts.{insert-new, insert-other, insert-keeps}
-use Rattle.model.specs.Graph.{Graph, runs, start, firstHeld, len, held}
+use Rattle.model.specs.Graph.{Graph, runs, start, firstHeld, len}
 use Rattle.model.specs.Broken.{WellFormed}
 use Rattle.model.specs.Fresh.{fresh}
 use Rattle.model.specs.Split.{secondSeen, split}
@@ -20,7 +20,6 @@ use Rattle.model.specs.Start.{taken}
 use Rattle.model.specs.StaysTrue.{SeenStarts}
 use Rattle.model.proofs.SeenFrom.{second-has, after-has, new-has}
 use Rattle.model.proofs.FormedReads.{start-less, seen-within}
-use Rattle.model.proofs.FormedSplitAll.{Inside}
 use Rattle.model.proofs.FormedJoins.{parentRuns-below}
 use Rattle.model.proofs.Persisting.{Persists}
 
@@ -67,7 +66,7 @@ grown-among g ps n w S x m =
     (getD-mem (take (runs g) (g .starts)) (s .0) 0 (omega (arith, length-take (runs g) (g .starts), w .starts-count, c))))
 
 -- A new run has seen up to its own start, up to the first held event, or what one of its parents hands on: that run's end or what it has seen
-module _ (s : Graph) (ps : List ℕ) (w : WellFormed s) (i : Inside s (held s ps)) (S : SeenAmong s) where
+module _ (s : Graph) (ps : List ℕ) (w : WellFormed s) (S : SeenAmong s) where
   start-among : (r : ℕ) → r ≤ runs s → mem (start s r) (s .starts) ≡ true
   unfolding start
   start-among r le = getD-mem (s .starts) r 0 (omega (arith, w .starts-count))
@@ -75,7 +74,7 @@ module _ (s : Graph) (ps : List ℕ) (w : WellFormed s) (i : Inside s (held s ps
   new-among : mem (newSeen s ps) (s .starts) ≡ true
   unfolding len firstHeld
   new-among = new-has among s ps (start-among (runs s) (omega arith)) (start-among 0 (omega arith)) (λ r m.
-      let lt : r < runs s = parentRuns-below s w ps i r m in
+      let lt : r < runs s = parentRuns-below s w ps r m in
       after-has among s r (start-among (suc r) lt) (S (getD (s .seen) r 0) (getD-mem (s .seen) r 0 (omega (arith, w .seen-count)))))
     where
       among : ℕ → Type 0
@@ -95,7 +94,7 @@ pub among-persists : Persists SeenAmong
 among-persists = record {
   splits = λ g r at w b lo hi S. split-among g r at w b S;
   grows = grown-among;
-  joins = λ s ps n w i S. joined-among s ps w i S n;
+  joins = λ s ps n w S. joined-among s ps w S n;
 }
 
 pub among-fresh : (events : ℕ) (frontier : List ℕ) → SeenAmong (fresh events frontier)

@@ -27,7 +27,7 @@ unfolding split grown lowered joined
 zero-persists = record {
   splits = λ g r at w b lo hi e. omega arith;
   grows = λ g ps n w e. omega arith;
-  joins = λ s ps n w i e. omega (arith, least-le (min (runs s) (s .changed)) (filter (λ r. not (mem r (marks (joined s ps n)))) (marks s)));
+  joins = λ s ps n w e. omega (arith, least-le (min (runs s) (s .changed)) (filter (λ r. not (mem r (marks (joined s ps n)))) (marks s)));
 }
 
 -- A split keeps the runs before the one split
@@ -57,4 +57,4 @@ since-grown a g ps n w h q lt =
 
 -- So every run below `changed_from` stays as it was
 pub since-persists : (a : Graph) → Persists (Since a)
-since-persists a = record { splits = since-split a; grows = since-grown a; joins = λ s ps n w i h. since-joined a s ps n w h }
+since-persists a = record { splits = since-split a; grows = since-grown a; joins = since-joined a }

@@ -66,7 +66,7 @@ pub unmarked-persists : (e : ℕ) → Persists (λ g. UnmarkedAt g e)
 unmarked-persists e = record {
   splits = λ g r at w b lo hi U. split-unmarked e g r at w b lo U;
   grows = grown-unmarked e;
-  joins = λ s ps n w i U. joined-unmarked e s ps n w U;
+  joins = joined-unmarked e;
 }
 
 pub unmarked-taken : (e : ℕ) (g : Graph) → UnmarkedAt g e → UnmarkedAt (taken g) e
