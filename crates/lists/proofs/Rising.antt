@@ -5,7 +5,7 @@ use mathlib.Core.Bool.{Bool, true, false, cond}
 use mathlib.Core.List.{List, [], _∷_, _++_, map}
 use Prim.Native.Nat.{ℕ, zero, suc, _+_, _≤_, _<_}
 use native.Mathlib.Omega.{arith}
-use lib.ListN.{length, getD, take}
+use lib.ListN.{length, getD, take, length-append}
 use lib.Dec.{leb, ltb, eqb}
 use borrow.Author.Tests.{ltb-true, eqb-true, lt-ltb, le-ltb, le-leb, lt-leb, eq-eqb}
 use Rattle.lists.specs.Lists.{bit, all, filter, count, from, mem, rising, below}
@@ -140,6 +140,15 @@ rising-above x (y ∷ l) e z m = go (or-cases (eqb z y) (mem z l) m) (λ k. risi
     go : (eqb z y ≡ true) ⊎ (mem z l ≡ true) → (mem z l ≡ true → y < z) → x < z
     go (inl q) ih = omega (arith, less, eqb-true z y q)
     go (inr k) ih = omega (arith, less, ih k)
+
+-- From its first number up to its last
+pub rising-ends : (lo : ℕ) (xs : List ℕ) (n : ℕ) → rising (xs ++ n ∷ []) ≡ true → lo ≤ getD (xs ++ n ∷ []) 0 0 → Up lo xs n
+rising-ends lo [] n h le = le
+rising-ends lo (x ∷ xs) n h le = (
+  le,
+  rising-ends (suc x) xs n (rising-tail x (xs ++ n ∷ []) h)
+      (rising-above x (xs ++ n ∷ []) h (getD (xs ++ n ∷ []) 0 0) (getD-mem (xs ++ n ∷ []) 0 0 (omega (arith, length-append xs (n ∷ []))))),
+)
 
 -- Of two of its numbers the later is larger
 pub rising-less : (l : List ℕ) → rising l ≡ true → (i j : ℕ) → i < j → j < length l → getD l i 0 < getD l j 0

@@ -50,11 +50,11 @@ module _ (g : Graph) (e : ℕ) where
     | unknown ↦ []
   ]
 
-  parents-in : (r : ℕ) → side g e ≡ inRun r → eventParents g e ≡ cond (eqb e (start g r)) (map (lastEvent g) (at (g .parents) r)) ((e - 1) ∷ [])
+  pub parents-in : (r : ℕ) → side g e ≡ inRun r → eventParents g e ≡ cond (eqb e (start g r)) (map (lastEvent g) (at (g .parents) r)) ((e - 1) ∷ [])
   unfolding eventParents
   parents-in r h = ap parentsBy h
 
-  parents-out : isHeld (side g e) ≡ false → eventParents g e ≡ []
+  pub parents-out : isHeld (side g e) ≡ false → eventParents g e ≡ []
   unfolding eventParents isHeld
   parents-out h = go (side g e) h
     where

@@ -1,6 +1,6 @@
--- 01, "Beside it": archive points and the concurrency list, in the order of 02's F-2, on every input. Assumes nothing.
-use mathlib.Core.Bool.{Bool, true, false, not, _&&_}
-use mathlib.Core.List.{List, [], _∷_, map}
+-- 01, "Beside it": the concurrency list, in the order of 02's F-2, on every input. (Archive points: specs/Archive.) Assumes nothing.
+use mathlib.Core.Bool.{Bool, not, _&&_}
+use mathlib.Core.List.{List, [], _∷_}
 use Prim.Native.Nat.{ℕ}
 use lib.ListN.{length}
 use lib.Dec.{leb, ltb, eqb}
@@ -10,23 +10,12 @@ use Rattle.model.specs.declared.record.CausalGraph.{CausalGraph}
 use Rattle.model.specs.declared.answers.Written.{Written}
 use Rattle.model.specs.declared.answers.Outcome.{Outcome}
 use Rattle.model.specs.declared.answers.Outcome.the-variants.{Done, Refused}
-use Rattle.model.specs.Refusals.{refusal, firstOf}
-use Rattle.model.specs.Graph.{Graph, runs, start, marks}
+use Rattle.model.specs.Refusals.{firstOf}
+use Rattle.model.specs.Graph.{Graph, runs}
 use Rattle.model.specs.Record.{view}
 use Rattle.model.specs.Broken.{broken}
-use Rattle.model.specs.Cut.{writing, unwritten}
+use Rattle.model.specs.Cut.{unwritten}
 use Rattle.model.specs.History.{at, histories}
-
--- "archive points (the starts of marked runs, rising)"
-unfoldable pub archivePoints : Graph → List ℕ
-archivePoints g = map (start g) (marks g)
-
--- The archive points into a lent list, a word each, and the list afterwards
-unfoldable pub archivePointsOf : CausalGraph → List ℕ → Written × List ℕ
-archivePointsOf g lent = elim (broken g) [
-  | true ↦ unwritten (refusal 1) lent
-  | false ↦ writing 1 (map (λ e. e ∷ []) (archivePoints (view g))) lent
-]
 
 -- "all runs neither ancestor nor descendant nor itself": q is concurrent with r
 unfoldable pub concurrentRun : Graph → ℕ → ℕ → Bool

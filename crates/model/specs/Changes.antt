@@ -1,21 +1,24 @@
 -- The cases of document 02's change requests, by computing. Assumes nothing.
 use mathlib.Core.Path.{_≡_}
 use mathlib.Core.Bool.{false}
-use mathlib.Core.List.{List, [], _∷_, map}
+use mathlib.Core.List.{List, [], _∷_, _++_, map}
 use Prim.Native.Nat.{ℕ}
 use lib.ListN.{replicate}
 use Rattle.model.specs.declared.record.CausalGraph.{CausalGraph}
 use Rattle.model.specs.declared.answers.Written.{Written}
 use Rattle.model.specs.Answers.{outcomeNumber, containingNumbers, boolNumbers, bookNumbers}
+use Rattle.model.specs.Graph.{marks}
 use Rattle.model.specs.Record.{view, store}
 use Rattle.model.specs.Broken.{broken}
 use Rattle.model.specs.Fresh.{newOf, afterOf}
 use Rattle.model.specs.Start.{startRunAtOf}
 use Rattle.model.specs.Lookups.{containingOf}
 use Rattle.model.specs.Beside.{concurrencyListOf}
+use Rattle.model.specs.Archive.{archivePoints, archivePointsOf}
 use Rattle.model.specs.Book.{bookOf}
 use Rattle.model.specs.Print.{ascii, replayText}
 use Rattle.model.specs.Log.{new, after, Call, push, startRunAt, takeChangedFrom, madeBy}
+use Rattle.model.specs.TooWeak.{callsC1}
 use Rattle.model.specs.Cases.{branches}
 
 -- What a call wrote into a lent list: the refusal's number, the count, the list afterwards
@@ -45,6 +48,22 @@ sidesOf g es = map (λ e. containingNumbers (containingOf g e)) es
 -- After three earlier events: events 3 and 4 on event 2, then event 5 on event 3
 unfoldable pub later : CausalGraph
 later = madeBy (after 3 (2 ∷ [])) (push (2 ∷ []) 2 ∷ push (3 ∷ []) 1 ∷ []) .0
+
+-- A broken graph: its starts fall
+unfoldable pub falling : CausalGraph
+falling = store (record { starts = 2 ∷ 1 ∷ []; parents = [] ∷ []; frontier = 0 ∷ []; seen = 2 ∷ []; changed = 0 })
+
+-- The archive points of a graph, into so many words
+unfoldable pub archivedIn : CausalGraph → ℕ → ℕ × ℕ × List ℕ
+archivedIn g room = writtenNumbers (archivePointsOf g (replicate room 9))
+
+-- The archive points after calls from `new`
+unfoldable pub pointsAfter : List Call → List ℕ
+pointsAfter cs = archivePoints (view (madeBy new cs .0))
+
+-- A record that no calls make: run 1 is marked, by a seen length that is not true, since it has no parents
+unfoldable pub untrue : CausalGraph
+untrue = store (record { starts = 0 ∷ 1 ∷ 2 ∷ []; parents = [] ∷ [] ∷ []; frontier = 0 ∷ 1 ∷ []; seen = 0 ∷ 1 ∷ []; changed = 0 })
 
 pub record Changes : Type 0 where
   -- F-1: "a book of length 0" is whole, "a fresh graph from `new`"; "the program then prints `moved 0` alone"
@@ -78,6 +97,24 @@ pub record Changes : Type 0 where
   pub F4-by-hand : broken byHand ≡ false
   pub F4-by-hand-true : boolNumbers (startRunAtOf byHand 1 .answer) ≡ 0 ∷ 1 ∷ []
   pub F4-by-hand-false : boolNumbers (startRunAtOf (startRunAtOf byHand 1 .graph) 1 .answer) ≡ 0 ∷ 0 ∷ []
+  -- F-6: "C1 then has the points 0, 1 and 3", though "run 3 carries no mark"; what lies behind them keeps its value
+  pub F6 : archivedIn (madeBy new callsC1 .0) 4 ≡ (0, 3, 0 ∷ 1 ∷ 3 ∷ 9 ∷ [])
+  pub F6-marks : marks (view (madeBy new callsC1 .0)) ≡ 0 ∷ 1 ∷ []
+  -- one event more: on event 3 alone it is no point, on both heads it is one; on nothing it leaves the first event's point alone
+  pub F6-one : pointsAfter (callsC1 ++ push (3 ∷ []) 1 ∷ []) ≡ 0 ∷ 1 ∷ 3 ∷ []
+  pub F6-both : pointsAfter (callsC1 ++ push (3 ∷ 4 ∷ []) 1 ∷ []) ≡ 0 ∷ 1 ∷ 3 ∷ 5 ∷ []
+  pub F6-root : pointsAfter (callsC1 ++ push [] 1 ∷ []) ≡ 0 ∷ []
+  -- parents that stand for the frontier and are not its list: a point without a mark
+  pub F6-joined : pointsAfter (push [] 1 ∷ push [] 2 ∷ push (0 ∷ 1 ∷ 2 ∷ []) 1 ∷ []) ≡ 0 ∷ 3 ∷ []
+  -- after earlier events: the first held event, 3, and event 4; event 5 has not seen event 4
+  pub F6-later : archivedIn later 3 ≡ (0, 2, 3 ∷ 4 ∷ 9 ∷ [])
+  -- refusals as they were: of a list that is too short the points that fit are written; no runs, no points; 1 of a broken graph
+  pub F6-short : archivedIn (madeBy new callsC1 .0) 2 ≡ (11, 2, 0 ∷ 1 ∷ [])
+  pub F6-none : archivedIn newOf 1 ≡ (0, 0, 9 ∷ [])
+  pub F6-broken : archivedIn falling 1 ≡ (1, 0, 9 ∷ [])
+  -- that marked runs start at points is a law of graphs that calls make: of this record, which is not broken, run 1 is marked and starts at none
+  pub F6-by-hand : archivedIn untrue 2 ≡ (0, 1, 0 ∷ 9 ∷ [])
+  pub F6-by-hand-marks : marks (view untrue) ≡ 0 ∷ 1 ∷ []
   -- F-11: "one of: the run, before the graph, or not yet known". Event 4 lies in the last run, run 4; event 5, which is `len`, in none
   pub F11 : sidesOf branches (0 ∷ 4 ∷ 5 ∷ 4294967295 ∷ []) ≡ (0 ∷ 0 ∷ 0 ∷ []) ∷ (0 ∷ 0 ∷ 4 ∷ []) ∷ (0 ∷ 2 ∷ 0 ∷ []) ∷ (0 ∷ 2 ∷ 0 ∷ []) ∷ []
   -- the last event before the graph, the first held one, run by run up to `len`
@@ -86,4 +123,4 @@ pub record Changes : Type 0 where
   pub F11-none : sidesOf (afterOf 3 (2 ∷ []) .graph) (2 ∷ 3 ∷ []) ≡ (0 ∷ 1 ∷ 0 ∷ []) ∷ (0 ∷ 2 ∷ 0 ∷ []) ∷ []
   pub F11-new : sidesOf newOf (0 ∷ []) ≡ (0 ∷ 2 ∷ 0 ∷ []) ∷ []
   -- "1 does": of a broken graph, whose starts fall
-  pub F11-broken : sidesOf (store (record { starts = 2 ∷ 1 ∷ []; parents = [] ∷ []; frontier = 0 ∷ []; seen = 2 ∷ []; changed = 0 })) (0 ∷ 3 ∷ []) ≡ (1 ∷ 0 ∷ 0 ∷ []) ∷ (1 ∷ 0 ∷ 0 ∷ []) ∷ []
+  pub F11-broken : sidesOf falling (0 ∷ 3 ∷ []) ≡ (1 ∷ 0 ∷ 0 ∷ []) ∷ (1 ∷ 0 ∷ 0 ∷ []) ∷ []

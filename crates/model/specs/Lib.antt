@@ -28,6 +28,7 @@ pub mod Book
 pub mod Print
 pub mod Log
 pub mod PlainSet
+pub mod Archive
 pub mod Claim
 pub mod StaysTrue
 pub mod BookCalls
