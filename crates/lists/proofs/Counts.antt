@@ -105,6 +105,18 @@ unfolding from
 from-length a zero = refl
 from-length a (suc n) = ap suc (from-length (suc a) n)
 
+-- One number more
+pub from-snoc : (a n : ℕ) → from a (suc n) ≡ from a n ++ (a + n) ∷ []
+unfolding from
+from-snoc a zero = let e : a ≡ a + 0 = omega arith in ap (λ (k : ℕ). k ∷ []) e
+from-snoc a (suc n) =
+    let e : suc a + n ≡ a + suc n = omega arith in
+    ap (λ (l : List ℕ). a ∷ l) (from-snoc (suc a) n ∙ ap (λ (k : ℕ). from (suc a) n ++ k ∷ []) e)
+
+pub upto-snoc : (n : ℕ) → upto (suc n) ≡ upto n ++ n ∷ []
+unfolding upto
+upto-snoc n = let e : 0 + n ≡ n = omega arith in from-snoc 0 n ∙ ap (λ (k : ℕ). from 0 n ++ k ∷ []) e
+
 -- A count by tests that agree on the list
 pub count-same : (p q : ℕ → Bool) (l : List ℕ) → ((x : ℕ) → mem x l ≡ true → p x ≡ q x) → count p l ≡ count q l
 unfolding count mem

@@ -8,6 +8,7 @@ pub mod Counts
 pub mod Each
 pub mod Rising
 pub mod Passing
+pub mod Sharing
 pub mod Bounds
 -- Lists of any items
 pub mod Inserts

@@ -12,7 +12,7 @@ use borrow.Author.Tests.{eq-eqb, ne-eqb, lt-ltb, le-ltb}
 use Rattle.lists.specs.Lists.{bit, mem, occurs, rising, filter, from, upto}
 use Rattle.lists.specs.Areas.{part}
 use Rattle.lists.proofs.Truth.{lt-or-le, eq-or-not}
-use Rattle.lists.proofs.Counts.{mem-occurs, nothing-occurs}
+use Rattle.lists.proofs.Counts.{mem-occurs, nothing-occurs, upto-snoc}
 use Rattle.lists.proofs.Rising.{rising-tail, rising-above}
 use Rattle.lists.proofs.Keeping.{filter-snoc}
 use Rattle.lists.proofs.Groups.{length-part}
@@ -38,18 +38,7 @@ occurs-bit r ps h = go (lt-or-le 0 (occurs r ps)) (once r ps h)
     go (inl some) le = omega (arith, ap bit (mem-occurs r ps ∙ lt-ltb 0 (occurs r ps) some))
     go (inr none) le = omega (arith, ap bit (mem-occurs r ps ∙ le-ltb 0 (occurs r ps) none))
 
--- The numbers below one more
-from-snoc : (a n : ℕ) → from a (suc n) ≡ from a n ++ (a + n) ∷ []
-unfolding from
-from-snoc a zero = let e : a ≡ a + 0 = omega arith in ap (λ (k : ℕ). k ∷ []) e
-from-snoc a (suc n) =
-    let e : suc a + n ≡ a + suc n = omega arith in
-    ap (λ (l : List ℕ). a ∷ l) (from-snoc (suc a) n ∙ ap (λ (k : ℕ). from (suc a) n ++ k ∷ []) e)
-
-upto-snoc : (n : ℕ) → upto (suc n) ≡ upto n ++ n ∷ []
-unfolding upto
-upto-snoc n = let e : 0 + n ≡ n = omega arith in from-snoc 0 n ∙ ap (λ (k : ℕ). from 0 n ++ k ∷ []) e
-
+-- A last number that is kept or not
 kept-once : (b : Bool) (l : List ℕ) (x : ℕ) → l ++ replicate (bit b) x ≡ cond b (l ++ x ∷ []) l
 kept-once true l x = refl
 kept-once false l x = append-nil l
