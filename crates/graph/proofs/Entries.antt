@@ -14,7 +14,7 @@ use Rattle.model.specs.Record.{view}
 use Rattle.model.specs.Broken.{Held}
 use Rattle.model.specs.History.{at}
 use Rattle.model.proofs.Histories.{Below}
-use Rattle.graph.specs.Flags.{row, Rows}
+use Rattle.graph.specs.Rows.{row, Rows}
 use Rattle.graph.proofs.Views.{facts}
 use Rattle.graph.proofs.Looking.{group-bounds, group-end, group-view}
 

@@ -1,4 +1,4 @@
 -- What the loops of the graph's code compute.
 pub mod Loops
 pub mod Cutting
-pub mod Flags
+pub mod Rows

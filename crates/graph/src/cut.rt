@@ -14,9 +14,9 @@ use model::Refusal;
 use model::Written;
 
 // How many records were written, and 1 once one did not fit.
-pub(crate) struct Put {
-    pub(crate) count: usize,
-    pub(crate) short: usize,
+pub struct Put {
+    pub count: usize,
+    pub short: usize,
 }
 
 // Writes one record of three words after the others, if it fits and all before it did.
@@ -41,7 +41,7 @@ fn put_three(list: &mut [u32], p: Put, a: u32, b: u32, c: u32) -> Put
 }
 
 // Done, or refused if a record did not fit.
-pub(crate) fn written(p: Put) -> Written
+pub fn written(p: Put) -> Written
     ensures { λ r. ⌜ r ≡ writtenOf p ⌝ }
 {
     if p.short == 0 {

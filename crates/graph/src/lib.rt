@@ -1,7 +1,6 @@
-// The event graph of 01, by value: fresh graphs, pushes, run starts and takes, lookups, cuts, and what stands beside them. Each call
-// tests its graph first and refuses what 01 refuses; its contract is an equation with its definition in the model crate.
+// The event graph of 01, by value: fresh graphs, pushes, run starts and takes, lookups and cuts. Each call tests its graph first
+// and refuses what 01 refuses; its contract is an equation with its definition in the model crate.
 
-pub mod beside;
 pub mod broken;
 pub mod cut;
 pub mod fresh;

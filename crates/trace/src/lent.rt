@@ -41,13 +41,13 @@ fn cut(g: CausalGraph, from: u32, list: &mut [u32]) -> Said {
 }
 
 fn archive(g: CausalGraph, list: &mut [u32]) -> Said {
-    answers::written(8, graph::beside::archive_points(g, list))
+    answers::written(8, versions::archive::archive_points(g, list))
 }
 
 fn concurrent(g: CausalGraph, run: u32, list: &mut [u32]) -> Said {
     answers::written(
         9,
-        graph::beside::concurrent_runs(g, EventRunIndex(run), list),
+        versions::concurrent::concurrent_runs(g, EventRunIndex(run), list),
     )
 }
 

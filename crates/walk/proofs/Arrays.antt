@@ -24,7 +24,7 @@ use Rattle.model.specs.Choice.{rangeOf}
 use Rattle.model.specs.declared.record.CausalGraph.{CausalGraph}
 use Rattle.model.specs.Record.{view}
 use Rattle.model.specs.Broken.{Held}
-use Rattle.graph.specs.Flags.{row, Rows}
+use Rattle.graph.specs.Rows.{row, Rows}
 use Rattle.graph.proofs.Views.{facts, runs-view, start-view, starts-list, starts-count, starts-pad}
 use Rattle.graph.proofs.Entries.{row-view, rows-of}
 use Rattle.tables.specs.Laid.{shares, grouped, Sound}

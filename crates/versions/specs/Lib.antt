@@ -1,0 +1,2 @@
+-- What the loops of the versions' code compute.
+pub mod Flags

@@ -1,0 +1,5 @@
+// What reads ancestors and versions off a graph: the concurrency list of a run. Each call tests its graph first; its contract is an
+// equation with its definition in the model crate.
+
+pub mod concurrent;
+mod flags;
