@@ -5,7 +5,7 @@ pub mod broken;
 pub mod cut;
 pub mod fresh;
 pub mod lookups;
-mod marks;
+pub mod marks;
 pub mod pushing;
 pub mod ranges;
 mod splitting;

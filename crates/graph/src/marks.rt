@@ -32,7 +32,7 @@ fn lows(seen: &[u32], n: usize) -> [u32; MAX_RUNS]
 }
 
 // The runs of which every run from it on has seen at least its start.
-pub(crate) fn marks_of<'a>(starts: &'a [u32], seen: &'a [u32], n: usize) -> Kept
+pub fn marks_of<'a>(starts: &'a [u32], seen: &'a [u32], n: usize) -> Kept
     requires { ⌜ n < length (now starts) ⌝ }
     requires { ⌜ n ≤ length (now seen) ⌝ }
     requires { ⌜ n ≤ maxRuns ⌝ }

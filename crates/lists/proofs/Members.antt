@@ -213,6 +213,16 @@ unfolding filter
 filter-agree p q [] h = refl
 filter-agree p q (x ∷ xs) h = rw (h x (mem-first x xs), filter-agree p q xs (λ y m. h y (mem-rest x y xs m)))
 
+-- Those of mapped numbers that pass
+pub filter-map : (p : ℕ → Bool) (f : ℕ → ℕ) (xs : List ℕ) → filter p (map f xs) ≡ map f (filter (λ x. p (f x)) xs)
+unfolding filter
+filter-map p f [] = refl
+filter-map p f (x ∷ xs) = rw (filter-map p f xs) (go (p (f x)))
+  where
+    go : (t : Bool) → cond t (f x ∷ map f (filter (λ x. p (f x)) xs)) (map f (filter (λ x. p (f x)) xs)) ≡ map f (cond t (x ∷ filter (λ x. p (f x)) xs) (filter (λ x. p (f x)) xs))
+    go true = refl
+    go false = refl
+
 -- The same numbers in the same order are the same list
 pub same-eq : (xs ys : List ℕ) → same xs ys ≡ true → xs ≡ ys
 unfolding same

@@ -1,6 +1,6 @@
 -- How many numbers of a list pass: all of them, with another test or without it, and those that it shares with another list. Assumes nothing.
 use mathlib.Core.Path.{_≡_, refl, sym, ap, _∙_}
-use mathlib.Core.Bool.{Bool, true, false, not, _&&_}
+use mathlib.Core.Bool.{Bool, true, false, not, cond, _&&_}
 use mathlib.Core.List.{List, [], _∷_}
 use Prim.Native.Nat.{ℕ, suc, _+_}
 use native.Mathlib.Omega.{arith}
@@ -25,6 +25,16 @@ count-all p (x ∷ xs) = go (p x) (count-all p xs)
         (λ h. eq-eqb (count p xs) (length xs) (omega (arith, eqb-true (1 + count p xs) (suc (length xs)) h)))
         (λ h. eq-eqb (1 + count p xs) (suc (length xs)) (omega (arith, eqb-true (count p xs) (length xs) h))) ∙ ih
     go false ih = ne-eqb (0 + count p xs) (suc (length xs)) (λ e. omega (arith, count-le p xs))
+
+-- Of those that pass one test, how many pass another
+pub count-filter : (p q : ℕ → Bool) (xs : List ℕ) → count q (filter p xs) ≡ count (λ x. p x && q x) xs
+unfolding count filter
+count-filter p q [] = refl
+count-filter p q (x ∷ xs) = go (p x) (count-filter p q xs)
+  where
+    go : (t : Bool) → count q (filter p xs) ≡ count (λ x. p x && q x) xs → count q (cond t (x ∷ filter p xs) (filter p xs)) ≡ bit (t && q x) + count (λ x. p x && q x) xs
+    go true ih = omega arith
+    go false ih = omega arith
 
 -- Those that pass another test too, and those that do not
 pub count-parted : (p q : ℕ → Bool) (xs : List ℕ) → count (λ x. p x && q x) xs + count (λ x. p x && not (q x)) xs ≡ count p xs

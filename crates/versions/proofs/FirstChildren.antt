@@ -60,18 +60,18 @@ module _ (rows : ℕ → List ℕ) where
   abbrev First : ℕ → ℕ → ℕ → Type 0
   First n p f = ((f ≡ 0) × None n p) ⊎ ((0 < f) × (f < n) × (mem p (rows f) ≡ true) × None f p)
 
-  module _ (below : (c p : ℕ) → mem p (rows c) ≡ true → p < c) (p : ℕ) (few : p < 512) where
-    first-is : (n : ℕ) → First n p (getD (firstChildren rows n) p 0)
+  module _ (end : ℕ) (below : (c p : ℕ) → c < end → mem p (rows c) ≡ true → p < c) (p : ℕ) (few : p < 512) where
+    first-is : (n : ℕ) → n ≤ end → First n p (getD (firstChildren rows n) p 0)
     unfolding firstChildren
-    first-is zero = inl (get-pad 512 [] p, λ c h. absurd (omega arith))
-    first-is (suc n) =
+    first-is zero le = inl (get-pad 512 [] p, λ c h. absurd (omega arith))
+    first-is (suc n) le =
         let got = note-get (firstChildren rows n) n (rows n) p (omega (arith, firsts-length n)) in
-        step (mem p (rows n)) refl (getD (firstChildren rows n) p 0) (first-is n) (getD (noteAll (firstChildren rows n) n (rows n)) p 0) got
+        step (mem p (rows n)) refl (getD (firstChildren rows n) p 0) (first-is n (omega arith)) (getD (noteAll (firstChildren rows n) n (rows n)) p 0) got
       where
         step : (t : Bool) → mem p (rows n) ≡ t → (f : ℕ) → First n p f → (g : ℕ) → g ≡ cond (mem p (rows n)) (firstOf f n) f → First (suc n) p g
         step true m f (inl h) g e = unfold firstOf in
             let z : g ≡ n = e ∙ rw (m, eq-eqb f 0 (h .0)) in
-            let b : p < n = below n p m in
+            let b : p < n = below n p le m in
             inr (omega arith, omega arith, rw z m, λ c l. h .1 c (omega arith))
         step true m f (inr h) g e = unfold firstOf in
             let z : g ≡ f = e ∙ rw (m, ne-eqb f 0 (λ w. omega (arith, h .0))) in
@@ -84,9 +84,9 @@ module _ (rows : ℕ → List ℕ) where
         step false m f (inr h) g e = let z : g ≡ f = e ∙ rw m in inr (omega (arith, h .0), omega (arith, h .1), rw z (h .2), λ c l. h .3 c (omega arith))
 
     -- By its first child, run p has no child below m
-    pub head-is : (pss : List (List ℕ)) (n m : ℕ) → m ≤ n → ((c : ℕ) → c < n → rows c ≡ at pss c) → isHead (firstChildren rows n) m p ≡ childless pss m p
+    pub head-is : (pss : List (List ℕ)) (m : ℕ) → m ≤ end → ((c : ℕ) → c < end → rows c ≡ at pss c) → isHead (firstChildren rows end) m p ≡ childless pss m p
     unfolding isHead childless upto
-    head-is pss n m le same = go (getD (firstChildren rows n) p 0) (first-is n)
+    head-is pss m le same = go (getD (firstChildren rows end) p 0) (first-is end (omega arith))
       where
         mine : (c : ℕ) → c < m → mem p (at pss c) ≡ mem p (rows c)
         mine c l = rw (same c (omega arith))
@@ -94,7 +94,7 @@ module _ (rows : ℕ → List ℕ) where
         none : ((c : ℕ) → c < m → mem p (rows c) ≡ false) → all (λ c. not (mem p (at pss c))) (upto m) ≡ true
         none h = all-of (λ c. not (mem p (at pss c))) (upto m) (λ c k. let l : c < m = omega (arith, (mem-from c 0 m k) .1) in rw (mine c l, h c l))
 
-        go : (f : ℕ) → First n p f → eqb f 0 || leb m f ≡ all (λ c. not (mem p (at pss c))) (upto m)
+        go : (f : ℕ) → First end p f → eqb f 0 || leb m f ≡ all (λ c. not (mem p (at pss c))) (upto m)
         go f (inl h) = rw (eq-eqb f 0 (h .0)) (sym (none (λ c l. h .1 c (omega arith))))
         go f (inr h) = rw (ne-eqb f 0 (λ w. omega (arith, h .0))) (by (lt-or-le f m))
           where

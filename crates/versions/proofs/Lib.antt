@@ -3,3 +3,9 @@ pub mod Flagging
 pub mod Comparing
 pub mod Passes
 pub mod ConcurrentWays
+pub mod FirstChildren
+pub mod Counting
+pub mod Parting
+pub mod HeadTurns
+pub mod Points
+pub mod ArchiveWays

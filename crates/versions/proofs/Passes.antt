@@ -21,11 +21,11 @@ use Rattle.versions.specs.Flags.{flagAll, flagParents, flagDown, flagged
 
 -- A part of a list, item by item
 module _ (items : List ℕ) (to : ℕ) (fits : to ≤ length items) (i : ℕ) where
-  part-first : i < to → part i to items ≡ getD items i 0 ∷ part (i + 1) to items
+  pub part-first : i < to → part i to items ≡ getD items i 0 ∷ part (i + 1) to items
   unfolding part
   part-first h = let e : to - i ≡ suc (to - suc i) = omega arith in rw (add-one i, e, drop-cons items i 0 (omega arith))
 
-  part-none : to ≤ i → part i to items ≡ []
+  pub part-none : to ≤ i → part i to items ≡ []
   unfolding part
   part-none h = let e : to - i ≡ 0 = omega arith in rw e
 

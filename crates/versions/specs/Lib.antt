@@ -1,2 +1,3 @@
 -- What the loops of the versions' code compute.
 pub mod Flags
+pub mod Heads
