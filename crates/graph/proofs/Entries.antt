@@ -1,36 +1,37 @@
 -- A run's parents among the entries of a record that is held. Assumes nothing.
-use mathlib.Core.Path.{_≡_, sym}
-use mathlib.Core.Bool.{true, _&&_}
+use mathlib.Core.Path.{_≡_, refl, sym}
+use mathlib.Core.Bool.{true}
 use mathlib.Core.List.{List, [], _∷_}
-use Prim.Native.Nat.{ℕ, zero, suc, _+_, _<_}
+use Prim.Native.Nat.{ℕ, zero, suc, _<_}
 use native.Mathlib.Omega.{arith}
-use Rattle.lists.specs.Lists.{mem, rising, below}
+use Rattle.lists.specs.Lists.{rising}
 use Rattle.lists.specs.Scans.{groupsFit}
-use Rattle.lists.proofs.Truth.{false-true, and-left, and-right}
-use Rattle.lists.proofs.Bounds.{below-of, below-at}
+use Rattle.lists.proofs.Bounds.{below-of}
 use Rattle.model.specs.declared.record.CausalGraph.{CausalGraph}
-use Rattle.model.specs.Graph.{runs}
 use Rattle.model.specs.Record.{view}
 use Rattle.model.specs.Broken.{Held}
 use Rattle.model.specs.History.{at}
 use Rattle.model.proofs.Histories.{Below}
+use Rattle.model.proofs.FormedReads.{parents-first, groupsFit-at}
 use Rattle.graph.specs.Rows.{row, Rows}
 use Rattle.graph.proofs.Views.{facts}
 use Rattle.graph.proofs.Looking.{group-bounds, group-end, group-view}
 
--- Groups that fit lie below their numbers
-groups-below : (k : ℕ) (pss : List (List ℕ)) → groupsFit k pss ≡ true → (r p : ℕ) → mem p (at pss r) ≡ true → p < k + r
-unfolding groupsFit at mem
-groups-below k [] h r p m = false-true m
-groups-below k (ps ∷ pss) h zero p m =
-    omega (arith, below-at k ps (and-right (rising ps) (below k ps) (and-left (rising ps && below k ps) (groupsFit (suc k) pss) h)) p m)
-groups-below k (ps ∷ pss) h (suc r) p m =
-    omega (arith, groups-below (suc k) pss (and-right (rising ps && below k ps) (groupsFit (suc k) pss) h) r p m)
+-- Groups that fit rise
+groups-rise : (k : ℕ) (pss : List (List ℕ)) → groupsFit k pss ≡ true → (r : ℕ) → rising (at pss r) ≡ true
+unfolding at
+groups-rise k [] h r = unfold rising in refl
+groups-rise k (ps ∷ pss) h zero = parents-first k ps pss h .0
+groups-rise k (ps ∷ pss) h (suc r) = groups-rise (suc k) pss (parents-first k ps pss h .2) r
 
 module _ (g : CausalGraph) (held : Held g) where
-  -- Each run's parents are below it
+  -- Each run's parents are below it, and rise
   pub parents-below : Below (view g .parents)
-  parents-below r p m = omega (arith, groups-below 0 (view g .parents) (held .formed .parents) r p m)
+  unfolding at
+  parents-below r p m = omega (arith, groupsFit-at 0 (view g .parents) (held .formed .parents) r p m)
+
+  pub parents-rise : (r : ℕ) → rising (at (view g .parents) r) ≡ true
+  parents-rise r = groups-rise 0 (view g .parents) (held .formed .parents) r
 
   pub row-view : (run : ℕ) → run < g .«run_count» → row (g .«parent_starts») (g .parents) run ≡ at (view g .parents) run
   unfolding row at

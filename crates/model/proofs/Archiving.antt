@@ -1,5 +1,5 @@
 -- Archive points: by events, by critical versions and by runs they are the same. Assumes nothing.
-use mathlib.Core.Path.{_≡_, refl, sym, ap, _∙_, subst}
+use mathlib.Core.Path.{_≡_, refl, sym, _∙_, subst}
 use mathlib.Core.Logic.{_⊎_, inl, inr, _↔_}
 use mathlib.Core.Bool.{true}
 use mathlib.Core.List.{List, map}
@@ -11,22 +11,21 @@ use Rattle.lists.proofs.Truth.{lt-or-le}
 use Rattle.lists.proofs.Members.{mem-filter, filter-mem, mem-map, map-mem, all-of, all-at}
 use Rattle.lists.proofs.Counts.{mem-from, from-mem, upto-mem}
 use Rattle.lists.proofs.Rising.{rising-filter, rising-map, rising-from}
-use Rattle.model.specs.declared.record.CausalGraph.{CausalGraph}
 use Rattle.model.specs.EventGraph.{EventGraph, HappenedBefore, ancestor, CriticalAt, Lower}
-use Rattle.model.specs.Graph.{Graph, runs, start, firstHeld, len, marked, side, isHeld}
+use Rattle.model.specs.Graph.{Graph, runs, start, firstHeld, len, marked}
 use Rattle.model.specs.Record.{view}
 use Rattle.model.specs.Broken.{WellFormed}
 use Rattle.model.specs.HeldEvents.{heldEvents}
 use Rattle.model.specs.Archive.{seenByLater, archivePoints, SeenByAll, Archive}
-use Rattle.model.specs.Log.{Log, Fresh, Call, madeBy, runCount, runStart, heldBefore, eventGraph}
+use Rattle.model.specs.Log.{Log, madeBy, runCount, runStart, heldBefore, eventGraph}
 use Rattle.model.proofs.Ancestry.{ancestor-iff}
 use Rattle.model.proofs.Histories.{Reach}
 use Rattle.model.proofs.Exact.{ancestors}
 use Rattle.model.proofs.Runs.{held-is, runOf}
 use Rattle.model.proofs.Tied.{Tied, low, high, step, mono, run-is, in-run, ancestors-are}
 use Rattle.model.proofs.Siding.{between-held, held-between}
-use Rattle.model.proofs.Seen.{Inv, start-is, lower-tied}
-use Rattle.model.proofs.FormedReads.{start-less, start-len, first-start}
+use Rattle.model.proofs.Seen.{start-is, lower-tied}
+use Rattle.model.proofs.FormedReads.{start-less, first-start}
 use Rattle.model.proofs.Critical.{critical-iff, log-inside, run-past, run-held, run-before, marks-critical}
 use Rattle.model.proofs.OwnLog.{ownLog, own-tied, own-events, own-lower, held-lower}
 use Rattle.model.proofs.Telling.{events-are}

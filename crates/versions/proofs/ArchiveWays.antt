@@ -4,15 +4,14 @@ use mathlib.Core.Path.{_≡_, refl, sym, ap, ap₂, _∙_}
 use mathlib.Core.Logic.{_⊎_, inl, inr, _↔_}
 use mathlib.Core.Bool.{Bool, true, false, cond}
 use mathlib.Core.List.{List, [], _∷_, map}
-use Prim.Native.Nat.{ℕ, zero, suc, _+_, _-_, _≤_, _<_}
-use native.Mathlib.Numerals.{add-one}
+use Prim.Native.Nat.{ℕ, suc, _+_, _≤_, _<_}
 use native.Mathlib.Omega.{arith}
 use lib.ListN.{length, take, drop, getD, length-take, length-drop}
 use lib.Seq.{getD-take, getD-drop}
 use lib.Dec.{leb, eqb}
 use borrow.Author.Tests.{leb-true, le-leb}
 use Rattle.lists.specs.Lists.{all, filter, count, upto, mem, rising, below}
-use Rattle.lists.specs.Scans.{keptIn, groupsFit}
+use Rattle.lists.specs.Scans.{keptIn}
 use Rattle.lists.specs.declared.Kept.{Kept}
 use Rattle.lists.proofs.Truth.{lt-or-le, bool-iff}
 use Rattle.lists.proofs.Members.{getD-all, all-from-on, filter-agree, filter-map}
@@ -32,7 +31,7 @@ use Rattle.model.specs.Cut.{writing, unwritten}
 use Rattle.model.specs.History.{at}
 use Rattle.model.specs.Archive.{seenByLater, archivePoints, archivePointsOf}
 use Rattle.model.proofs.Stored.{not-broken}
-use Rattle.model.proofs.FormedReads.{parents-first, start-mono, start-less}
+use Rattle.model.proofs.FormedReads.{start-mono, start-less}
 use Rattle.model.proofs.Archiving.{Parted, point-runs}
 use Rattle.graph.specs.declared.cut.Put.{Put}
 use Rattle.graph.specs.Cutting.{blank, putAll, writtenOf}
@@ -40,20 +39,13 @@ use Rattle.graph.specs.Loops.{marksOf}
 use Rattle.graph.specs.Rows.{row}
 use Rattle.graph.proofs.Views.{facts, runs-view, start-view, starts-pad}
 use Rattle.graph.proofs.Writing.{put-writing}
-use Rattle.graph.proofs.Entries.{parents-below, row-view}
+use Rattle.graph.proofs.Entries.{parents-below, parents-rise, row-view}
 use Rattle.graph.proofs.Marking.{isMark, marks-filter}
 use Rattle.versions.specs.Heads.{childless, heads, lastIn, highestBy, highest, firstChildren, isHead, headCount, wholeIn}
 use Rattle.versions.proofs.FirstChildren.{head-is}
 use Rattle.versions.proofs.Counting.{all-heads, count-is, count-fits}
 use Rattle.versions.proofs.Parting.{last-mem, last-most, parted-iff}
 use Rattle.versions.proofs.Points.{pointsOf}
-
--- Each run's parents rise
-groups-rise : (k : ℕ) (pss : List (List ℕ)) → groupsFit k pss ≡ true → (r : ℕ) → rising (at pss r) ≡ true
-unfolding at rising
-groups-rise k [] h r = refl
-groups-rise k (ps ∷ pss) h zero = (parents-first k ps pss h) .0
-groups-rise k (ps ∷ pss) h (suc r) = groups-rise (suc k) pss ((parents-first k ps pss h) .2) r
 
 module _ (g : CausalGraph) (held : Held g) where
   abbrev G : Graph
@@ -69,7 +61,7 @@ module _ (g : CausalGraph) (held : Held g) where
   rows = row (g .«parent_starts») (g .parents)
 
   rise : (r : ℕ) → rising (at pss r) ≡ true
-  rise = groups-rise 0 pss (held .formed .parents)
+  rise = parents-rise g held
 
   same : (c : ℕ) → c < n → rows c ≡ at pss c
   same c lt = row-view g held c lt

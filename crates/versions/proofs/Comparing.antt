@@ -10,7 +10,7 @@ use lib.Seq.{getD-set-same, getD-set-other}
 use lib.Dec.{leb, ltb, eqb}
 use borrow.Author.Tests.{le-leb, leb-true, lt-ltb, eq-eqb, ne-eqb, eqb-true, eqb-false, not-true}
 use Rattle.lists.specs.Lists.{bit, any, mem}
-use Rattle.lists.proofs.Truth.{lt-or-le, eq-or-not, and-left, and-right, and-both}
+use Rattle.lists.proofs.Truth.{lt-or-le, eq-or-not, not-so, and-left, and-right, and-both, and-false}
 use Rattle.lists.proofs.Members.{any-intro, any-elim}
 use Rattle.model.specs.EventGraph.{parent, further}
 use Rattle.model.specs.Graph.{Graph, runs}
@@ -18,8 +18,9 @@ use Rattle.model.specs.History.{at, runGraph, histories}
 use Rattle.model.specs.Beside.{concurrentRun}
 use Rattle.model.proofs.Ancestry.{before-trans}
 use Rattle.model.proofs.Histories.{Below, Reach, reach-below, history-iff, history-below}
+use Rattle.model.proofs.Maximal.{child}
 use Rattle.versions.specs.Flags.{flagAll, flagParents, flagDown, flagged, flagChild, flagUp, Flags}
-use Rattle.versions.proofs.Flagging.{flag-length, flag-get, flag-in, flag-stays, decided, no-of, and-false, only-first, only-second, free-is, child}
+use Rattle.versions.proofs.Flagging.{flag-length, flag-get, flag-in, flag-stays, decided, only-first, only-second, free-is}
 
 module _ (pss : List (List ℕ)) (below : Below pss) (rows : ℕ → List ℕ) (same : (k : ℕ) → k < length pss → rows k ≡ at pss k) (r : ℕ) (held : r < length pss) where
   -- r or an ancestor of it; r or a descendant
@@ -50,7 +51,7 @@ module _ (pss : List (List ℕ)) (below : Below pss) (rows : ℕ → List ℕ) (
 
   is-flagged : (flags : List ℕ) (c q : ℕ) → Down flags c → c ≤ suc q → Before q → getD flags q 0 ≡ 1
   is-flagged flags c q d le (inl e) = rw e (d .own)
-  is-flagged flags c q d le (inr h) = go (child pss h)
+  is-flagged flags c q d le (inr h) = go (child (runGraph pss) h)
     where
       go : (k : ℕ) × (mem q (at pss k) ≡ true) × ((k ≡ r) ⊎ Reach pss k r) → getD flags q 0 ≡ 1
       go t = d .done (t .0) q (omega (arith, below (t .0) q (t .1))) (t .2) (t .1)
@@ -121,7 +122,8 @@ module _ (pss : List (List ℕ)) (below : Below pss) (rows : ℕ → List ℕ) (
     done : (p : ℕ) → p < q → After p → getD flags p 0 ≡ 1
 
   -- a run has a parent that is flagged, from r on, just where it is a descendant
-  child-is : (was flags : List ℕ) (q : ℕ) → r < q → q < length pss → Upward was flags q → (any (flagged flags r) (at pss q) ≡ true → Reach pss r q) × (Reach pss r q → any (flagged flags r) (at pss q) ≡ true)
+  child-is : (was flags : List ℕ) (q : ℕ) → r < q → q < length pss → Upward was flags q →
+      (any (flagged flags r) (at pss q) ≡ true → Reach pss r q) × (Reach pss r q → any (flagged flags r) (at pss q) ≡ true)
   unfolding flagged
   child-is was flags q gt lt u = ((λ h. out (any-elim (flagged flags r) (at pss q) h)), (λ s. into s refl))
     where
@@ -224,10 +226,10 @@ module _ (pss : List (List ℕ)) (below : Below pss) (rows : ℕ → List ℕ) (
       by : (q < r) ⊎ (r ≤ q) → (q ≡ r) ⊎ (q ≡ r → ⊥) → Told
       by o (inl e) = rw (eq-eqb q r e, ap (λ (k : ℕ). getD up k 0) e ∙ u .own) (sym (and-false (ltb q (length pss) && not (mem q (at (histories pss) r)) && not (mem r (at (histories pss) q)))))
       by (inl l) (inr n) =
-          rw (lt-ltb q (length pss) h, ne-eqb q r n, no-of (mem r (at (histories pss) q)) (λ m. omega (arith, history-below pss below r q h m)))
+          rw (lt-ltb q (length pss) h, ne-eqb q r n, not-so (mem r (at (histories pss) q)) (λ m. omega (arith, history-below pss below r q h m)))
           (lower l n ∙ only-first (mem q (at (histories pss) r)))
       by (inr l) (inr n) =
-          rw (lt-ltb q (length pss) h, ne-eqb q r n, no-of (mem q (at (histories pss) r)) (λ m. omega (arith, history-below pss below q r held m)))
+          rw (lt-ltb q (length pss) h, ne-eqb q r n, not-so (mem q (at (histories pss) r)) (λ m. omega (arith, history-below pss below q r held m)))
           (upper l n ∙ only-second (mem r (at (histories pss) q)))
 
   pub both-passes : (flags : List ℕ) → length pss ≤ length flags → ((q : ℕ) → getD flags q 0 ≡ 0) → (q : ℕ) → q < length pss →

@@ -9,7 +9,6 @@ use lib.ListN.{length, getD, set, length-set}
 use lib.Dec.{eqb}
 use borrow.Author.Tests.{lt-ltb, le-ltb, le-leb, lt-leb}
 use Rattle.lists.specs.Lists.{filter, from, upto}
-use Rattle.lists.specs.Areas.{over}
 use Rattle.lists.specs.Scans.{keptIn}
 use Rattle.lists.specs.declared.Kept.{Kept}
 use Rattle.lists.proofs.Counts.{filter-same}

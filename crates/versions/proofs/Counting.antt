@@ -1,8 +1,8 @@
 -- How many heads lie below a run, and whether a run has all of them for parents, by counts. Assumes nothing.
 use mathlib.Core.Path.{_≡_, refl, sym, ap, _∙_}
 use mathlib.Core.Bool.{Bool, true, false, not, _&&_}
-use mathlib.Core.List.{List, [], _∷_, _++_}
-use Prim.Native.Nat.{ℕ, zero, suc, _+_, _-_, _≤_, _<_}
+use mathlib.Core.List.{List, [], _∷_}
+use Prim.Native.Nat.{ℕ, zero, suc, _+_, _≤_, _<_}
 use native.Mathlib.Omega.{arith}
 use lib.ListN.{length}
 use lib.Dec.{eqb}
@@ -10,7 +10,6 @@ use Rattle.lists.specs.Lists.{all, filter, count, from, upto, mem, rising}
 use Rattle.lists.proofs.Truth.{not-so}
 use Rattle.lists.proofs.Members.{all-of, all-both}
 use Rattle.lists.proofs.Counts.{mem-from, upto-snoc, count-append, count-same, count-le, filter-count}
-use Rattle.lists.proofs.Rising.{rising-from}
 use Rattle.lists.proofs.Passing.{passing-test, passing-rises}
 use Rattle.lists.proofs.Sharing.{count-all, count-filter, count-parted, count-shared}
 use Rattle.model.specs.History.{at}

@@ -1,22 +1,20 @@
 -- The first children that are noted tell which runs have no child below a run. Assumes nothing.
-use mathlib.Core.Path.{_≡_, refl, sym, ap, _∙_}
+use mathlib.Core.Path.{_≡_, refl, sym, _∙_}
 use mathlib.Core.Logic.{_⊎_, inl, inr}
-use mathlib.Core.Bool.{Bool, true, false, not, cond, _&&_, _||_}
+use mathlib.Core.Bool.{Bool, true, false, not, cond, _||_}
 use mathlib.Core.List.{List, [], _∷_}
 use Prim.Native.Nat.{ℕ, zero, suc, _≤_, _<_}
 use native.Mathlib.Omega.{arith}
 use lib.ListN.{length, getD, set, length-set}
 use lib.Seq.{getD-set-same, getD-set-other}
 use lib.Dec.{leb, eqb}
-use borrow.Author.Tests.{eq-eqb, ne-eqb, eqb-true, le-leb, lt-leb, not-true}
+use borrow.Author.Tests.{eq-eqb, ne-eqb, le-leb, lt-leb}
 use Rattle.lists.specs.Lists.{all, upto, mem}
-use Rattle.lists.specs.Areas.{pad}
 use Rattle.lists.proofs.Truth.{lt-or-le, eq-or-not, lt-of-ne, false-true, not-so}
-use Rattle.lists.proofs.Members.{all-of, all-at, all-same}
+use Rattle.lists.proofs.Members.{all-of, all-at}
 use Rattle.lists.proofs.Counts.{mem-from, upto-mem}
 use Rattle.lists.proofs.Pads.{get-pad, length-pad}
 use Rattle.model.specs.History.{at}
-use Rattle.model.proofs.Histories.{Below}
 use Rattle.versions.specs.Heads.{childless, firstOf, noteAll, firstChildren, isHead}
 
 -- One run noted as a child of some

@@ -1,5 +1,5 @@
--- Flags of some runs, a flag as a truth, and a run's child on the way to a later run. Assumes nothing.
-use mathlib.Core.Path.{_≡_, refl, sym, ap, _∙_, subst}
+-- Flags of some runs, and a flag as a truth. Assumes nothing.
+use mathlib.Core.Path.{_≡_, refl, ap, _∙_}
 use mathlib.Core.Logic.{_⊎_, inl, inr}
 use mathlib.Core.Bool.{Bool, true, false, not, cond, _&&_, _||_}
 use mathlib.Core.List.{List, [], _∷_}
@@ -11,9 +11,6 @@ use lib.Dec.{eqb}
 use borrow.Author.Tests.{eq-eqb, ne-eqb}
 use Rattle.lists.specs.Lists.{mem}
 use Rattle.lists.proofs.Truth.{eq-or-not, false-true}
-use Rattle.model.specs.EventGraph.{parent, further}
-use Rattle.model.specs.History.{at}
-use Rattle.model.proofs.Histories.{Reach}
 use Rattle.versions.specs.Flags.{flagAll}
 
 -- Flags for some runs
@@ -47,14 +44,6 @@ pub decided : (t : Bool) → (t ≡ true) ⊎ (t ≡ false)
 decided true = inl refl
 decided false = inr refl
 
-pub no-of : (t : Bool) → (t ≡ true → ⊥) → t ≡ false
-no-of true h = absurd (h refl)
-no-of false h = refl
-
-pub and-false : (t : Bool) → t && false ≡ false
-and-false true = refl
-and-false false = refl
-
 pub only-first : (m : Bool) → not m ≡ true && not m && not false && not false
 only-first true = refl
 only-first false = refl
@@ -67,15 +56,3 @@ pub free-is : (n : ℕ) (t : Bool) → (t ≡ true → n ≡ 1) → (n ≡ 0) �
 free-is n true h k = ne-eqb n 0 (λ e. omega (arith, h refl))
 free-is n false h (inl e) = eq-eqb n 0 e
 free-is n false h (inr e) = false-true e
-
--- A run that happened before another has a child that is the other or happened before it
-pub child : (pss : List (List ℕ)) {m r : ℕ} → Reach pss m r → (k : ℕ) × (mem m (at pss k) ≡ true) × ((k ≡ r) ⊎ Reach pss k r)
-child pss {m} {r} (parent h) = (r, h, inl refl)
-child pss {m} {r} (further {q = q} h s) = go (child pss s)
-  where
-    go : (k : ℕ) × (mem m (at pss k) ≡ true) × ((k ≡ q) ⊎ Reach pss k q) → (k : ℕ) × (mem m (at pss k) ≡ true) × ((k ≡ r) ⊎ Reach pss k r)
-    go t = (t .0, t .1, inr (on (t .2)))
-      where
-        on : (t .0 ≡ q) ⊎ Reach pss (t .0) q → Reach pss (t .0) r
-        on (inl e) = parent (subst (λ (x : ℕ). mem x (at pss r) ≡ true) (sym e) h)
-        on (inr s) = further h s

@@ -1,6 +1,6 @@
 -- Run r parts the others, so that every run from r on has every run before r among its ancestors, exactly if each run from r on, by its own
 -- parents, lets r start at an archive point. Assumes nothing.
-use mathlib.Core.Path.{_≡_, refl, sym, ap, _∙_}
+use mathlib.Core.Path.{_≡_, refl, sym, _∙_}
 use mathlib.Core.Logic.{_⊎_, inl, inr, _↔_}
 use mathlib.Core.Bool.{Bool, true, false, cond}
 use mathlib.Core.List.{List, [], _∷_}
@@ -8,7 +8,7 @@ use Prim.Native.Nat.{ℕ, zero, suc, _-_, _≤_, _<_}
 use native.Mathlib.Omega.{arith}
 use lib.ListN.{length, getD}
 use Rattle.lists.specs.Lists.{all, upto, mem, rising}
-use Rattle.lists.proofs.Truth.{lt-or-le, eq-or-not, false-true}
+use Rattle.lists.proofs.Truth.{lt-or-le, false-true}
 use Rattle.lists.proofs.Members.{mem-index, getD-mem, all-of, all-at}
 use Rattle.lists.proofs.Counts.{mem-from, upto-mem}
 use Rattle.lists.proofs.Rising.{rising-getD}

@@ -1,7 +1,7 @@
 -- A held record's arrays give the definitions' ranges of its graph. Assumes nothing.
-use mathlib.Core.Path.{_≡_, refl, sym, ap, ap₂, _∙_}
+use mathlib.Core.Path.{_≡_, sym, ap, ap₂, _∙_}
 use mathlib.Core.Logic.{_⊎_, inl, inr}
-use mathlib.Core.Bool.{true, false, _&&_}
+use mathlib.Core.Bool.{true, false}
 use mathlib.Core.List.{List, [], _∷_, _++_, map, map-append}
 use Prim.Native.Nat.{ℕ, zero, suc, _+_, _-_, _≤_, _<_}
 use native.Mathlib.Numerals.{add-one}
@@ -9,10 +9,9 @@ use native.Mathlib.Omega.{arith}
 use lib.ListN.{length, getD, take, drop, length-drop, length-take, List·getD-eq-default}
 use lib.Seq.{take-suc, getD-drop, getD-take, length-take-le}
 use lib.Dec.{leb}
-use Rattle.lists.specs.Lists.{filter, mem, rising, below}
+use Rattle.lists.specs.Lists.{filter, mem, rising}
 use Rattle.lists.specs.Areas.{part, groups}
-use Rattle.lists.specs.Scans.{groupsFit}
-use Rattle.lists.proofs.Truth.{lt-or-le, false-true, and-left, and-right}
+use Rattle.lists.proofs.Truth.{lt-or-le, false-true}
 use Rattle.lists.proofs.Bounds.{below-at}
 use Rattle.lists.proofs.Pads.{get-pad}
 use Rattle.lists.proofs.Rising.{rising-getD}
@@ -26,7 +25,7 @@ use Rattle.model.specs.Record.{view}
 use Rattle.model.specs.Broken.{Held}
 use Rattle.graph.specs.Rows.{row, Rows}
 use Rattle.graph.proofs.Views.{facts, runs-view, start-view, starts-list, starts-count, starts-pad}
-use Rattle.graph.proofs.Entries.{row-view, rows-of}
+use Rattle.graph.proofs.Entries.{parents-rise, row-view, rows-of}
 use Rattle.tables.specs.Laid.{shares, grouped, Sound}
 use Rattle.walk.specs.Ranges.{rangeBy, offsets, rangeIn, Arrays}
 
@@ -95,13 +94,6 @@ same-part : (a k m : ℕ) (l : List ℕ) → a + k ≤ m → take k (drop a (tak
 unfolding part
 same-part a k m l h = let q : a + k - a ≡ k = omega arith in rw q at (part-take a (a + k) m l h)
 
--- Groups that fit rise
-groups-rise : (k : ℕ) (pss : List (List ℕ)) → groupsFit k pss ≡ true → (r : ℕ) → rising (at pss r) ≡ true
-unfolding groupsFit at
-groups-rise k [] h r = unfold rising in refl
-groups-rise k (ps ∷ pss) h zero = and-left (rising ps) (below k ps) (and-left (rising ps && below k ps) (groupsFit (suc k) pss) h)
-groups-rise k (ps ∷ pss) h (suc r) = groups-rise (suc k) pss (and-right (rising ps && below k ps) (groupsFit (suc k) pss) h) r
-
 module _ (g : CausalGraph) (held : Held g) where
   -- Starts past the used part are 0 in both
   pub starts-same : (i : ℕ) → getD (g .starts) i 0 ≡ getD (view g .starts) i 0
@@ -136,7 +128,7 @@ module _ (g : CausalGraph) (held : Held g) where
   pub arrays-of : (n : ℕ) → n ≤ g .«run_count» → Arrays (g .starts) (g .«parent_starts») (g .parents) n
   arrays-of n le = record {
     sound = sound-of (g .«parent_starts») (g .parents) (g .«run_count») n (rows-of g held) le;
-    rise = λ r lt. ap rising (rows-are r (omega arith)) ∙ groups-rise 0 (view g .parents) (held .formed .parents) r;
+    rise = λ r lt. ap rising (rows-are r (omega arith)) ∙ parents-rise g held r;
     order = λ r lt.
         omega (
           arith,

@@ -1,12 +1,11 @@
 -- `versions::archive::head_counts` meets its contract. The loop's invariant: the count below the next run, and each place so far. The measure is what is left of `n`. Assumes nothing.
 use borrow.Author.Needs.{needs}
-use mathlib.Core.Path.{_≡_, refl, _∙_, ap}
+use mathlib.Core.Path.{_≡_}
 use Prim.Native.Nat.{ℕ, _≤_, _<_, _-_, _+_}
 use native.Mathlib.Omega.{arith}
 use lib.ListN.{length, getD, length-set}
-use Rattle.lists.specs.Lists.{count}
 use Rattle.graph.specs.Rows.{row}
-use Rattle.versions.specs.Heads.{isHead, headCount}
+use Rattle.versions.specs.Heads.{headCount}
 use Rattle.versions.proofs.Passes.{row-below}
 use Rattle.versions.proofs.HeadTurns.{blank-length, count-start, count-turn, filled-next}
 use Rattle.versions.proofs.archive.head_counts.Statement.{statement}

@@ -1,6 +1,5 @@
 -- `versions::archive::highest` meets its contract: with no parents, with all heads, and without. Assumes nothing.
-use mathlib.Core.Path.{_≡_, sym, _∙_}
-use mathlib.Core.Bool.{cond}
+use mathlib.Core.Path.{sym, _∙_}
 use Prim.Native.Nat.{_-_, _+_}
 use native.Mathlib.Omega.{arith}
 use lib.ListN.{length, getD}

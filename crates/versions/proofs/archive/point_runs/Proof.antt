@@ -1,9 +1,6 @@
 -- `versions::archive::point_runs` meets its contract: the runs that are marked by what the passes find start at archive points. Assumes nothing.
-use mathlib.Core.Path.{_≡_, sym, _∙_, ap, subst}
-use mathlib.Core.List.{List}
-use Prim.Native.Nat.{ℕ, _≤_, _<_}
+use mathlib.Core.Path.{_∙_, ap}
 use native.Mathlib.Omega.{arith}
-use lib.ListN.{length}
 use Rattle.lists.specs.Scans.{keptIn}
 use Rattle.graph.proofs.Views.{facts}
 use Rattle.graph.proofs.Entries.{rows-of}

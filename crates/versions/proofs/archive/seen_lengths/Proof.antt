@@ -1,6 +1,6 @@
 -- `versions::archive::seen_lengths` meets its contract. The loop's invariant: each place so far. The measure is what is left of `n`. Assumes nothing.
 use borrow.Author.Needs.{needs}
-use mathlib.Core.Path.{_≡_, _∙_, ap}
+use mathlib.Core.Path.{_≡_, ap}
 use Prim.Native.Nat.{ℕ, _≤_, _<_, _-_, _+_}
 use native.Mathlib.Omega.{arith}
 use lib.ListN.{length, getD, length-set}

@@ -28,7 +28,8 @@ returns-2 : tie.Need-returns-2
 returns-2 c =
     let a = c .before .before .before .before .before .before .before .args in
     let p = c .before .before .before .before .before .before .before .pre in
-    concurrent-short (a .g) (a .run .0) (a .list .now) (p) (c .before .before .before .before .if1 .left) (c .before .before .before .flags-of .result) (c .before .before .before .flags-of .ensures) (omega (arith, c .before .count-free .ensures, c .if2 .taken))
+    concurrent-short (a .g) (a .run .0) (a .list .now) (p) (c .before .before .before .before .if1 .left)
+    (c .before .before .before .flags-of .result) (c .before .before .before .flags-of .ensures) (omega (arith, c .before .count-free .ensures, c .if2 .taken))
 
 slice-aggregate-put-all-free : tie.Need-slice-aggregate-put-all-free
 slice-aggregate-put-all-free c = search needs
@@ -49,7 +50,11 @@ returns-3 : tie.Need-returns-3
 returns-3 c =
     let a = c .before .before .before .before .before .before .before .before .before .before .before .before .before .args in
     let p = c .before .before .before .before .before .before .before .before .before .before .before .before .before .pre in
-    rw (c .written .ensures) (concurrent-done (a .g) (a .run .0) (a .list .now) (p) (c .before .before .before .before .before .before .before .before .before .before .if1 .left) (c .before .before .before .before .before .before .before .before .before .flags-of .result) (c .before .before .before .before .before .before .before .before .before .flags-of .ensures) (omega (arith, c .before .before .before .before .before .before .before .count-free .ensures, c .before .before .before .before .before .before .if2 .left)) _ _ (c .before .before .before .put-all-free .ensures))
+    rw (c .written .ensures) (concurrent-done (a .g) (a .run .0) (a .list .now) (p)
+    (c .before .before .before .before .before .before .before .before .before .before .if1 .left) (c .before .before .before .before .before .before .before .before .before .flags-of .result)
+    (c .before .before .before .before .before .before .before .before .before .flags-of .ensures)
+    (omega (arith, c .before .before .before .before .before .before .before .count-free .ensures, c .before .before .before .before .before .before .if2 .left))
+    _ _ (c .before .before .before .put-all-free .ensures))
 
 pub concurrent-held-spec : {M : Type 1} → statement M
 concurrent-held-spec =

@@ -31,8 +31,15 @@ loop-less c = search needs
 
 loop-again : tie.Need-loop-again Inv-loop μ-loop
 loop-again c =
-    let a = c .before .before .before .before .before .before .before .before .before .args in
-    (c .before .before .flag-parents .kept .0 ∙ c .before .before .before .before .before .loop .inv .0, (omega arith, ap (λ (l : List ℕ). flagDown (row (a .starts .now) (a .items .now)) l (c .before .before .before .before .before .loop .c - 1)) (c .before .before .flag-parents .ensures) ∙ (down-next (row (a .starts .now) (a .items .now)) (c .before .before .before .before .before .loop .flags) (c .before .before .before .before .before .loop .c) (c .before .before .before .before .loop-test .taken) ∙ c .before .before .before .before .before .loop .inv .1 .1)))
+    let a = c .before .before .before .before .before .before .before .before .before .args in (
+      c .before .before .flag-parents .kept .0 ∙ c .before .before .before .before .before .loop .inv .0,
+      (
+        omega arith,
+        ap (λ (l : List ℕ). flagDown (row (a .starts .now) (a .items .now)) l (c .before .before .before .before .before .loop .c - 1)) (c .before .before .flag-parents .ensures) ∙
+            (down-next (row (a .starts .now) (a .items .now)) (c .before .before .before .before .before .loop .flags)
+            (c .before .before .before .before .before .loop .c) (c .before .before .before .before .loop-test .taken) ∙ c .before .before .before .before .before .loop .inv .1 .1),
+      ),
+    )
 
 same-length : tie.Need-same-length Inv-loop μ-loop
 same-length c = c .before .loop .inv .0

@@ -34,7 +34,9 @@ returns c =
     let a = c .before .before .before .before .before .before .before .args in
     let p = c .before .before .before .before .before .before .before .pre in
     let l = c .before .before .before .before .loop in
-    ap bit (found (flagged (a .flags .now) (a .run .0) (getD (a .items .now) (l .i) 0)) (any (flagged (a .flags .now) (a .run .0)) (part (l .i + 1) (a .to) (a .items .now))) (l .inv) (any-next (a .items .now) (a .to) (p) (l .i) (flagged (a .flags .now) (a .run .0)) (c .before .before .before .loop-test .taken)) (sym (c .before .is-flagged .ensures) ∙ c .if1 .taken))
+    ap bit (found (flagged (a .flags .now) (a .run .0) (getD (a .items .now) (l .i) 0))
+    (any (flagged (a .flags .now) (a .run .0)) (part (l .i + 1) (a .to) (a .items .now))) (l .inv)
+    (any-next (a .items .now) (a .to) (p) (l .i) (flagged (a .flags .now) (a .run .0)) (c .before .before .before .loop-test .taken)) (sym (c .before .is-flagged .ensures) ∙ c .if1 .taken))
 
 add-i : tie.Need-add-i Inv-loop μ-loop
 add-i c = search needs
@@ -47,7 +49,9 @@ loop-again c =
     let a = c .before .before .before .before .before .before .before .args in
     let p = c .before .before .before .before .before .before .before .pre in
     let l = c .before .before .before .before .loop in
-    missed (flagged (a .flags .now) (a .run .0) (getD (a .items .now) (l .i) 0)) (any (flagged (a .flags .now) (a .run .0)) (part (l .i + 1) (a .to) (a .items .now))) (l .inv) (any-next (a .items .now) (a .to) (p) (l .i) (flagged (a .flags .now) (a .run .0)) (c .before .before .before .loop-test .taken)) (sym (c .before .is-flagged .ensures) ∙ c .if1 .left)
+    missed (flagged (a .flags .now) (a .run .0) (getD (a .items .now) (l .i) 0))
+    (any (flagged (a .flags .now) (a .run .0)) (part (l .i + 1) (a .to) (a .items .now))) (l .inv)
+    (any-next (a .items .now) (a .to) (p) (l .i) (flagged (a .flags .now) (a .run .0)) (c .before .before .before .loop-test .taken)) (sym (c .before .is-flagged .ensures) ∙ c .if1 .left)
 
 returns-2 : tie.Need-returns-2 Inv-loop μ-loop
 returns-2 c =

@@ -37,8 +37,14 @@ loop-less c = search needs
 
 loop-again : tie.Need-loop-again Inv-loop μ-loop
 loop-again c =
-    let a = c .before .before .before .before .before .before .before .before .before .before .args in
-    (c .before .before .flag-child .kept .0 ∙ c .before .before .before .before .before .loop .inv .0, ap (λ (l : List ℕ). flagUp (row (a .starts .now) (a .items .now)) (a .run .0) l (c .before .before .before .before .before .loop .q + 1) (a .n - (c .before .before .before .before .before .loop .q + 1))) (c .before .before .flag-child .ensures) ∙ (up-next (row (a .starts .now) (a .items .now)) (a .run .0) (c .before .before .before .before .before .loop .flags) (c .before .before .before .before .before .loop .q) (a .n) (c .before .before .before .before .loop-test .taken) ∙ c .before .before .before .before .before .loop .inv .1))
+    let a = c .before .before .before .before .before .before .before .before .before .before .args in (
+      c .before .before .flag-child .kept .0 ∙ c .before .before .before .before .before .loop .inv .0,
+      ap (λ (l : List ℕ). flagUp (row (a .starts .now) (a .items .now)) (a .run .0)
+          l (c .before .before .before .before .before .loop .q + 1) (a .n - (c .before .before .before .before .before .loop .q + 1)))
+          (c .before .before .flag-child .ensures) ∙
+          (up-next (row (a .starts .now) (a .items .now)) (a .run .0) (c .before .before .before .before .before .loop .flags) (c .before .before .before .before .before .loop .q) (a .n)
+          (c .before .before .before .before .loop-test .taken) ∙ c .before .before .before .before .before .loop .inv .1),
+    )
 
 same-length : tie.Need-same-length Inv-loop μ-loop
 same-length c = c .before .loop .inv .0

@@ -34,8 +34,14 @@ slice-aggregate-flag-down c = search needs
 flag-down-requires : tie.Need-flag-down-requires
 flag-down-requires c κs =
     let a = c .before .before .before .before .before .before .before .before .before .before .args in
-    let p = c .before .before .before .before .before .before .before .before .before .before .pre in
-    (rows-of (a .t1) (p .0), (kept-room (c .before .before .before .before .before .before .before .nothing .result) (a .run .0) (a .t1 .«run_count») (c .before .before .before .before .before .before .before .nothing .ensures) (facts (a .t1) (p .0) .runs), omega arith))
+    let p = c .before .before .before .before .before .before .before .before .before .before .pre in (
+      rows-of (a .t1) (p .0),
+      (
+        kept-room (c .before .before .before .before .before .before .before .nothing .result)
+            (a .run .0) (a .t1 .«run_count») (c .before .before .before .before .before .before .before .nothing .ensures) (facts (a .t1) (p .0) .runs),
+        omega arith,
+      ),
+    )
 
 slice-aggregate-flag-up : tie.Need-slice-aggregate-flag-up
 slice-aggregate-flag-up c = search needs
@@ -50,7 +56,12 @@ returns : tie.Need-returns
 returns c =
     let a = c .before .before .before .before .before .before .before .before .before .before .before .before .before .before .before .before .before .before .before .before .args in
     let p = c .before .before .before .before .before .before .before .before .before .before .before .before .before .before .before .before .before .before .before .before .pre in
-    subst (λ (l : List ℕ). Flags (view (a .t1)) (a .run .0) l) (sym (c .before .flag-up .ensures ∙ ap (λ (l : List ℕ). flagUp (row (a .t1 .«parent_starts») (a .t1 .parents)) (a .run .0) l (a .run .0 + 1) (a .t1 .«run_count» - (a .run .0 + 1))) (c .before .before .before .before .before .before .before .before .before .flag-down .ensures))) (passes-flag (a .t1) (p .0) (a .run .0) (p .1) (c .before .before .before .before .before .before .before .before .before .before .before .before .before .before .before .before .before .nothing .result) (c .before .before .before .before .before .before .before .before .before .before .before .before .before .before .before .before .before .nothing .ensures))
+    subst (λ (l : List ℕ). Flags (view (a .t1)) (a .run .0) l)
+    (sym (c .before .flag-up .ensures ∙ ap (λ (l : List ℕ). flagUp (row (a .t1 .«parent_starts») (a .t1 .parents)) (a .run .0) l (a .run .0 + 1) (a .t1 .«run_count» - (a .run .0 + 1)))
+    (c .before .before .before .before .before .before .before .before .before .flag-down .ensures)))
+    (passes-flag (a .t1) (p .0) (a .run .0) (p .1)
+    (c .before .before .before .before .before .before .before .before .before .before .before .before .before .before .before .before .before .nothing .result)
+    (c .before .before .before .before .before .before .before .before .before .before .before .before .before .before .before .before .before .nothing .ensures))
 
 pub flags-of-spec : {M : Type 1} → statement M
 flags-of-spec =

@@ -50,8 +50,13 @@ loop-again : tie.Need-loop-again Inv-loop μ-loop
 loop-again c =
     let a = c .before .before .before .args in
     let p = c .before .before .before .pre in
-    let l = c .before .before .loop in
-    (simp length-set (l .inv .0), (part-later (a .items .now) (a .to) (p .0) (l .i) (length (a .flags .now)) (c .before .loop-test .taken) (l .inv .1 .0), flag-next (a .items .now) (a .to) (p .0) (l .i) (l .flags) (c .before .loop-test .taken) ∙ l .inv .1 .1))
+    let l = c .before .before .loop in (
+      simp length-set (l .inv .0),
+      (
+        part-later (a .items .now) (a .to) (p .0) (l .i) (length (a .flags .now)) (c .before .loop-test .taken) (l .inv .1 .0),
+        flag-next (a .items .now) (a .to) (p .0) (l .i) (l .flags) (c .before .loop-test .taken) ∙ l .inv .1 .1,
+      ),
+    )
 
 same-length : tie.Need-same-length Inv-loop μ-loop
 same-length c = c .before .loop .inv .0

@@ -34,7 +34,8 @@ same-length c = search needs
 returns-3 : tie.Need-returns-3
 returns-3 c =
     let a = c .before .before .before .args in
-    ap {B = Put × List ℕ} (λ (l : List ℕ). (record { count = a .p .count + 1; short = 0 }, l)) (one-word (a .list .now) (a .p .count) (a .a) (omega arith)) ∙ sym (put-one 1 (a .p .count) (a .list .now) (a .a ∷ []) (a .p .short) (c .before .if1 .left) (omega arith))
+    ap {B = Put × List ℕ} (λ (l : List ℕ). (record { count = a .p .count + 1; short = 0 }, l)) (one-word (a .list .now) (a .p .count) (a .a) (omega arith)) ∙
+    sym (put-one 1 (a .p .count) (a .list .now) (a .a ∷ []) (a .p .short) (c .before .if1 .left) (omega arith))
 
 pub put-one-spec : {M : Type 1} → statement M
 put-one-spec =
