@@ -2,7 +2,8 @@
 //!
 //! From the Rust: every push, run start, take, cut, walk step and lookup that 01 accepts, and the
 //! starts, parents, frontier and marks. From 01's plain model, since the Rust has no such thing or
-//! keeps it private: the refusals, the rows, the seen lengths and `changed_from` between takes.
+//! keeps it private: the refusals, the rows, the seen lengths, `changed_from` between takes, and the
+//! archive points (02, F-6), of starts and parents that are the Rust's.
 //! Each answer that both have is compared; where they part it panics and says so.
 //! After a raw record (operation 14), which cannot be put into the Rust, the model answers alone;
 //! where the record is broken, all that looks at the graph is refused by 1.
@@ -277,8 +278,9 @@ impl Oracle {
             6 => self.written("walk", &self.walk(call[1], call[2], call[3], call[4], room(5), room(6))),
             7 => self.written("replay", &self.replay(room(1), room(2))),
             8 => {
-                let starts = same("starts", self.of_rust(rust_starts), self.model.starts.clone());
-                let points: Vec<u32> = self.marks().iter().map(|&run| starts[run as usize]).collect();
+                same("starts", self.of_rust(rust_starts), self.model.starts.clone());
+                same("parents", self.of_rust(rust_parents), self.model.parents.clone());
+                let points = self.model.archive_points();
                 let fit = points.len().min(room(1));
                 format!("archive {} {fit} :{}", if fit < points.len() { 11 } else { 0 }, words(&points[..fit]))
             }

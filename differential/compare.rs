@@ -12,6 +12,7 @@ mod cases;
 mod failing;
 #[allow(dead_code)]
 mod model;
+mod points;
 mod record;
 mod records;
 mod scripts;
@@ -33,7 +34,7 @@ const STREAM: usize = 400000;
 
 /// Lines by operation and what is returned.
 type Counts = BTreeMap<(u32, String), u64>;
-/// Walks, replays, concurrency lists and run starts that have something of note; how many.
+/// Walks, replays, concurrency lists, run starts and graphs that have something of note; how many.
 type Notes = BTreeMap<&'static str, u64>;
 
 const NAMES: [&str; 16] = ["new", "after", "push", "start", "take", "cut", "walk", "replay", "archive", "concurrent", "run", "event", "extends", "graph", "raw", "reader"];
@@ -461,6 +462,12 @@ fn main() {
     part("run starts told true, made again: random scripts, and with the tables full", &|feed| {
         starts::random(feed, (count / 10).max(1), seed);
         starts::full(feed)
+    });
+    part("archive points (02, F-6): all lists of four calls from `new`, of three from each `after` of 1 or 2 events", &|feed| points::small(feed, 4));
+    part("archive points (02, F-6): random graphs in layers, graphs at the limits, records by hand", &|feed| {
+        points::random(feed, (count / 5).max(1), seed);
+        points::at_limits(feed, seed);
+        points::records(feed, (count / 2).max(1), seed)
     });
     if scripts::WALKS {
         part("walks and replays in every room from 0 to enough", &|feed| walks::in_every_room(feed, (count / 40).max(1), seed));

@@ -234,6 +234,10 @@ impl Search {
             if marked.iter().any(|start| !of_paper.contains(start)) {
                 self.wrong.push(format!("marked and not critical: {}", script_text(calls)));
             }
+            let starts = plain.starts[..runs as usize].iter().copied();
+            if plain.archive_points() != starts.filter(|start| of_paper.contains(start)).collect::<Vec<_>>() {
+                self.wrong.push(format!("archive points (02, F-6) are not the critical starts of runs: {}", script_text(calls)));
+            }
             let childless: Vec<u32> = (first..len).filter(|event| !ancestors(calls).iter().flatten().any(|parent| parent == event)).collect();
             if !plain.frontier.ends_with(&childless) || plain.frontier.len() > childless.len() + first as usize {
                 self.wrong.push(format!("the frontier is not the childless events: {}", script_text(calls)));

@@ -1,4 +1,4 @@
-//! Document 01 as plain, slow code, written from its sentences and not from the Rust.
+//! Document 01, with what 02 has changed, as plain, slow code, written from its sentences and not from the Rust.
 //! Refusals are 01's numbers. Refusals 1, 11 and 13 to 16 are not here: this graph is never broken,
 //! and lists are as long as need be.
 
@@ -36,6 +36,22 @@ pub struct Walked {
 
 fn rising(list: &[u32]) -> bool {
     list.windows(2).all(|pair| pair[0] < pair[1])
+}
+
+/// Each run's ancestors, as a set, from the parents of each.
+fn histories(parents: &[Vec<usize>]) -> Vec<Vec<bool>> {
+    let mut history: Vec<Vec<bool>> = vec![];
+    for list in parents {
+        let mut set = vec![false; parents.len()];
+        for &p in list {
+            set[p] = true;
+            for earlier in 0..p {
+                set[earlier] |= history[p][earlier];
+            }
+        }
+        history.push(set);
+    }
+    history
 }
 
 impl Graph {
@@ -212,6 +228,47 @@ impl Graph {
         }
     }
 
+    /// The starts of the runs such that each event from that start on has all held events before that start as ancestors (02, F-6). By runs;
+    /// where few events are held, by events too. Panics if the two differ.
+    pub fn archive_points(&self) -> Vec<u32> {
+        let points = self.points_by_runs();
+        if self.len() - self.first_held() <= 64 {
+            let by_events = self.points_by_events();
+            assert!(by_events == points, "archive points by events {by_events:?}, by runs {points:?}, of {self:?}");
+        }
+        points
+    }
+
+    /// As the sentence has it: each event's ancestors, from parent to parent, and then every event from a start on.
+    fn points_by_events(&self) -> Vec<u32> {
+        let (first, held) = (self.first_held(), (self.len() - self.first_held()) as usize);
+        let mut parents: Vec<Vec<u32>> = vec![];
+        for run in 0..self.runs() {
+            parents.push(self.parents[run].iter().map(|&parent| self.starts[parent as usize + 1] - 1).collect());
+            parents.extend((self.starts[run] + 1..self.starts[run + 1]).map(|event| vec![event - 1]));
+        }
+        let mut ancestors = vec![vec![false; held]; held];
+        for event in 0..held {
+            let mut todo = parents[event].clone();
+            while let Some(parent) = todo.pop().map(|parent| (parent - first) as usize) {
+                if !ancestors[event][parent] {
+                    ancestors[event][parent] = true;
+                    todo.extend(&parents[parent]);
+                }
+            }
+        }
+        let is_point = |start: usize| (start..held).all(|event| (0..start).all(|before| ancestors[event][before]));
+        self.starts[..self.runs()].iter().copied().filter(|&start| is_point((start - first) as usize)).collect()
+    }
+
+    /// Each run from it on has each run before it as an ancestor.
+    fn points_by_runs(&self) -> Vec<u32> {
+        let parents: Vec<Vec<usize>> = self.parents.iter().map(|list| list.iter().map(|&parent| parent as usize).collect()).collect();
+        let history = histories(&parents);
+        let is_point = |run: usize| history[run..].iter().all(|set| set[..run].iter().all(|&seen| seen));
+        (0..self.runs()).filter(|&run| is_point(run)).map(|run| self.starts[run]).collect()
+    }
+
     pub fn cut(&self, from: u32) -> Result<Vec<Triple>, u32> {
         let runs = self.runs() as u32;
         if runs == 0 {
@@ -252,19 +309,7 @@ impl Graph {
             .map(|run| self.parents[from as usize + run].iter().filter(|&&p| p >= from).map(|&p| (p - from) as usize).collect())
             .collect();
 
-        // Each run's history in the range, as a set.
-        let mut history: Vec<Vec<bool>> = vec![];
-        for run in 0..count {
-            let mut set = vec![false; count];
-            for &p in &parents[run] {
-                set[p] = true;
-                for earlier in 0..p {
-                    set[earlier] |= history[p][earlier];
-                }
-            }
-            history.push(set);
-        }
-
+        let history = histories(&parents);
         let (mut chains, mut rows): (Vec<Vec<usize>>, Vec<Vec<u32>>) = (vec![], vec![]);
         for run in 0..count {
             let joined = chains.iter().position(|chain| chain.iter().all(|&member| history[run][member])).unwrap_or_else(|| {

@@ -8,7 +8,7 @@ use crate::Feed;
 
 /// A record with few runs, put together by hand: starts, each run's parents, frontier, seen lengths; the rest
 /// follows from these.
-fn by_hand(starts: &[u32], parents: &[&[u32]], frontier: &[u32], seen: &[u32]) -> Record {
+pub fn by_hand(starts: &[u32], parents: &[&[u32]], frontier: &[u32], seen: &[u32]) -> Record {
     let parents = parents.iter().map(|list| list.to_vec()).collect();
     Record::of(&Graph { starts: starts.to_vec(), parents, frontier: frontier.to_vec(), seen: seen.to_vec(), changed: 0 })
 }
@@ -219,16 +219,21 @@ pub fn by_clause(feed: &mut Feed, all: bool) {
     }
 }
 
-/// A record of 01 that is not broken, whether calls can make it or not.
-fn record(r: &mut Random) -> Record {
-    let runs = if r.one_in(30) { r.below(513) } else { r.below(9) };
+/// A few earlier runs.
+pub fn any_parents(r: &mut Random, run: u32) -> Vec<u32> {
+    let mut parents: Vec<u32> = (0..r.below(5)).map(|_| r.below(run)).filter(|&parent| parent < run).collect();
+    parents.sort();
+    parents.dedup();
+    parents
+}
+
+/// The graph of a record that is not broken, whether calls can make it or not; `parents` tells those of each run.
+pub fn any_graph(r: &mut Random, runs: u32, mut parents: impl FnMut(&mut Random, u32) -> Vec<u32>) -> Graph {
     let first = [0, r.below(9), r.below(1 << 31)][r.below(3) as usize];
     let longest = [1, 3, 1 << 21][r.below(3) as usize];
     let mut graph = Graph::after(first, &[]).unwrap_or_else(|_| unreachable!());
     for run in 0..runs {
-        let mut parents: Vec<u32> = (0..r.below(5)).map(|_| r.below(run)).filter(|&parent| parent < run).collect();
-        parents.sort();
-        parents.dedup();
+        let parents = parents(r, run);
         let start = graph.len();
         let seen = match r.below(4) {
             0 => start,
@@ -249,14 +254,15 @@ fn record(r: &mut Random) -> Record {
     frontier.dedup();
     graph.frontier = frontier;
     graph.changed = r.below(runs + 1);
-    Record::of(&graph)
+    graph
 }
 
 /// Random records, most of them with one word changed, and calls on what comes of it.
 pub fn random(feed: &mut Feed, count: u32, seed: u64) {
     for nth in 0..count {
         let mut r = Random((seed << 32) + (1 << 31) + nth as u64);
-        let record = record(&mut r);
+        let runs = if r.one_in(30) { r.below(513) } else { r.below(9) };
+        let record = Record::of(&any_graph(&mut r, runs, any_parents));
         let mut call = record.call();
         if !r.one_in(3) {
             let counts = [record.run_count + 1, record.run_count + 1, record.entry_count, record.frontier_count, record.run_count, record.mark_count];

@@ -36,6 +36,11 @@ pub fn upto(end: u32) -> Vec<u32> {
     (0..end).collect()
 }
 
+/// C1's pushes.
+pub fn c1() -> Vec<Vec<u32>> {
+    vec![push(&[], 1), push(&[0], 1), push(&[0], 1), push(&[1, 2], 1), push(&[1, 2], 1)]
+}
+
 /// The rising lists of numbers below `end`.
 pub fn subsets(end: u32) -> Vec<Vec<u32>> {
     (0..1u32 << end).map(|bits| (0..end).filter(|&n| bits >> n & 1 == 1).collect()).collect()
@@ -103,12 +108,67 @@ pub fn sides(feed: &mut Feed, calls: u32) {
     });
 }
 
+/// All lists of calls that a graph takes: pushes with any parents, run starts.
+pub struct Taken {
+    /// The events of the longest push.
+    pub longest: u32,
+    /// Whether takes are among the calls.
+    pub takes: bool,
+    /// What is done with each list, and with the events at which a run start was told true in it.
+    pub each: fn(&mut Feed, &[Vec<u32>], &[u32]),
+}
+
+impl Taken {
+    /// All lists of up to `left` further calls after `calls`, which left `graph`.
+    fn lists(&self, feed: &mut Feed, calls: &mut Vec<Vec<u32>>, graph: &Graph, told: &[u32], left: u32) {
+        (self.each)(feed, calls, told);
+        if left == 0 {
+            return;
+        }
+        let mut go = |call: Vec<u32>, graph: Graph, told: &[u32]| {
+            calls.push(call);
+            self.lists(feed, calls, &graph, told, left - 1);
+            calls.pop();
+        };
+        for parents in subsets(graph.len()) {
+            for events in 1..=self.longest {
+                let mut next = graph.clone();
+                next.push(&parents, events).expect("a push that is taken");
+                go(push(&parents, events), next, told);
+            }
+        }
+        for at in graph.first_held() + 1..graph.len() {
+            let (mut next, mut told) = (graph.clone(), told.to_vec());
+            if next.start_run_at(at) == Ok(true) && !told.contains(&at) {
+                told.push(at);
+            }
+            go(vec![3, at], next, &told);
+        }
+        if self.takes {
+            let mut next = graph.clone();
+            next.take_changed_from();
+            go(vec![4], next, told);
+        }
+    }
+
+    /// All lists of up to `calls` calls from `new`, and of one call fewer from every `after` of 1 or 2 events.
+    pub fn all(&self, feed: &mut Feed, calls: u32) {
+        self.lists(feed, &mut vec![new()], &Graph::new(), &[], calls);
+        for events in 1..=2 {
+            for frontier in subsets(events) {
+                let graph = Graph::after(events, &frontier).expect("a start that is taken");
+                self.lists(feed, &mut vec![after(events, &frontier)], &graph, &[], calls - 1);
+            }
+        }
+    }
+}
+
 /// Everything that can be asked of a graph of a few single events; `all`: with all its walks.
 fn ask_all(feed: &mut Feed, odd: u32, all: bool) {
     let (runs, first, len) = (feed.graph().runs() as u32, feed.graph().first_held(), feed.graph().len());
-    let marks = feed.graph().marks().len() as u32;
+    let points = feed.graph().archive_points().len() as u32;
     feed.call(vec![13]);
-    for room in 0..=marks + 1 {
+    for room in 0..=points + 1 {
         feed.call(vec![8, room]);
     }
     for run in 0..=runs + 1 {
@@ -287,7 +347,7 @@ pub fn ask(feed: &mut Feed, r: &mut Random) {
             let need = graph.cut(from).map_or(3, |ranges| 3 * ranges.len() as u32);
             vec![5, from, room(r, need)]
         }
-        2 => vec![8, room(r, marks.len() as u32)],
+        2 => vec![8, room(r, graph.archive_points().len() as u32)],
         3 | 4 => vec![9, any_run, room(r, runs / 2)],
         5 | 6 => vec![10, any_run],
         7 => vec![11, if r.one_in(25) { LAST } else { event(r, graph) }],
@@ -512,7 +572,7 @@ pub fn sample(feed: &mut Feed) {
         feed.call(vec![13]);
     };
     // C1's graph again, asked everything.
-    case(feed, &[push(&[], 1), push(&[0], 1), push(&[0], 1), push(&[1, 2], 1), push(&[1, 2], 1)]);
+    case(feed, &c1());
     ask_all(feed, 5, false);
     if WALKS {
         walks::sample(feed);

@@ -1,10 +1,15 @@
-//! Times ours against the Rust: full replay, and the pushes that make the graph, on graphs of several shapes.
+//! Times ours against the Rust: full replay, and the pushes that make the graph, on graphs of several shapes. Then archive points (02, F-6), of
+//! which the Rust has none.
 //!
 //! speed PROGRAM [ROUNDS]   PROGRAM: the speed program
 //!
 //! A round takes the Rust first and ours after it. The Rust runs in this process; the speed program is started with N turns and
 //! with 2N, and the difference is that of N turns without starting, reading and building. All times are processor time, so
-//! that other work on the machine matters less. Printed are, of each shape, the medians of all rounds, and of their ratios.
+//! that other work on the machine matters less. Printed are, of each shape, the medians of all rounds, and of their ratios. What the speed program
+//! prints is held to the Rust, and of archive points to 01's plain model.
+
+#[allow(dead_code)]
+mod model;
 
 use std::hint::black_box;
 use std::io::{Read, Write};
@@ -94,6 +99,15 @@ fn shapes() -> Vec<(&'static str, Pushes)> {
     all
 }
 
+/// Shapes with many archive points and all the entries that there can be: each run's parents are the last events of runs before it.
+fn many_points() -> Vec<(&'static str, Pushes)> {
+    let on = |first: u32, end: u32| (first..end).map(|run| 2 * run + 1).collect();
+    // The four runs before each, five for the last ten; the two pairs before each pair, and one more for the last twelve runs.
+    let chain = (0..512u32).map(|run| (on(run.saturating_sub(if run < 502 { 4 } else { 5 }), run), 2)).collect();
+    let pairs = (0..512u32).map(|run| (on((run / 2 * 2).saturating_sub(if run < 500 { 4 } else { 5 }), run / 2 * 2), 2)).collect();
+    vec![("chain, 2,048 entries", chain), ("pairs, 2,048 entries", pairs)]
+}
+
 fn build(pushes: &Pushes) -> CausalGraph {
     let mut graph = CausalGraph::new();
     for (parents, len) in pushes {
@@ -180,30 +194,45 @@ fn median(mut list: Vec<f64>) -> f64 {
     list[list.len() / 2]
 }
 
+/// What the speed program does, on which pushes, and what it must print.
+struct Ours<'a> {
+    program: &'a str,
+    what: u32,
+    pushes: &'a Pushes,
+    expected: String,
+}
+
+impl Ours<'_> {
+    /// The µs of so many turns.
+    fn time(&self, turns: u32) -> f64 {
+        let (once, said) = run(self.program, turns, self.what, self.pushes);
+        let (twice, _) = run(self.program, 2 * turns, self.what, self.pushes);
+        if said != self.expected {
+            println!("the speed program says {said}, not {}", self.expected);
+            exit(1);
+        }
+        twice - once
+    }
+
+    /// As many turns as take some 30 ms.
+    fn turns(&self) -> u32 {
+        let mut turns = 2;
+        while self.time(turns) < 20_000.0 {
+            turns *= 2;
+        }
+        turns
+    }
+}
+
 /// The medians of the Rust's µs, of ours, and of the ratios.
-fn side_by_side(rounds: u32, program: &str, what: u32, pushes: &Pushes, expected: &str, mut work: impl FnMut()) -> (f64, f64, f64) {
-    // As many turns of each as take some 30 ms.
-    let mut of_rust = 2;
+fn side_by_side(rounds: u32, ours: Ours, mut work: impl FnMut()) -> (f64, f64, f64) {
+    let (mut of_rust, of_ours) = (2, ours.turns());
     while per_turn(of_rust, &mut work) * (of_rust as f64) < 20_000.0 {
         of_rust *= 2;
     }
-    let mut of_ours = 2;
-    while run(program, 2 * of_ours, what, pushes).0 - run(program, of_ours, what, pushes).0 < 20_000.0 {
-        of_ours *= 2;
-    }
-    let (mut rust, mut ours, mut ratios) = (vec![], vec![], vec![]);
-    for _ in 0..rounds {
-        rust.push(per_turn(of_rust, &mut work));
-        let (once, said) = run(program, of_ours, what, pushes);
-        let (twice, _) = run(program, 2 * of_ours, what, pushes);
-        if said != expected {
-            println!("the speed program says {said}, the Rust {expected}");
-            exit(1);
-        }
-        ours.push((twice - once) / of_ours as f64);
-        ratios.push(ours[ours.len() - 1] / rust[rust.len() - 1]);
-    }
-    (median(rust), median(ours), median(ratios))
+    let times: Vec<(f64, f64)> = (0..rounds).map(|_| (per_turn(of_rust, &mut work), ours.time(of_ours) / of_ours as f64)).collect();
+    let of = |value: fn(&(f64, f64)) -> f64| median(times.iter().map(value).collect());
+    (of(|both| both.0), of(|both| both.1), of(|both| both.1 / both.0))
 }
 
 fn number(value: f64) -> String {
@@ -233,14 +262,26 @@ fn main() {
         replay(&graph, &mut steps);
         let moved: u64 = steps.chunks(3).filter(|step| step[0] < 2).map(|step| (runs.start(step[2]) - runs.start(step[1])) as u64).sum();
         let count = steps.len() / 3;
-        let expected = format!("{count} {moved} 0");
-        let (rust, ours, ratio) = side_by_side(rounds, program, 1, pushes, &expected, || replay(black_box(&graph), black_box(&mut steps)));
+        let ours = Ours { program, what: 1, pushes, expected: format!("{count} {moved} 0") };
+        let (rust, ours, ratio) = side_by_side(rounds, ours, || replay(black_box(&graph), black_box(&mut steps)));
         println!("| {name} | {} | {entries} | {count} | {moved} | {} | {} | {ratio:.2} |", runs.len(), number(rust), number(ours));
     }
     println!("\n| Pushes of | pushes | runs | Rust, µs | ours, µs | ratio | ours, µs a push |\n|---|---|---|---|---|---|---|");
     for (name, pushes) in &shapes {
-        let expected = format!("{} 0 0", pushes.len());
-        let (rust, ours, ratio) = side_by_side(rounds, program, 2, pushes, &expected, || drop(black_box(build(black_box(pushes)))));
+        let ours = Ours { program, what: 2, pushes, expected: format!("{} 0 0", pushes.len()) };
+        let (rust, ours, ratio) = side_by_side(rounds, ours, || drop(black_box(build(black_box(pushes)))));
         println!("| {name} | {} | {} | {} | {} | {ratio:.2} | {:.1} |", pushes.len(), build(pushes).runs().len(), number(rust), number(ours), ours / pushes.len() as f64);
+    }
+    println!("\n| Archive points of | runs | entries | points | ours, µs |\n|---|---|---|---|---|");
+    for (name, pushes) in shapes.iter().chain(&many_points()) {
+        let mut graph = model::Graph::new();
+        for (parents, len) in pushes {
+            graph.push(parents, *len).expect("a push that is taken");
+        }
+        let points = graph.archive_points().len();
+        let ours = Ours { program, what: 3, pushes, expected: format!("{points} 0 0") };
+        let turns = ours.turns();
+        let time = median((0..rounds).map(|_| ours.time(turns) / turns as f64).collect());
+        println!("| {name} | {} | {} | {points} | {} |", graph.runs(), graph.entries(), number(time));
     }
 }

@@ -1,8 +1,7 @@
 //! 02, F-4, for `compare`: run starts that were told true are made again after later calls. Each must be told true again and leave the graph
 //! as it was, by the Rust's lines and, since these are compared, by the trace program's.
 
-use crate::model::Graph;
-use crate::scripts::{after, begin, changing, new, push, subsets, upto, Random};
+use crate::scripts::{begin, changing, new, push, upto, Random, Taken};
 use crate::Feed;
 
 /// The graph's line, and again after a run start at each of `told`. Panics where a run start is not told true or the graph is another.
@@ -18,52 +17,16 @@ fn ask_again(feed: &mut Feed, told: &[u32]) {
     feed.noted("run starts told true, made again: true, the graph as it was", told.len() as u64);
 }
 
-/// All lists of up to `left` further calls after `calls`, which left `graph`, that the graph takes; those in which a run start was told true, with
-/// each of these asked again at the end.
-fn all_lists(feed: &mut Feed, calls: &mut Vec<Vec<u32>>, graph: &Graph, told: &[u32], left: u32, longest: u32) {
-    if !told.is_empty() {
-        for call in calls.iter() {
-            feed.call(call.clone());
-        }
-        ask_again(feed, told);
-    }
-    if left == 0 {
-        return;
-    }
-    for parents in subsets(graph.len()) {
-        for events in 1..=longest {
-            let mut next = graph.clone();
-            next.push(&parents, events).expect("a push that is taken");
-            calls.push(push(&parents, events));
-            all_lists(feed, calls, &next, told, left - 1, longest);
-            calls.pop();
-        }
-    }
-    for at in graph.first_held() + 1..graph.len() {
-        let (mut next, mut told) = (graph.clone(), told.to_vec());
-        if next.start_run_at(at) == Ok(true) && !told.contains(&at) {
-            told.push(at);
-        }
-        calls.push(vec![3, at]);
-        all_lists(feed, calls, &next, &told, left - 1, longest);
-        calls.pop();
-    }
-    let mut next = graph.clone();
-    next.take_changed_from();
-    calls.push(vec![4]);
-    all_lists(feed, calls, &next, told, left - 1, longest);
-    calls.pop();
-}
-
-/// All lists of `calls` calls from `new`, pushes of one to `longest` events, and of one call fewer from every `after` of up to two events.
+/// All lists of up to `calls` calls from `new`, pushes of one to `longest` events, and of one call fewer from every `after` of 1 or 2 events, that
+/// the graph takes; those in which a run start was told true, with each of these asked again at the end.
 pub fn small(feed: &mut Feed, calls: u32, longest: u32) {
-    all_lists(feed, &mut vec![new()], &Graph::new(), &[], calls, longest);
-    for events in 1..=2 {
-        for frontier in subsets(events) {
-            let graph = Graph::after(events, &frontier).expect("a start that is taken");
-            all_lists(feed, &mut vec![after(events, &frontier)], &graph, &[], calls - 1, longest);
+    let each = |feed: &mut Feed, calls: &[Vec<u32>], told: &[u32]| {
+        if !told.is_empty() {
+            calls.iter().for_each(|call| feed.call(call.clone()));
+            ask_again(feed, told);
         }
-    }
+    };
+    Taken { longest, takes: true, each }.all(feed, calls);
 }
 
 /// Random scripts, calls that are refused among them: after each call one event that was told true is asked again, at the end all.
