@@ -28,22 +28,16 @@ MODEL = [
     ("walking::walk", "covers by event numbers in place of offsets: the cases", "offsets_from_0"),
     ("lookups::containing", "before the graph and not yet known exchanged: F-11", "sides_exchanged"),
     ("lookups::containing", "the event len, and later ones, in the last run: F-11, C6", "len_in_last_run"),
-    ("beside::concurrent_runs", "falling by run number: F-2", "concurrency_falling"),
-    ("beside::concurrent_runs", "run 0 is left out: F-2", "concurrent_left_out"),
+    ("archive::archive_points", "the starts of marked runs alone, as before F-6: C1", "marked_starts"),
+    ("archive::archive_points", "asks of the first event from the start on alone: F-6", "first_event_seen"),
+    ("concurrent::concurrent_runs", "falling by run number: F-2", "concurrency_falling"),
+    ("concurrent::concurrent_runs", "run 0 is left out: F-2", "concurrent_left_out"),
     ("starting::start_run_at", "a split gives the second part its own start as seen: F-4", "second_part_seen"),
     ("starting::start_run_at", "splits a marked run though the next is marked: F-4, C9", "next_run_marked"),
     ("reading::read", "a book cut short is whole: F-1's cases", "short_is_whole"),
     ("reading::read", "no bytes are refused: F-1's cases", "empty_refused"),
     ("answers::number", "11 for 13", "answers.rt", "Refusal::RowsTooLong => 13", "Refusal::RowsTooLong => 11"),
     ("answers::number", "1 and 2 exchanged", "answers.rt", "Refusal::Broken => 1,\n        Refusal::NoEvents => 2,", "Refusal::Broken => 2,\n        Refusal::NoEvents => 1,"),
-]
-
-# The last run first, and the proof of the differences that it reads by
-FALLING = [
-    ("src/beside.rt", "EventRunIndex(q as u32), flags[q]", "EventRunIndex((n - 1 - q) as u32), flags[n - 1 - q]"),
-    ("proofs/beside/put_all_free/Proof.antt", "cast-t9 : tie.Need-cast-t9 Inv-loop μ-loop\ncast-t9 c = search needs\n",
-     "".join("%s : tie.Need-%s Inv-loop μ-loop\n%s c = search needs\n\n" % (n, n, n) for n in ["sub-t9", "sub-t10", "cast-t11", "sub-put-free", "sub-put-free-2"])),
-    ("proofs/beside/put_all_free/Proof.antt", "    cast-t9\n", "    sub-t9\n    sub-t10\n    cast-t11\n    sub-put-free\n    sub-put-free-2\n"),
 ]
 
 # The two sides of a graph exchanged
@@ -99,12 +93,28 @@ GRAPH = [
     ("cut::split_at_critical_versions_from", "a Linear ends where the Concurrent after it ends", "cut.rt", "put_linear(list, before, first, a)", "put_linear(list, before, first, b)"),
     ("cut::split_at_critical_versions", "refuses 'list too short' though the record fits", "cut.rt", "list.len() / 3 <= n", "list.len() / 3 <= n + 1"),
     ("cut::split_at_critical_versions", "ranges of one run are Concurrent", "cut.rt", "b.0 - a.0 == 1", "b.0 - a.0 == 0"),
-    ("beside::archive_points", "the first is left out", "beside.rt", "let mut i = 0;\n    while i < n {\n        p = put_one", "let mut i = 1;\n    while i < n {\n        p = put_one"),
-    ("beside::archive_points", "count 0 where the list is too short", "cut.rt", "count: p.count,\n        outcome: Outcome::Refused", "count: 0,\n        outcome: Outcome::Refused"),
-    ("beside::concurrent_runs", "all runs, itself too", "beside.rt", "f[at] = 1;", "f[at] = 0;"),
-    ("beside::concurrent_runs", "writes the runs that fit where the list is too short", "beside.rt", "if list.len() < k {", "if list.len() < 0 {"),
-    ("beside::concurrent_runs", "run 0 is left out", "beside.rt", "let mut q = 0;\n    while q < n {\n        p = put_free", "let mut q = 1;\n    while q < n {\n        p = put_free"),
-    ("beside::concurrent_runs", "falling by run number", FALLING),
+    ("archive::archive_points", "count 0 where the list is too short", "cut.rt", "count: p.count,\n        outcome: Outcome::Refused", "count: 0,\n        outcome: Outcome::Refused"),
+]
+
+# The last run first, and the proof of the differences that it reads by
+FALLING = [
+    ("src/concurrent.rt", "EventRunIndex(q as u32), flags[q]", "EventRunIndex((n - 1 - q) as u32), flags[n - 1 - q]"),
+    ("proofs/concurrent/put_all_free/Proof.antt", "cast-t9 : tie.Need-cast-t9 Inv-loop μ-loop\ncast-t9 c = search needs\n",
+     "".join("%s : tie.Need-%s Inv-loop μ-loop\n%s c = search needs\n\n" % (n, n, n) for n in ["sub-t9", "sub-t10", "cast-t11", "sub-put-free", "sub-put-free-2"])),
+    ("proofs/concurrent/put_all_free/Proof.antt", "    cast-t9\n", "    sub-t9\n    sub-t10\n    cast-t11\n    sub-put-free\n    sub-put-free-2\n"),
+]
+
+VERSIONS = [
+    ("archive::archive_points", "one head among a run's parents is enough, the last", "one_head"),
+    ("archive::archive_points", "a run's last child in place of its first", "last_child"),
+    ("archive::archive_points", "a child at the run itself counts as one below it", "archive.rt", "if run.0 <= first { 1 }", "if run.0 < first { 1 }"),
+    ("archive::archive_points", "counts one head too many", "archive.rt", "let mut heads = 0;", "let mut heads = 1;"),
+    ("archive::archive_points", "a run without parents has seen itself", "archive.rt", "return EventRunIndex(0);", "return run;"),
+    ("archive::archive_points", "the first is left out", "archive.rt", "let mut i = 0;\n    while i < n {\n        p = put_one", "let mut i = 1;\n    while i < n {\n        p = put_one"),
+    ("concurrent::concurrent_runs", "all runs, itself too", "concurrent.rt", "f[at] = 1;", "f[at] = 0;"),
+    ("concurrent::concurrent_runs", "writes the runs that fit where the list is too short", "concurrent.rt", "if list.len() < k {", "if list.len() < 0 {"),
+    ("concurrent::concurrent_runs", "run 0 is left out", "concurrent.rt", "let mut q = 0;\n    while q < n {\n        p = put_free", "let mut q = 1;\n    while q < n {\n        p = put_free"),
+    ("concurrent::concurrent_runs", "falling by run number", FALLING),
 ]
 
 READER = [
@@ -189,7 +199,7 @@ BOOK = [
     ("replaying::replayed", "moved 0", "replaying.rt", "last_line(outcome, walked.moved)", "last_line(outcome, 0)"),
 ]
 
-TRIES = {"model": MODEL, "graph": GRAPH, "reader": READER, "lent": LENT, "calls": CALLS, "moves": MOVES, "tables": TABLES, "walk": WALK, "book": BOOK}
+TRIES = {"model": MODEL, "graph": GRAPH, "versions": VERSIONS, "reader": READER, "lent": LENT, "calls": CALLS, "moves": MOVES, "tables": TABLES, "walk": WALK, "book": BOOK}
 
 # Each with its crate, numbered through
 ALL = [(crate, t) for crate, tries in TRIES.items() for t in tries]

@@ -1,6 +1,6 @@
 // For differential/speed.sh to time: builds a graph by the public calls and then does one thing as often as it is told.
-// Standard input, in little-endian words: how often; what (0 nothing, 1 full replay, 2 the pushes again, from `new`); how many
-// pushes; for each its length, its parent count and its parents. At most 16,384 words.
+// Standard input, in little-endian words: how often; what (0 nothing, 1 full replay, 2 the pushes again, from `new`, 3 archive
+// points); how many pushes; for each its length, its parent count and its parents. At most 16,384 words.
 mod script;
 
 use libc::STDIN_FILENO;
@@ -20,7 +20,7 @@ struct Built {
     refused: u64,
 }
 
-// What is printed: how many steps or pushes, the events moved, and 1 if the last call was refused.
+// What is printed: how many steps, pushes or points, the events moved, and 1 if the last call was refused.
 struct Told {
     count: u64,
     moved: u64,
@@ -44,7 +44,7 @@ fn is_refused(answer: EventsAnswer) -> u64 {
     }
 }
 
-// 1 if a replay was refused.
+// 1 if a replay or the list of points was refused.
 fn is_undone(outcome: Outcome) -> u64 {
     match outcome {
         Outcome::Done => 0,
@@ -118,12 +118,31 @@ fn replay(g: CausalGraph, rows: &mut [u32], steps: &mut [u32]) -> Told {
     }
 }
 
-// The replay, so many times.
-fn replays(g: CausalGraph, times: u32, rows: &mut Rows, steps: &mut Steps) -> Told {
+// One list of the archive points.
+fn points(g: CausalGraph, list: &mut [u32]) -> Told {
+    let w = versions::archive::archive_points(g, list);
+    let outcome = w.outcome;
+    Told {
+        count: w.count as u64,
+        moved: 0,
+        refused: is_undone(outcome),
+    }
+}
+
+// One replay, or one list of points.
+fn once(g: CausalGraph, what: u32, rows: &mut [u32], steps: &mut [u32]) -> Told {
+    match what {
+        1 => replay(g, rows, steps),
+        _ => points(g, steps),
+    }
+}
+
+// The same, so many times.
+fn repeat(g: CausalGraph, what: u32, times: u32, rows: &mut Rows, steps: &mut Steps) -> Told {
     let mut told = nothing();
     let mut left = times;
     while 0 < left {
-        told = replay(g, rows, steps);
+        told = once(g, what, rows, steps);
         left -= 1;
     }
     told
@@ -141,9 +160,10 @@ fn nothing() -> Told {
 // Builds the graph, and does what the script says.
 fn run(words: &Words, rows: &mut Rows, steps: &mut Steps) -> Told {
     let times = script::get(words, 0);
+    let what = script::get(words, 1);
     let b = build(words);
-    match script::get(words, 1) {
-        1 => replays(b.graph, times, rows, steps),
+    match what {
+        1 | 3 => repeat(b.graph, what, times, rows, steps),
         2 => pushes(words, times),
         _ => nothing(),
     }

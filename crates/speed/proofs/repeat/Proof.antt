@@ -1,13 +1,13 @@
--- `speed::replays` is safe and ends. The measure is the number of turns that are left. Assumes nothing.
+-- `speed::repeat` is safe and ends. The measure is the number of turns that are left. Assumes nothing.
 use borrow.Author.Needs.{needs}
-use Rattle.speed.proofs.replays.Statement.{statement}
-use Rattle.speed.proofs.replays.Tie as tie
+use Rattle.speed.proofs.repeat.Statement.{statement}
+use Rattle.speed.proofs.repeat.Tie as tie
 
 abbrev Inv-loop : tie.InvT-loop
-Inv-loop g times rows₀ steps₀ told₀ left₀ rows steps told left = Unit
+Inv-loop g what times rows₀ steps₀ told₀ left₀ rows steps told left = Unit
 
 abbrev μ-loop : tie.MeasureT-loop
-μ-loop g times rows₀ steps₀ told₀ left₀ rows steps told left = left
+μ-loop g what times rows₀ steps₀ told₀ left₀ rows steps told left = left
 
 nothing-requires : tie.Need-nothing-requires Inv-loop μ-loop
 nothing-requires c κs = search needs
@@ -15,8 +15,8 @@ nothing-requires c κs = search needs
 loop-holds : tie.Need-loop-holds Inv-loop μ-loop
 loop-holds c = search needs
 
-replay-requires : tie.Need-replay-requires Inv-loop μ-loop
-replay-requires c κs = search needs
+once-requires : tie.Need-once-requires Inv-loop μ-loop
+once-requires c κs = search needs
 
 sub-left : tie.Need-sub-left Inv-loop μ-loop
 sub-left c = search needs
@@ -30,15 +30,15 @@ loop-again c = search needs
 returns : tie.Need-returns Inv-loop μ-loop
 returns c = search needs
 
-pub replays-spec : {M : Type 1} → statement M
-replays-spec =
+pub repeat-spec : {M : Type 1} → statement M
+repeat-spec =
     tie.close
     (tie.spec
     Inv-loop
     μ-loop
     nothing-requires
     loop-holds
-    replay-requires
+    once-requires
     sub-left
     loop-less
     loop-again
