@@ -93,9 +93,9 @@ module _ (g : Graph) (formed : WellFormed g) where
           (k a b (between-held g a (i .0) (omega (arith, i .1, j .0, j .1))) (omega (arith, i .0, i .1)) (between-held g b (omega (arith, j .0)) (omega (arith, j .0, j .1))) (j .0))))
 
   -- By runs
-  pub point-runs : (r : ℕ) → r < runs g → (seenByLater g (start g r) ≡ true) ↔ Parted g r
+  pub point-parted : (r : ℕ) → r < runs g → (seenByLater g (start g r) ≡ true) ↔ Parted g r
   unfolding runs
-  point-runs r lt =
+  point-parted r lt =
       let t : Tied g (ownLog g) = own-tied g formed in
       let is : start g r ≡ runStart (ownLog g) r = start-is g (ownLog g) t r (omega (arith, t .rows)) in
       let both : (seenByLater g (start g r) ≡ true) ↔ SeenByAll (eventGraph (ownLog g)) (runStart (ownLog g) r) =

@@ -32,7 +32,7 @@ use Rattle.model.specs.History.{at}
 use Rattle.model.specs.Archive.{seenByLater, archivePoints, archivePointsOf}
 use Rattle.model.proofs.Stored.{not-broken}
 use Rattle.model.proofs.FormedReads.{start-mono, start-less}
-use Rattle.model.proofs.Archiving.{Parted, point-runs}
+use Rattle.model.proofs.Archiving.{Parted, point-parted}
 use Rattle.graph.specs.declared.cut.Put.{Put}
 use Rattle.graph.specs.Cutting.{blank, putAll, writtenOf}
 use Rattle.graph.specs.Loops.{marksOf}
@@ -41,10 +41,10 @@ use Rattle.graph.proofs.Views.{facts, runs-view, start-view, starts-pad}
 use Rattle.graph.proofs.Writing.{put-writing}
 use Rattle.graph.proofs.Entries.{parents-below, parents-rise, row-view}
 use Rattle.graph.proofs.Marking.{isMark, marks-filter}
-use Rattle.versions.specs.Heads.{childless, heads, lastIn, highestBy, highest, firstChildren, isHead, headCount, wholeIn}
+use Rattle.versions.specs.Heads.{childless, heads, lastIn, highestBy, highest, firstChildren, isHead, wholeIn, HeadsFit, HeadCounts, SeenLengths}
 use Rattle.versions.proofs.FirstChildren.{head-is}
-use Rattle.versions.proofs.Counting.{all-heads, count-is, count-fits}
-use Rattle.versions.proofs.Parting.{last-mem, last-most, parted-iff}
+use Rattle.versions.proofs.HeadCounting.{all-heads, count-is, count-fits}
+use Rattle.versions.proofs.ByHeads.{last-mem, last-most, parted-iff}
 use Rattle.versions.proofs.Points.{pointsOf}
 
 module _ (g : CausalGraph) (held : Held g) where
@@ -72,12 +72,12 @@ module _ (g : CausalGraph) (held : Held g) where
     told m p le lt =
         rw is (head-is rows n (λ c q few k. parents-below g held c q (rw (same c few) at k)) p (omega (arith, facts g held .runs)) pss m le same)
 
-    pub counts-fit : (m : ℕ) → m < n → count (isHead firsts m) (rows m) ≤ headCount firsts rows m
+    pub counts-fit : HeadsFit firsts rows n
     counts-fit = count-fits pss (parents-below g held) rise firsts rows n same told
 
-    module _ (counts : List ℕ) (filled : (m : ℕ) → m < n → getD counts m 0 ≡ headCount firsts rows m) where
+    module _ (counts : List ℕ) (filled : HeadCounts firsts rows n counts) where
       abbrev found : ℕ → ℕ
-      found q = highestBy (wholeIn firsts (λ m. getD counts m 0)) (rows q)
+      found q = highestBy (wholeIn firsts counts) (rows q)
 
       -- so which run is the last that a run's parents let start at a point
       found-is : (q : ℕ) → q < n → (found q ≡ highest pss q) × (highest pss q ≤ q)
@@ -85,7 +85,7 @@ module _ (g : CausalGraph) (held : Held g) where
       found-is q lt = rw (same q lt) (go (at pss q) refl)
         where
           go : (ps : List ℕ) → at pss q ≡ ps →
-              (highestBy (wholeIn firsts (λ m. getD counts m 0)) ps ≡ highestBy (λ m ps. all (λ h. mem h ps) (heads pss m)) ps) ×
+              (highestBy (wholeIn firsts counts) ps ≡ highestBy (λ m ps. all (λ h. mem h ps) (heads pss m)) ps) ×
               (highestBy (λ m ps. all (λ h. mem h ps) (heads pss m)) ps ≤ q)
           go [] e = (refl, omega arith)
           go (p ∷ ps) e = (ap (λ (t : Bool). cond t (suc last) last) tests, most (all (λ h. mem h (p ∷ ps)) (heads pss (suc last))))
@@ -112,7 +112,7 @@ module _ (g : CausalGraph) (held : Held g) where
               most true = few
               most false = omega (arith, few)
 
-      module _ (seen : List ℕ) (long : n ≤ length seen) (lengths : (q : ℕ) → q < n → getD seen q 0 ≡ getD (g .starts) (found q) 0) where
+      module _ (seen : List ℕ) (long : n ≤ length seen) (lengths : SeenLengths firsts counts (g .starts) rows n seen) where
         abbrev starts : List ℕ
         starts = take (n + 1) (g .starts)
 
@@ -142,7 +142,7 @@ module _ (g : CausalGraph) (held : Held g) where
             rw (getD-drop r lows i 0) (le-leb (getD starts r 0) (getD lows (r + i) 0) (higher (r + i) few (parts .0 (points .0 m) (r + i) (omega arith) (omega (arith, runs-view g held)))))))
           where
             points : (seenByLater G (start G r) ≡ true) ↔ Parted G r
-            points = point-runs G (held .formed) r (omega (arith, runs-view g held))
+            points = point-parted G (held .formed) r (omega (arith, runs-view g held))
 
             parts : Parted G r ↔ ((q : ℕ) → r ≤ q → q < runs G → r ≤ highest pss q)
             parts = parted-iff G (parents-below g held) rise r

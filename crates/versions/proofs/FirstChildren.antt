@@ -15,22 +15,22 @@ use Rattle.lists.proofs.Members.{all-of, all-at}
 use Rattle.lists.proofs.Counts.{mem-from, upto-mem}
 use Rattle.lists.proofs.Pads.{get-pad, length-pad}
 use Rattle.model.specs.History.{at}
-use Rattle.versions.specs.Heads.{childless, firstOf, noteAll, firstChildren, isHead}
+use Rattle.versions.specs.Heads.{childless, noted, noteAll, firstChildren, isHead}
 
 -- One run noted as a child of some
 pub note-length : (firsts : List ℕ) (c : ℕ) (ps : List ℕ) → length (noteAll firsts c ps) ≡ length firsts
 unfolding noteAll
 note-length firsts c [] = refl
-note-length firsts c (p ∷ ps) = note-length (set firsts p (firstOf (getD firsts p 0) c)) c ps ∙ length-set firsts p (firstOf (getD firsts p 0) c)
+note-length firsts c (p ∷ ps) = note-length (set firsts p (noted (getD firsts p 0) c)) c ps ∙ length-set firsts p (noted (getD firsts p 0) c)
 
-note-get : (firsts : List ℕ) (c : ℕ) (ps : List ℕ) (q : ℕ) → q < length firsts → getD (noteAll firsts c ps) q 0 ≡ cond (mem q ps) (firstOf (getD firsts q 0) c) (getD firsts q 0)
+note-get : (firsts : List ℕ) (c : ℕ) (ps : List ℕ) (q : ℕ) → q < length firsts → getD (noteAll firsts c ps) q 0 ≡ cond (mem q ps) (noted (getD firsts q 0) c) (getD firsts q 0)
 unfolding noteAll mem
 note-get firsts c [] q h = refl
 note-get firsts c (p ∷ ps) q h =
-    note-get (set firsts p (firstOf (getD firsts p 0) c)) c ps q (omega (arith, length-set firsts p (firstOf (getD firsts p 0) c))) ∙ go (eq-or-not q p) (mem q ps)
+    note-get (set firsts p (noted (getD firsts p 0) c)) c ps q (omega (arith, length-set firsts p (noted (getD firsts p 0) c))) ∙ go (eq-or-not q p) (mem q ps)
   where
-    again : (f : ℕ) → firstOf (firstOf f c) c ≡ firstOf f c
-    again f = unfold firstOf in pick (eqb f 0) refl (eqb c 0) refl
+    again : (f : ℕ) → noted (noted f c) c ≡ noted f c
+    again f = unfold noted in pick (eqb f 0) refl (eqb c 0) refl
       where
         pick : (s : Bool) → eqb f 0 ≡ s → (t : Bool) → eqb c 0 ≡ t → cond (eqb (cond s c f) 0) c (cond s c f) ≡ cond s c f
         pick true e true u = rw u
@@ -38,12 +38,12 @@ note-get firsts c (p ∷ ps) q h =
         pick false e t u = rw e
 
     go : (q ≡ p) ⊎ (q ≡ p → ⊥) → (t : Bool) →
-        cond t (firstOf (getD (set firsts p (firstOf (getD firsts p 0) c)) q 0) c) (getD (set firsts p (firstOf (getD firsts p 0) c)) q 0) ≡
-        cond (eqb q p || t) (firstOf (getD firsts q 0) c) (getD firsts q 0)
-    go (inl e) true = rw (eq-eqb q p e, e, getD-set-same firsts p (firstOf (getD firsts p 0) c) 0 (omega arith)) (again (getD firsts p 0))
-    go (inl e) false = rw (eq-eqb q p e, e) (getD-set-same firsts p (firstOf (getD firsts p 0) c) 0 (omega arith))
-    go (inr n) true = rw (ne-eqb q p n, getD-set-other firsts p q (firstOf (getD firsts p 0) c) 0 n)
-    go (inr n) false = rw (ne-eqb q p n) (getD-set-other firsts p q (firstOf (getD firsts p 0) c) 0 n)
+        cond t (noted (getD (set firsts p (noted (getD firsts p 0) c)) q 0) c) (getD (set firsts p (noted (getD firsts p 0) c)) q 0) ≡
+        cond (eqb q p || t) (noted (getD firsts q 0) c) (getD firsts q 0)
+    go (inl e) true = rw (eq-eqb q p e, e, getD-set-same firsts p (noted (getD firsts p 0) c) 0 (omega arith)) (again (getD firsts p 0))
+    go (inl e) false = rw (eq-eqb q p e, e) (getD-set-same firsts p (noted (getD firsts p 0) c) 0 (omega arith))
+    go (inr n) true = rw (ne-eqb q p n, getD-set-other firsts p q (noted (getD firsts p 0) c) 0 n)
+    go (inr n) false = rw (ne-eqb q p n) (getD-set-other firsts p q (noted (getD firsts p 0) c) 0 n)
 
 module _ (rows : ℕ → List ℕ) where
   pub firsts-length : (n : ℕ) → length (firstChildren rows n) ≡ 512
@@ -66,12 +66,12 @@ module _ (rows : ℕ → List ℕ) where
         let got = note-get (firstChildren rows n) n (rows n) p (omega (arith, firsts-length n)) in
         step (mem p (rows n)) refl (getD (firstChildren rows n) p 0) (first-is n (omega arith)) (getD (noteAll (firstChildren rows n) n (rows n)) p 0) got
       where
-        step : (t : Bool) → mem p (rows n) ≡ t → (f : ℕ) → First n p f → (g : ℕ) → g ≡ cond (mem p (rows n)) (firstOf f n) f → First (suc n) p g
-        step true m f (inl h) g e = unfold firstOf in
+        step : (t : Bool) → mem p (rows n) ≡ t → (f : ℕ) → First n p f → (g : ℕ) → g ≡ cond (mem p (rows n)) (noted f n) f → First (suc n) p g
+        step true m f (inl h) g e = unfold noted in
             let z : g ≡ n = e ∙ rw (m, eq-eqb f 0 (h .0)) in
             let b : p < n = below n p le m in
             inr (omega arith, omega arith, rw z m, λ c l. h .1 c (omega arith))
-        step true m f (inr h) g e = unfold firstOf in
+        step true m f (inr h) g e = unfold noted in
             let z : g ≡ f = e ∙ rw (m, ne-eqb f 0 (λ w. omega (arith, h .0))) in
             inr (omega (arith, h .0), omega (arith, h .1), rw z (h .2), λ c l. h .3 c (omega arith))
         step false m f (inl h) g e = let z : g ≡ f = e ∙ rw m in inl (z ∙ h .0, λ c l. each c l (eq-or-not c n))

@@ -16,15 +16,15 @@ use Rattle.lists.proofs.Truth.{eq-or-not, lt-of-ne}
 use Rattle.lists.proofs.Bounds.{below-at}
 use Rattle.lists.proofs.Groups.{length-part}
 use Rattle.lists.proofs.Pads.{length-pad}
-use Rattle.versions.specs.Heads.{lastIn, highestBy, firstOf, noteAll, firstChildren, isHead, headCount}
+use Rattle.versions.specs.Heads.{lastIn, highestBy, noted, noteAll, firstChildren, isHead, headCount}
 use Rattle.versions.proofs.Passes.{part-first, part-none}
-use Rattle.versions.proofs.Parting.{last-mem}
+use Rattle.versions.proofs.ByHeads.{last-mem}
 
 -- The items of a part, one by one
 module _ (items : List ℕ) (to : ℕ) (fits : to ≤ length items) (i : ℕ) where
   -- noted
   pub note-next : (firsts : List ℕ) (c : ℕ) → i < to →
-      noteAll (set firsts (getD items i 0) (firstOf (getD firsts (getD items i 0) 0) c)) c (part (i + 1) to items) ≡ noteAll firsts c (part i to items)
+      noteAll (set firsts (getD items i 0) (noted (getD firsts (getD items i 0) 0) c)) c (part (i + 1) to items) ≡ noteAll firsts c (part i to items)
   unfolding noteAll
   note-next firsts c h = sym (ap (noteAll firsts c) (part-first items to fits i h))
 

@@ -4,8 +4,8 @@ pub mod Comparing
 pub mod Passes
 pub mod ConcurrentWays
 pub mod FirstChildren
-pub mod Counting
-pub mod Parting
+pub mod HeadCounting
+pub mod ByHeads
 pub mod HeadTurns
 pub mod Points
 pub mod ArchiveWays

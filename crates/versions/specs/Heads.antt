@@ -1,7 +1,8 @@
 -- What the passes behind the archive points compute: first children, heads, and how far each run has seen. Assumes nothing.
+use mathlib.Core.Path.{_≡_}
 use mathlib.Core.Bool.{Bool, not, cond, _||_}
 use mathlib.Core.List.{List, [], _∷_}
-use Prim.Native.Nat.{ℕ, zero, suc, _+_, _-_}
+use Prim.Native.Nat.{ℕ, zero, suc, _+_, _-_, _≤_, _<_}
 use lib.ListN.{length, getD, set}
 use lib.Dec.{leb, eqb}
 use Rattle.lists.specs.Lists.{all, filter, count, upto, mem}
@@ -31,14 +32,14 @@ highestBy whole (p ∷ ps) = let last : ℕ = lastIn (p ∷ ps) in cond (whole (
 unfoldable pub highest : List (List ℕ) → ℕ → ℕ
 highest pss q = highestBy (λ m ps. all (λ h. mem h ps) (heads pss m)) (at pss q)
 
--- a run's first child, where f was its first so far and c is one: 0 is none, since run 0 is nobody's child
-unfoldable pub firstOf : ℕ → ℕ → ℕ
-firstOf f c = cond (eqb f 0) c f
+-- a run's first child once c is noted as one, where f was the first so far: 0 is none, since run 0 is nobody's child
+unfoldable pub noted : ℕ → ℕ → ℕ
+noted f c = cond (eqb f 0) c f
 
 -- run c is a child of some runs
 unfoldable pub noteAll : List ℕ → ℕ → List ℕ → List ℕ
 noteAll firsts c [] = firsts
-noteAll firsts c (p ∷ ps) = noteAll (set firsts p (firstOf (getD firsts p 0) c)) c ps
+noteAll firsts c (p ∷ ps) = noteAll (set firsts p (noted (getD firsts p 0) c)) c ps
 
 -- The first child of each run, among the n first runs
 unfoldable pub firstChildren : (ℕ → List ℕ) → ℕ → List ℕ
@@ -54,6 +55,18 @@ unfoldable pub headCount : List ℕ → (ℕ → List ℕ) → ℕ → ℕ
 headCount firsts rows zero = 0
 headCount firsts rows (suc m) = headCount firsts rows m + 1 - count (isHead firsts m) (rows m)
 
--- as many of a run's parents are heads below m as there are
-unfoldable pub wholeIn : List ℕ → (ℕ → ℕ) → ℕ → List ℕ → Bool
-wholeIn firsts counts m ps = eqb (count (isHead firsts m) ps) (counts m)
+-- so many of a run's parents are heads below m as there are
+unfoldable pub wholeIn : (firsts counts : List ℕ) → ℕ → List ℕ → Bool
+wholeIn firsts counts m ps = eqb (count (isHead firsts m) ps) (getD counts m 0)
+
+-- of no run more parents are heads below it than there are
+abbrev pub HeadsFit : List ℕ → (ℕ → List ℕ) → ℕ → Type 0
+HeadsFit firsts rows n = (m : ℕ) → m < n → count (isHead firsts m) (rows m) ≤ headCount firsts rows m
+
+-- A table of how many heads lie below each of n runs
+abbrev pub HeadCounts : List ℕ → (ℕ → List ℕ) → ℕ → List ℕ → Type 0
+HeadCounts firsts rows n counts = (m : ℕ) → m < n → getD counts m 0 ≡ headCount firsts rows m
+
+-- A table of how far each of n runs has seen, as far as archive points need it: up to the start of the last run that may be at one
+abbrev pub SeenLengths : (firsts counts events : List ℕ) → (ℕ → List ℕ) → ℕ → List ℕ → Type 0
+SeenLengths firsts counts events rows n seen = (q : ℕ) → q < n → getD seen q 0 ≡ getD events (highestBy (wholeIn firsts counts) (rows q)) 0

@@ -1,9 +1,9 @@
-// Archive points into a lent list, in linear time. A run's seen length, by which the marks go, is a lower bound of what it has seen; here
-// it is made exact, as far as archive points need it, and the points are the starts of the runs that would be marked by that.
+// Archive points into a lent list, in linear time. A run's seen length, by which the marks go, is a lower bound of what the run has seen.
+// Here it is told exactly, as far as archive points need it (`highest`), and they are the starts of the runs that would be marked by that.
 ghost use mathlib.Core.Path.{_≡_};
 ghost use mathlib.Core.Bool.{true, _||_};
 ghost use mathlib.Core.List.{[], _∷_, map};
-ghost use Prim.Native.Nat.{ℕ, _≤_, _<_};
+ghost use Prim.Native.Nat.{_≤_, _<_};
 ghost use lib.ListN.{length, take, getD};
 ghost use lib.Dec.{leb, eqb};
 ghost use Rattle.lists.specs.Lists.{bit, filter, count, upto, below};
@@ -15,7 +15,7 @@ ghost use Rattle.model.specs.Broken.{Held};
 ghost use Rattle.model.specs.Archive.{seenByLater, archivePointsOf};
 ghost use Rattle.graph.specs.Cutting.{blank, putAll};
 ghost use Rattle.graph.specs.Rows.{row, Rows};
-ghost use Rattle.versions.specs.Heads.{firstOf, noteAll, firstChildren, isHead, headCount, highestBy, wholeIn};
+ghost use Rattle.versions.specs.Heads.{noted, noteAll, firstChildren, isHead, highestBy, wholeIn, HeadsFit, HeadCounts, SeenLengths};
 use crate::flags::put_one;
 use graph::cut::Put;
 use lists::Kept;
@@ -26,9 +26,9 @@ use model::Outcome;
 use model::Refusal;
 use model::Written;
 
-// A run's first child, where `first` was its first so far (0 where it had none).
-fn first_of(first: u32, child: EventRunIndex) -> u32
-    ensures { λ r. ⌜ r ≡ firstOf first (child .0) ⌝ }
+// A run's first child once `child` is noted as one, where `first` was the first so far (0 where it had none).
+fn noted(first: u32, child: EventRunIndex) -> u32
+    ensures { λ r. ⌜ r ≡ noted first (child .0) ⌝ }
 {
     if first == 0 { child.0 } else { first }
 }
@@ -42,7 +42,7 @@ fn note_child(firsts: &mut [u32], items: &[u32], from: usize, to: usize, child: 
     let mut i = from;
     while i < to {
         let p = items[i] as usize;
-        firsts[p] = first_of(firsts[p], child);
+        firsts[p] = noted(firsts[p], child);
         i += 1;
     }
 }
@@ -97,8 +97,8 @@ fn count_heads(firsts: &[u32], items: &[u32], from: usize, to: usize, run: Event
 fn head_counts<'a>(firsts: &[u32], starts: &'a [u32], items: &'a [u32], n: usize) -> [u32; MAX_RUNS]
     requires { ⌜ Rows (now starts) (now items) n ⌝ }
     requires { ⌜ n ≤ length (now firsts) ⌝ }
-    requires { ⌜ ((m : ℕ) → m < n → count (isHead (now firsts) m) (row (now starts) (now items) m) ≤ headCount (now firsts) (row (now starts) (now items)) m) ⌝ }
-    ensures { λ r. ⌜ ((m : ℕ) → m < n → getD r m 0 ≡ headCount (now (firsts .entry)) (row (now (starts .entry)) (now (items .entry))) m) ⌝ }
+    requires { ⌜ HeadsFit (now firsts) (row (now starts) (now items)) n ⌝ }
+    ensures { λ r. ⌜ HeadCounts (now (firsts .entry)) (row (now (starts .entry)) (now (items .entry))) n r ⌝ }
 {
     let none = lists::nothing();
     let mut counts = none.items;
@@ -133,7 +133,7 @@ fn highest(
     requires { ⌜ below (run .0) (part from to (now items)) ≡ true ⌝ }
     requires { ⌜ run .0 ≤ length (now firsts) ⌝ }
     requires { ⌜ run .0 < length (now counts) ⌝ }
-    ensures { λ r. ⌜ (r .0 ≡ highestBy (wholeIn (now (firsts .entry)) (λ m. getD (now (counts .entry)) m 0)) (part from to (now (items .entry)))) × (r .0 ≤ run .0) ⌝ }
+    ensures { λ r. ⌜ (r .0 ≡ highestBy (wholeIn (now (firsts .entry)) (now (counts .entry))) (part from to (now (items .entry)))) × (r .0 ≤ run .0) ⌝ }
 {
     if to <= from {
         return EventRunIndex(0);
@@ -148,7 +148,7 @@ fn highest(
     EventRunIndex(last)
 }
 
-// How far each of n runs has seen, as far as archive points need it: up to the start of that run.
+// How far each of n runs has seen, as far as archive points need it: up to the start of the run that `highest` tells.
 fn seen_lengths<'a>(
     firsts: &[u32],
     counts: &[u32],
@@ -161,8 +161,7 @@ fn seen_lengths<'a>(
     requires { ⌜ n ≤ length (now firsts) ⌝ }
     requires { ⌜ n ≤ length (now counts) ⌝ }
     requires { ⌜ n ≤ length (now events) ⌝ }
-    ensures { λ r. ⌜ ((q : ℕ) → q < n → getD r q 0 ≡ getD (now (events .entry))
-        (highestBy (wholeIn (now (firsts .entry)) (λ m. getD (now (counts .entry)) m 0)) (row (now (starts .entry)) (now (items .entry)) q)) 0) ⌝ }
+    ensures { λ r. ⌜ SeenLengths (now (firsts .entry)) (now (counts .entry)) (now (events .entry)) (row (now (starts .entry)) (now (items .entry))) n r ⌝ }
 {
     let none = lists::nothing();
     let mut seen = none.items;
@@ -183,22 +182,22 @@ fn seen_lengths<'a>(
 }
 
 // The starts of the first n of some runs, a word each.
-fn put_points<'a>(starts: &'a [u32], runs: &'a [u32], n: usize, list: &mut [u32]) -> Put
-    requires { ⌜ n ≤ length (now runs) ⌝ }
-    requires { ⌜ below (length (now starts)) (take n (now runs)) ≡ true ⌝ }
+fn put_points<'a>(starts: &'a [u32], points: &'a [u32], n: usize, list: &mut [u32]) -> Put
+    requires { ⌜ n ≤ length (now points) ⌝ }
+    requires { ⌜ below (length (now starts)) (take n (now points)) ≡ true ⌝ }
     ensures { λ r. ⌜ (r, now (list .exit)) ≡ putAll 1 (blank, now (list .entry))
-        (map (λ m. getD (now (starts .entry)) m 0 ∷ []) (take n (now (runs .entry)))) ⌝ }
+        (map (λ m. getD (now (starts .entry)) m 0 ∷ []) (take n (now (points .entry)))) ⌝ }
 {
     let mut p = Put { count: 0, short: 0 };
     let mut i = 0;
     while i < n {
-        p = put_one(list, p, starts[runs[i] as usize]);
+        p = put_one(list, p, starts[points[i] as usize]);
         i += 1;
     }
     p
 }
 
-// The runs that start at archive points: those that would be marked if they had seen that far.
+// The runs that start at archive points.
 fn point_runs(g: CausalGraph) -> Kept
     requires { ⌜ Held g ⌝ }
     ensures { λ r. ⌜ r ≡ keptIn (filter (λ q. seenByLater (view g) (start (view g) q)) (upto (runs (view g)))) ⌝ }

@@ -15,7 +15,7 @@ use Rattle.versions.proofs.archive.highest.Tie as tie
 returns : tie.Need-returns
 returns c =
     let a = c .before .before .before .before .args in
-    (highest-none (wholeIn (a .firsts .now) (λ m. getD (a .counts .now) m 0)) (a .items .now) (a .from) (a .to) (c .before .before .before .before .pre .0) (c .if1 .taken), omega arith)
+    (highest-none (wholeIn (a .firsts .now) (a .counts .now)) (a .items .now) (a .from) (a .to) (c .before .before .before .before .pre .0) (c .if1 .taken), omega arith)
 
 sub-last : tie.Need-sub-last
 sub-last c = search needs
@@ -58,7 +58,7 @@ unfolding wholeIn
 returns-2 c =
     let a = c .before .before .before .before .before .before .before .before .before .args in
     let p = c .before .before .before .before .before .before .before .before .before .pre in
-    let w = wholeIn (a .firsts .now) (λ m. getD (a .counts .now) m 0) in
+    let w = wholeIn (a .firsts .now) (a .counts .now) in
     (sym (highest-is (a .items .now) (a .from) (a .to) (p .0) (c .before .before .before .before .before .if1 .left) w ∙ rw (eq-eqb _ _ (sym (c .before .before .before .count-heads .ensures) ∙ c .if2 .taken))), omega (arith, last-below (a .items .now) (a .from) (a .to) (p .0) (c .before .before .before .before .before .if1 .left) (a .run .0) (p .1 .0)))
 
 returns-3 : tie.Need-returns-3
@@ -66,7 +66,7 @@ unfolding wholeIn
 returns-3 c =
     let a = c .before .before .before .before .before .before .before .before .before .args in
     let p = c .before .before .before .before .before .before .before .before .before .pre in
-    let w = wholeIn (a .firsts .now) (λ m. getD (a .counts .now) m 0) in
+    let w = wholeIn (a .firsts .now) (a .counts .now) in
     (sym (highest-is (a .items .now) (a .from) (a .to) (p .0) (c .before .before .before .before .before .if1 .left) w ∙ rw (ne-eqb _ _ (λ e. c .if2 .left (c .before .before .before .count-heads .ensures ∙ e)))), omega (arith, last-below (a .items .now) (a .from) (a .to) (p .0) (c .before .before .before .before .before .if1 .left) (a .run .0) (p .1 .0)))
 
 pub highest-spec : {M : Type 1} → statement M

@@ -31,18 +31,18 @@ shared-slice-read-p c = search needs
 cast-p : tie.Need-cast-p Inv-loop μ-loop
 cast-p c = omega (arith, c .shared-slice-known2 .given (c .before .before .loop .i))
 
-mul-first-of : tie.Need-mul-first-of Inv-loop μ-loop
-mul-first-of c = omega (arith, c .shared-slice-known2 .given (c .before .before .loop .i))
+mul-noted : tie.Need-mul-noted Inv-loop μ-loop
+mul-noted c = omega (arith, c .shared-slice-known2 .given (c .before .before .loop .i))
 
-slice-read-first-of : tie.Need-slice-read-first-of Inv-loop μ-loop
-slice-read-first-of c =
+slice-read-noted : tie.Need-slice-read-noted Inv-loop μ-loop
+slice-read-noted c =
     let a = c .before .before .before .before .before .before .args in
     let p = c .before .before .before .before .before .before .pre in
     let l = c .before .before .before .loop in
     omega (arith, part-here (a .items .now) (a .to) (p .0) (l .i) (length (a .firsts .now)) (c .before .before .loop-test .taken) (l .inv .1 .0), l .inv .0)
 
-first-of-requires : tie.Need-first-of-requires Inv-loop μ-loop
-first-of-requires c κs = search needs
+noted-requires : tie.Need-noted-requires Inv-loop μ-loop
+noted-requires c κs = search needs
 
 mul-firsts : tie.Need-mul-firsts Inv-loop μ-loop
 mul-firsts c = omega (arith, c .before .before .shared-slice-known2 .given (c .before .before .before .before .loop .i))
@@ -65,7 +65,7 @@ loop-again c =
     let a = c .before .before .before .before .before .before .before .args in
     let p = c .before .before .before .before .before .before .before .pre in
     let l = c .before .before .before .before .loop in
-    (simp length-set (l .inv .0), (part-later (a .items .now) (a .to) (p .0) (l .i) (length (a .firsts .now)) (c .before .before .before .loop-test .taken) (l .inv .1 .0), rw (c .first-of .ensures) (note-next (a .items .now) (a .to) (p .0) (l .i) (l .firsts) (a .child .0) (c .before .before .before .loop-test .taken)) ∙ l .inv .1 .1))
+    (simp length-set (l .inv .0), (part-later (a .items .now) (a .to) (p .0) (l .i) (length (a .firsts .now)) (c .before .before .before .loop-test .taken) (l .inv .1 .0), rw (c .noted .ensures) (note-next (a .items .now) (a .to) (p .0) (l .i) (l .firsts) (a .child .0) (c .before .before .before .loop-test .taken)) ∙ l .inv .1 .1))
 
 same-length : tie.Need-same-length Inv-loop μ-loop
 same-length c = c .before .loop .inv .0
@@ -87,9 +87,9 @@ note-child-spec =
     mul-p
     shared-slice-read-p
     cast-p
-    mul-first-of
-    slice-read-first-of
-    first-of-requires
+    mul-noted
+    slice-read-noted
+    noted-requires
     mul-firsts
     slice-write-firsts
     add-i

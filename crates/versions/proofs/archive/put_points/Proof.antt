@@ -12,10 +12,10 @@ use Rattle.versions.proofs.archive.put_points.Statement.{statement}
 use Rattle.versions.proofs.archive.put_points.Tie as tie
 
 abbrev Inv-loop : tie.InvT-loop
-Inv-loop starts runs n list₀ p₀ i₀ list p i = (length list ≡ length list₀) × (putAll 1 (p, list) (pointsOf starts (drop i (take n runs))) ≡ putAll 1 (p₀, list₀) (pointsOf starts (drop i₀ (take n runs))))
+Inv-loop starts points n list₀ p₀ i₀ list p i = (length list ≡ length list₀) × (putAll 1 (p, list) (pointsOf starts (drop i (take n points))) ≡ putAll 1 (p₀, list₀) (pointsOf starts (drop i₀ (take n points))))
 
 abbrev μ-loop : tie.MeasureT-loop
-μ-loop starts runs n list₀ p₀ i₀ list p i = n - i
+μ-loop starts points n list₀ p₀ i₀ list p i = n - i
 
 loop-holds : tie.Need-loop-holds Inv-loop μ-loop
 loop-holds c = (refl, refl)
@@ -37,7 +37,7 @@ shared-slice-read-put-one-2 c =
     let a = c .before .before .before .before .before .before .before .before .args in
     let p = c .before .before .before .before .before .before .before .before .pre in
     let l = c .before .before .before .before .loop in
-    point-in (a .starts .now) (a .runs .now) (a .n) (p .0) (l .i) (p .1) (c .before .before .before .loop-test .taken)
+    point-in (a .starts .now) (a .points .now) (a .n) (p .0) (l .i) (p .1) (c .before .before .before .loop-test .taken)
 
 put-one-requires : tie.Need-put-one-requires Inv-loop μ-loop
 put-one-requires c κs = search needs
@@ -53,7 +53,7 @@ loop-again c =
     let a = c .before .before .before .before .before .before .before .before .before .before .before .args in
     let p = c .before .before .before .before .before .before .before .before .before .before .before .pre in
     let l = c .before .before .before .before .before .before .before .loop in
-    (c .before .before .put-one .kept .0 ∙ l .inv .0, ap (λ (w : Put × List ℕ). putAll 1 w (pointsOf (a .starts .now) (drop (l .i + 1) (take (a .n) (a .runs .now))))) (c .before .before .put-one .ensures) ∙ (point-next (a .starts .now) (a .runs .now) (a .n) (p .0) (l .i) (l .p, l .list) (c .before .before .before .before .before .before .loop-test .taken) ∙ l .inv .1))
+    (c .before .before .put-one .kept .0 ∙ l .inv .0, ap (λ (w : Put × List ℕ). putAll 1 w (pointsOf (a .starts .now) (drop (l .i + 1) (take (a .n) (a .points .now))))) (c .before .before .put-one .ensures) ∙ (point-next (a .starts .now) (a .points .now) (a .n) (p .0) (l .i) (l .p, l .list) (c .before .before .before .before .before .before .loop-test .taken) ∙ l .inv .1))
 
 same-length : tie.Need-same-length Inv-loop μ-loop
 same-length c = c .before .loop .inv .0
@@ -64,7 +64,7 @@ returns c =
     let a = c .before .before .before .before .before .args in
     let p = c .before .before .before .before .before .pre in
     let l = c .before .loop in
-    point-none (a .starts .now) (a .runs .now) (a .n) (p .0) (l .i) (l .p, l .list) (c .loop-test .left) ∙ l .inv .1
+    point-none (a .starts .now) (a .points .now) (a .n) (p .0) (l .i) (l .p, l .list) (c .loop-test .left) ∙ l .inv .1
 
 pub put-points-spec : {M : Type 1} → statement M
 put-points-spec =

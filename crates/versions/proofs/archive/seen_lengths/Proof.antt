@@ -11,7 +11,7 @@ use Rattle.versions.proofs.archive.seen_lengths.Statement.{statement}
 use Rattle.versions.proofs.archive.seen_lengths.Tie as tie
 
 abbrev Inv-loop : tie.InvT-loop
-Inv-loop firsts counts events starts items n seen₀ q₀ seen q = (q ≤ n) × (length seen ≡ 512) × ((k : ℕ) → k < q → getD seen k 0 ≡ getD events (highestBy (wholeIn firsts (λ m. getD counts m 0)) (row starts items k)) 0)
+Inv-loop firsts counts events starts items n seen₀ q₀ seen q = (q ≤ n) × (length seen ≡ 512) × ((k : ℕ) → k < q → getD seen k 0 ≡ getD events (highestBy (wholeIn firsts counts) (row starts items k)) 0)
 
 abbrev μ-loop : tie.MeasureT-loop
 μ-loop firsts counts events starts items n seen₀ q₀ seen q = n - q
@@ -81,7 +81,7 @@ loop-again c =
     let a = c .before .before .before .before .before .before .before .before .before .before .before .before .before .before .args in
     let p = c .before .before .before .before .before .before .before .before .before .before .before .before .before .before .pre in
     let l = c .before .before .before .before .before .before .loop in
-    let f : ℕ → ℕ = λ k. getD (a .events .now) (highestBy (wholeIn (a .firsts .now) (λ m. getD (a .counts .now) m 0)) (row (a .starts .now) (a .items .now) k)) 0 in (
+    let f : ℕ → ℕ = λ k. getD (a .events .now) (highestBy (wholeIn (a .firsts .now) (a .counts .now)) (row (a .starts .now) (a .items .now) k)) 0 in (
       omega arith,
       simp length-set (l .inv .1),
       filled-next f (l .seen) (l .q) _ (omega (arith, l .inv .1, p .0 .few)) (l .inv .2) (ap (λ (k : ℕ). getD (a .events .now) k 0) (c .before .before .highest .ensures .0)),

@@ -14,7 +14,7 @@ use Rattle.lists.proofs.Passing.{passing-test, passing-rises}
 use Rattle.lists.proofs.Sharing.{count-all, count-filter, count-parted, count-shared}
 use Rattle.model.specs.History.{at}
 use Rattle.model.proofs.Histories.{Below}
-use Rattle.versions.specs.Heads.{childless, heads, isHead, headCount}
+use Rattle.versions.specs.Heads.{childless, heads, isHead, headCount, HeadsFit}
 
 module _ (pss : List (List ℕ)) (below : Below pss) (rise : (r : ℕ) → rising (at pss r) ≡ true) where
   -- Below one run more: the run itself has no child there, and its parents have one
@@ -67,7 +67,7 @@ module _ (pss : List (List ℕ)) (below : Below pss) (rise : (r : ℕ) → risin
     count-is (suc m) le = omega (arith, count-is m (omega arith), counted m le, heads-next m)
 
     -- and never below 0
-    pub count-fits : (m : ℕ) → m < n → count (isHead firsts m) (rows m) ≤ headCount firsts rows m
+    pub count-fits : HeadsFit firsts rows n
     count-fits m lt = omega (
       arith,
       counted m lt,
