@@ -1,8 +1,10 @@
 -- The laws behind the versions' code.
+-- The concurrency list
 pub mod Flagging
 pub mod Comparing
 pub mod Passes
 pub mod ConcurrentWays
+-- Archive points
 pub mod FirstChildren
 pub mod HeadCounting
 pub mod ByHeads

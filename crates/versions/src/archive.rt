@@ -16,7 +16,7 @@ ghost use Rattle.model.specs.Archive.{seenByLater, archivePointsOf};
 ghost use Rattle.graph.specs.Cutting.{blank, putAll};
 ghost use Rattle.graph.specs.Rows.{row, Rows};
 ghost use Rattle.versions.specs.Heads.{noted, noteAll, firstChildren, isHead, highestBy, wholeIn, HeadsFit, HeadCounts, SeenLengths};
-use crate::flags::put_one;
+use crate::words::put_one;
 use graph::cut::Put;
 use lists::Kept;
 use model::CausalGraph;

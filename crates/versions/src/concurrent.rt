@@ -1,11 +1,11 @@
 // The runs that are concurrent with a run, into a lent list.
 ghost use mathlib.Core.Path.{_≡_};
-ghost use mathlib.Core.Bool.{cond};
+ghost use mathlib.Core.Bool.{true, cond};
 ghost use mathlib.Core.List.{[], _∷_, map};
 ghost use Prim.Native.Nat.{_-_, _≤_, _<_};
 ghost use lib.ListN.{length};
 ghost use lib.Dec.{eqb};
-ghost use Rattle.lists.specs.Lists.{bit, any};
+ghost use Rattle.lists.specs.Lists.{bit, any, below};
 ghost use Rattle.lists.specs.Areas.{part};
 ghost use Rattle.model.specs.Limits.{maxRuns};
 ghost use Rattle.model.specs.Record.{view};
@@ -13,7 +13,8 @@ ghost use Rattle.model.specs.Broken.{Held};
 ghost use Rattle.model.specs.Beside.{concurrencyListOf};
 ghost use Rattle.graph.specs.Cutting.{blank, put, putAll};
 ghost use Rattle.graph.specs.Rows.{row, Rows};
-ghost use Rattle.versions.specs.Flags.{flagParents, flagDown, flagged, flagChild, flagUp, free, Flags};
+ghost use Rattle.versions.specs.Flags.{flagAll, flagParents, flagDown, flagged, flagChild, flagUp, free, Flags};
+use crate::words::put_one;
 use graph::cut::Put;
 use model::CausalGraph;
 use model::EventRunIndex;
@@ -21,6 +22,19 @@ use model::MAX_RUNS;
 use model::Outcome;
 use model::Refusal;
 use model::Written;
+
+// Flags the numbers of a part of a list.
+fn flag_part(flags: &mut [u32], items: &[u32], from: usize, to: usize)
+    requires { ⌜ to ≤ length (now items) ⌝ }
+    requires { ⌜ below (length (now flags)) (part from to (now items)) ≡ true ⌝ }
+    ensures { λ _. ⌜ now (flags .exit) ≡ flagAll (now (flags .entry)) (part from to (now (items .entry))) ⌝ }
+{
+    let mut i = from;
+    while i < to {
+        flags[items[i] as usize] = 1;
+        i += 1;
+    }
+}
 
 // The parents of a run are flagged if it is.
 fn flag_parents<'a>(
@@ -39,7 +53,7 @@ fn flag_parents<'a>(
     if flags[at] == 0 {
         return;
     }
-    crate::flags::flag_part(flags, items, starts[at] as usize, starts[at + 1] as usize)
+    flag_part(flags, items, starts[at] as usize, starts[at + 1] as usize)
 }
 
 // The same of the runs before `end`, from the last down.
@@ -152,12 +166,33 @@ fn flags_of(g: CausalGraph, run: EventRunIndex) -> [u32; MAX_RUNS]
     f
 }
 
+// 1 if a flag is 0, else 0.
+fn one_if_free(flag: u32) -> usize
+    ensures { λ r. ⌜ (r ≡ bit (eqb flag 0)) × (r ≤ 1) ⌝ }
+{
+    if flag == 0 { 1 } else { 0 }
+}
+
+// How many of n runs have no flag.
+fn count_free(flags: &[u32], n: usize) -> usize
+    requires { ⌜ n ≤ length (now flags) ⌝ }
+    ensures { λ r. ⌜ r ≡ length (free (now (flags .entry)) n) ⌝ }
+{
+    let mut k = 0;
+    let mut q = 0;
+    while q < n {
+        k += one_if_free(flags[q]);
+        q += 1;
+    }
+    k
+}
+
 // Writes a run if it has no flag.
 fn put_free(list: &mut [u32], p: Put, run: EventRunIndex, flag: u32) -> Put
     ensures { λ r. ⌜ (r, now (list .exit)) ≡ cond (eqb flag 0) (put 1 (p, now (list .entry)) (run .0 ∷ [])) (p, now (list .entry)) ⌝ }
 {
     if flag == 0 {
-        return crate::flags::put_one(list, p, run.0);
+        return put_one(list, p, run.0);
     }
     p
 }
@@ -191,7 +226,7 @@ fn concurrent_held(g: CausalGraph, run: EventRunIndex, list: &mut [u32]) -> Writ
         };
     }
     let flags = flags_of(g, run);
-    let k = crate::flags::count_free(&flags, n);
+    let k = count_free(&flags, n);
     if list.len() < k {
         return Written {
             count: 0,

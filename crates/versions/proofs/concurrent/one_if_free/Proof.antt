@@ -1,8 +1,8 @@
--- `versions::flags::one_if_free` meets its contract: by its flag. Assumes nothing.
+-- `versions::concurrent::one_if_free` meets its contract: by its flag. Assumes nothing.
 use native.Mathlib.Omega.{arith}
 use borrow.Author.Tests.{eq-eqb, ne-eqb}
-use Rattle.versions.proofs.flags.one_if_free.Statement.{statement}
-use Rattle.versions.proofs.flags.one_if_free.Tie as tie
+use Rattle.versions.proofs.concurrent.one_if_free.Statement.{statement}
+use Rattle.versions.proofs.concurrent.one_if_free.Tie as tie
 
 returns : tie.Need-returns
 returns c = (rw (eq-eqb _ _ (c .if1 .taken)), omega arith)

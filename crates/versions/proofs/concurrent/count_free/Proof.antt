@@ -1,12 +1,12 @@
--- `versions::flags::count_free` meets its contract. The loop's invariant: the count with those left is the whole. The measure is what is left of `n`. Assumes nothing.
+-- `versions::concurrent::count_free` meets its contract. The loop's invariant: the count with those left is the whole. The measure is what is left of `n`. Assumes nothing.
 use borrow.Author.Needs.{needs}
 use mathlib.Core.Path.{_≡_, ap}
 use Prim.Native.Nat.{_≤_, _-_, _+_}
 use native.Mathlib.Omega.{arith}
 use lib.ListN.{length}
 use Rattle.versions.proofs.Passes.{freeFrom, free-start, free-none, count-next}
-use Rattle.versions.proofs.flags.count_free.Statement.{statement}
-use Rattle.versions.proofs.flags.count_free.Tie as tie
+use Rattle.versions.proofs.concurrent.count_free.Statement.{statement}
+use Rattle.versions.proofs.concurrent.count_free.Tie as tie
 
 abbrev Inv-loop : tie.InvT-loop
 Inv-loop flags n k₀ q₀ k q = (k ≤ q) × (k + length (freeFrom flags q n) ≡ length (freeFrom flags q₀ n))

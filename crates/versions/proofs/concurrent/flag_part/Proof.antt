@@ -1,4 +1,4 @@
--- `versions::flags::flag_part` meets its contract. The loop's invariant: what is left, flagged from here, is the whole. The measure is what is left of the part. Assumes nothing.
+-- `versions::concurrent::flag_part` meets its contract. The loop's invariant: what is left, flagged from here, is the whole. The measure is what is left of the part. Assumes nothing.
 use borrow.Author.Needs.{needs}
 use mathlib.Core.Path.{_≡_, refl, _∙_}
 use mathlib.Core.Bool.{true}
@@ -9,8 +9,8 @@ use Rattle.lists.specs.Lists.{below}
 use Rattle.lists.specs.Areas.{part}
 use Rattle.versions.specs.Flags.{flagAll}
 use Rattle.versions.proofs.Passes.{part-here, part-later, flag-next, flag-none}
-use Rattle.versions.proofs.flags.flag_part.Statement.{statement}
-use Rattle.versions.proofs.flags.flag_part.Tie as tie
+use Rattle.versions.proofs.concurrent.flag_part.Statement.{statement}
+use Rattle.versions.proofs.concurrent.flag_part.Tie as tie
 
 abbrev Inv-loop : tie.InvT-loop
 Inv-loop flags₀ items from to i₀ flags i = (length flags ≡ length flags₀) × ((below (length flags₀) (part i to items) ≡ true) × (flagAll flags (part i to items) ≡ flagAll flags₀ (part i₀ to items)))

@@ -1,4 +1,4 @@
--- `versions::flags::put_one` meets its contract: the word is a record at its place. Assumes nothing.
+-- `versions::words::put_one` meets its contract: the word is a record at its place. Assumes nothing.
 use borrow.Author.Needs.{needs}
 use mathlib.Core.Path.{sym, _∙_, ap}
 use mathlib.Core.List.{List, [], _∷_}
@@ -6,8 +6,8 @@ use Prim.Native.Nat.{ℕ, _+_}
 use native.Mathlib.Omega.{arith}
 use Rattle.graph.specs.declared.cut.Put.{Put}
 use Rattle.graph.proofs.Writing.{put-after, put-none, put-one, one-word}
-use Rattle.versions.proofs.flags.put_one.Statement.{statement}
-use Rattle.versions.proofs.flags.put_one.Tie as tie
+use Rattle.versions.proofs.words.put_one.Statement.{statement}
+use Rattle.versions.proofs.words.put_one.Tie as tie
 
 returns : tie.Need-returns
 returns c =
