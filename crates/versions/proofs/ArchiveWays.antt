@@ -166,7 +166,8 @@ module _ (g : CausalGraph) (held : Held g) where
         pub marks-are : marksOf 0 starts lows ≡ filter (λ r. seenByLater G (start G r)) (upto (runs G))
         unfolding upto
         marks-are =
-            marks-filter starts lows (runs G) (omega (arith, lows-long, runs-view g held)) (omega (arith, lows-long, length-take (n + 1) (g .starts), facts g held .runs, facts g held .sized .starts)) ∙
+            marks-filter starts lows (runs G) (omega (arith, lows-long, runs-view g held))
+            (omega (arith, lows-long, length-take (n + 1) (g .starts), facts g held .runs, facts g held .sized .starts)) ∙
             filter-agree (isMark starts lows) (λ r. seenByLater G (start G r)) (upto (runs G)) (λ r m. mark-is r (omega (arith, (mem-from r 0 (runs G) m) .1, runs-view g held)))
 
   -- The runs that start at archive points

@@ -12,7 +12,8 @@ put-points-requires : tie.Need-put-points-requires
 put-points-requires c κs =
     let a = c .before .before .before .before .before .before .before .before .before .args in
     let p = c .before .before .before .before .before .before .before .before .before .pre in
-    (points-fit (a .t1) p (c .before .before .before .before .before .before .before .point-runs .result) (c .before .before .before .before .before .before .before .point-runs .ensures), points-below (a .t1) p (c .before .before .before .before .before .before .before .point-runs .result) (c .before .before .before .before .before .before .before .point-runs .ensures))
+    let r = c .before .before .before .before .before .before .before .point-runs in
+    (points-fit (a .t1) p (r .result) (r .ensures), points-below (a .t1) p (r .result) (r .ensures))
 
 written-requires : tie.Need-written-requires
 written-requires c κs = search needs
@@ -25,7 +26,8 @@ unfolding pointsOf
 returns c =
     let a = c .before .before .before .before .before .before .before .before .before .before .before .before .before .args in
     let p = c .before .before .before .before .before .before .before .before .before .before .before .before .before .pre in
-    rw (c .written .ensures) (archive-done (a .t1) (a .list .now) (p) _ _ _ (points-are (a .t1) p (c .before .before .before .before .before .before .before .before .before .before .before .point-runs .result) (c .before .before .before .before .before .before .before .before .before .before .before .point-runs .ensures)) (c .before .before .before .put-points .ensures))
+    let r = c .before .before .before .before .before .before .before .before .before .before .before .point-runs in
+    rw (c .written .ensures) (archive-done (a .t1) (a .list .now) p _ _ _ (points-are (a .t1) p (r .result) (r .ensures)) (c .before .before .before .put-points .ensures))
 
 pub archive-held-spec : {M : Type 1} → statement M
 archive-held-spec =

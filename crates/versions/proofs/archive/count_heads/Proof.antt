@@ -14,7 +14,9 @@ use Rattle.versions.proofs.archive.count_heads.Statement.{statement}
 use Rattle.versions.proofs.archive.count_heads.Tie as tie
 
 abbrev Inv-loop : tie.InvT-loop
-Inv-loop firsts items from to run k₀ i₀ k i = (k ≤ i) × ((below (length firsts) (part i to items) ≡ true) × (k + count (isHead firsts (run .0)) (part i to items) ≡ count (isHead firsts (run .0)) (part i₀ to items)))
+Inv-loop firsts items from to run k₀ i₀ k i =
+    (k ≤ i) × ((below (length firsts) (part i to items) ≡ true) ×
+    (k + count (isHead firsts (run .0)) (part i to items) ≡ count (isHead firsts (run .0)) (part i₀ to items)))
 
 abbrev μ-loop : tie.MeasureT-loop
 μ-loop firsts items from to run k₀ i₀ k i = to - i
@@ -59,7 +61,14 @@ loop-again c =
     let a = c .before .before .before .before .before .before .before .args in
     let p = c .before .before .before .before .before .before .before .pre in
     let l = c .before .before .before .before .loop in
-    (omega (arith, c .one-if-head .ensures .1), (part-later (a .items .now) (a .to) (p .0) (l .i) (length (a .firsts .now)) (c .before .before .before .loop-test .taken) (l .inv .1 .0), omega (arith, c .one-if-head .ensures .0, part-count (a .items .now) (a .to) (p .0) (l .i) (isHead (a .firsts .now) (a .run .0)) (c .before .before .before .loop-test .taken), l .inv .1 .1)))
+    let lt = c .before .before .before .loop-test .taken in
+    let e = c .one-if-head .ensures in (
+      omega (arith, e .1),
+      (
+        part-later (a .items .now) (a .to) (p .0) (l .i) (length (a .firsts .now)) lt (l .inv .1 .0),
+        omega (arith, e .0, part-count (a .items .now) (a .to) (p .0) (l .i) (isHead (a .firsts .now) (a .run .0)) lt, l .inv .1 .1),
+      ),
+    )
 
 returns : tie.Need-returns Inv-loop μ-loop
 returns c =

@@ -23,10 +23,15 @@ nothing-requires : tie.Need-nothing-requires Inv-loop μ-loop
 nothing-requires c κs = search needs
 
 loop-holds : tie.Need-loop-holds Inv-loop μ-loop
-loop-holds c = (omega arith, children-start (row (c .before .before .before .before .args .starts .now) (c .before .before .before .before .args .items .now)) (c .before .nothing .result) (c .before .nothing .ensures))
+loop-holds c =
+    let a = c .before .before .before .before .args in
+    (omega arith, children-start (row (a .starts .now) (a .items .now)) (c .before .nothing .result) (c .before .nothing .ensures))
 
 slice-aggregate-note-child : tie.Need-slice-aggregate-note-child Inv-loop μ-loop
-slice-aggregate-note-child c = sym (ap length (c .before .before .loop .inv .1) ∙ firsts-length (row (c .before .before .before .before .before .before .before .args .starts .now) (c .before .before .before .before .before .before .before .args .items .now)) (c .before .before .loop .q))
+slice-aggregate-note-child c =
+    let a = c .before .before .before .before .before .before .before .args in
+    let l = c .before .before .loop in
+    sym (ap length (l .inv .1) ∙ firsts-length (row (a .starts .now) (a .items .now)) (l .q))
 
 mul-note-child : tie.Need-mul-note-child Inv-loop μ-loop
 mul-note-child c = search needs
@@ -71,7 +76,8 @@ unfolding row
 loop-again c =
     let a = c .before .before .before .before .before .before .before .before .before .before .before .args in
     let l = c .before .before .before .before .before .before .loop in
-    (omega arith, c .before .note-child .ensures ∙ (ap (λ (f : List ℕ). noteAll f (l .q) (row (a .starts .now) (a .items .now) (l .q))) (l .inv .1) ∙ children-next (row (a .starts .now) (a .items .now)) (l .q)))
+    let rows : ℕ → List ℕ = row (a .starts .now) (a .items .now) in
+    (omega arith, c .before .note-child .ensures ∙ (ap (λ (f : List ℕ). noteAll f (l .q) (rows (l .q))) (l .inv .1) ∙ children-next rows (l .q)))
 
 returns : tie.Need-returns Inv-loop μ-loop
 returns c =

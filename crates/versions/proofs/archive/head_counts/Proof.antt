@@ -1,18 +1,19 @@
 -- `versions::archive::head_counts` meets its contract. The loop's invariant: the count below the next run, and each place so far. The measure is what is left of `n`. Assumes nothing.
 use borrow.Author.Needs.{needs}
 use mathlib.Core.Path.{_≡_}
-use Prim.Native.Nat.{ℕ, _≤_, _<_, _-_, _+_}
+use Prim.Native.Nat.{ℕ, _≤_, _-_, _+_}
 use native.Mathlib.Omega.{arith}
-use lib.ListN.{length, getD, length-set}
+use lib.ListN.{length, length-set}
 use Rattle.graph.specs.Rows.{row}
-use Rattle.versions.specs.Heads.{headCount}
+use Rattle.versions.specs.Heads.{headCount, HeadCounts}
 use Rattle.versions.proofs.Passes.{row-below}
 use Rattle.versions.proofs.HeadTurns.{blank-length, count-start, count-turn, filled-next}
 use Rattle.versions.proofs.archive.head_counts.Statement.{statement}
 use Rattle.versions.proofs.archive.head_counts.Tie as tie
 
 abbrev Inv-loop : tie.InvT-loop
-Inv-loop firsts starts items n counts₀ heads₀ m₀ counts heads m = (m ≤ n) × (length counts ≡ 512) × (heads ≤ m) × (heads ≡ headCount firsts (row starts items) m) × ((k : ℕ) → k < m → getD counts k 0 ≡ headCount firsts (row starts items) k)
+Inv-loop firsts starts items n counts₀ heads₀ m₀ counts heads m =
+    (m ≤ n) × (length counts ≡ 512) × (heads ≤ m) × (heads ≡ headCount firsts (row starts items) m) × HeadCounts firsts (row starts items) m counts
 
 abbrev μ-loop : tie.MeasureT-loop
 μ-loop firsts starts items n counts₀ heads₀ m₀ counts heads m = n - m
@@ -21,7 +22,10 @@ nothing-requires : tie.Need-nothing-requires Inv-loop μ-loop
 nothing-requires c κs = search needs
 
 loop-holds : tie.Need-loop-holds Inv-loop μ-loop
-loop-holds c = (omega arith, blank-length (c .before .nothing .result) (c .before .nothing .ensures), omega arith, count-start (c .before .before .before .before .before .args .firsts .now) (row (c .before .before .before .before .before .args .starts .now) (c .before .before .before .before .before .args .items .now)), λ k h. absurd (omega arith))
+loop-holds c =
+    let a = c .before .before .before .before .before .args in
+    let none = c .before .nothing in
+    (omega arith, blank-length (none .result) (none .ensures), omega arith, count-start (a .firsts .now) (row (a .starts .now) (a .items .now)), λ k h. absurd (omega arith))
 
 cast-counts : tie.Need-cast-counts Inv-loop μ-loop
 cast-counts c = omega (arith, c .before .before .before .before .before .before .before .pre .0 .few)

@@ -51,7 +51,9 @@ shared-slice-read-if2 c =
     omega (arith, last-below (a .items .now) (a .from) (a .to) (p .0) (c .before .before .before .before .if1 .left) (a .run .0) (p .1 .0), p .1 .1 .1)
 
 cast-if2 : tie.Need-cast-if2
-cast-if2 c = omega (arith, c .shared-slice-known5 .given (getD (c .before .before .before .before .before .before .before .before .args .items .now) (c .before .before .before .before .before .before .before .before .args .to - 1) 0 + 1))
+cast-if2 c =
+    let a = c .before .before .before .before .before .before .before .before .args in
+    omega (arith, c .shared-slice-known5 .given (getD (a .items .now) (a .to - 1) 0 + 1))
 
 returns-2 : tie.Need-returns-2
 unfolding wholeIn
@@ -59,7 +61,10 @@ returns-2 c =
     let a = c .before .before .before .before .before .before .before .before .before .args in
     let p = c .before .before .before .before .before .before .before .before .before .pre in
     let w = wholeIn (a .firsts .now) (a .counts .now) in
-    (sym (highest-is (a .items .now) (a .from) (a .to) (p .0) (c .before .before .before .before .before .if1 .left) w ∙ rw (eq-eqb _ _ (sym (c .before .before .before .count-heads .ensures) ∙ c .if2 .taken))), omega (arith, last-below (a .items .now) (a .from) (a .to) (p .0) (c .before .before .before .before .before .if1 .left) (a .run .0) (p .1 .0)))
+    let some = c .before .before .before .before .before .if1 .left in (
+      sym (highest-is (a .items .now) (a .from) (a .to) (p .0) some w ∙ rw (eq-eqb _ _ (sym (c .before .before .before .count-heads .ensures) ∙ c .if2 .taken))),
+      omega (arith, last-below (a .items .now) (a .from) (a .to) (p .0) some (a .run .0) (p .1 .0)),
+    )
 
 returns-3 : tie.Need-returns-3
 unfolding wholeIn
@@ -67,7 +72,10 @@ returns-3 c =
     let a = c .before .before .before .before .before .before .before .before .before .args in
     let p = c .before .before .before .before .before .before .before .before .before .pre in
     let w = wholeIn (a .firsts .now) (a .counts .now) in
-    (sym (highest-is (a .items .now) (a .from) (a .to) (p .0) (c .before .before .before .before .before .if1 .left) w ∙ rw (ne-eqb _ _ (λ e. c .if2 .left (c .before .before .before .count-heads .ensures ∙ e)))), omega (arith, last-below (a .items .now) (a .from) (a .to) (p .0) (c .before .before .before .before .before .if1 .left) (a .run .0) (p .1 .0)))
+    let some = c .before .before .before .before .before .if1 .left in (
+      sym (highest-is (a .items .now) (a .from) (a .to) (p .0) some w ∙ rw (ne-eqb _ _ (λ e. c .if2 .left (c .before .before .before .count-heads .ensures ∙ e)))),
+      omega (arith, last-below (a .items .now) (a .from) (a .to) (p .0) some (a .run .0) (p .1 .0)),
+    )
 
 pub highest-spec : {M : Type 1} → statement M
 highest-spec =

@@ -14,7 +14,9 @@ use Rattle.versions.proofs.archive.note_child.Statement.{statement}
 use Rattle.versions.proofs.archive.note_child.Tie as tie
 
 abbrev Inv-loop : tie.InvT-loop
-Inv-loop firsts₀ items from to child i₀ firsts i = (length firsts ≡ length firsts₀) × ((below (length firsts₀) (part i to items) ≡ true) × (noteAll firsts (child .0) (part i to items) ≡ noteAll firsts₀ (child .0) (part i₀ to items)))
+Inv-loop firsts₀ items from to child i₀ firsts i =
+    (length firsts ≡ length firsts₀) × ((below (length firsts₀) (part i to items) ≡ true) ×
+    (noteAll firsts (child .0) (part i to items) ≡ noteAll firsts₀ (child .0) (part i₀ to items)))
 
 abbrev μ-loop : tie.MeasureT-loop
 μ-loop firsts₀ items from to child i₀ firsts i = to - i
@@ -65,7 +67,13 @@ loop-again c =
     let a = c .before .before .before .before .before .before .before .args in
     let p = c .before .before .before .before .before .before .before .pre in
     let l = c .before .before .before .before .loop in
-    (simp length-set (l .inv .0), (part-later (a .items .now) (a .to) (p .0) (l .i) (length (a .firsts .now)) (c .before .before .before .loop-test .taken) (l .inv .1 .0), rw (c .noted .ensures) (note-next (a .items .now) (a .to) (p .0) (l .i) (l .firsts) (a .child .0) (c .before .before .before .loop-test .taken)) ∙ l .inv .1 .1))
+    let lt = c .before .before .before .loop-test .taken in (
+      simp length-set (l .inv .0),
+      (
+        part-later (a .items .now) (a .to) (p .0) (l .i) (length (a .firsts .now)) lt (l .inv .1 .0),
+        rw (c .noted .ensures) (note-next (a .items .now) (a .to) (p .0) (l .i) (l .firsts) (a .child .0) lt) ∙ l .inv .1 .1,
+      ),
+    )
 
 same-length : tie.Need-same-length Inv-loop μ-loop
 same-length c = c .before .loop .inv .0

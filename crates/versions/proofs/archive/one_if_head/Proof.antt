@@ -8,10 +8,14 @@ returns : tie.Need-returns
 returns c = (rw (eq-eqb (c .before .args .first) 0 (c .if1 .taken)), omega arith)
 
 returns-2 : tie.Need-returns-2
-returns-2 c = (rw (ne-eqb (c .before .before .before .args .first) 0 (c .before .before .if1 .left), le-leb (c .before .before .before .args .run .0) (c .before .before .before .args .first) (c .if2 .taken)), omega arith)
+returns-2 c =
+    let a = c .before .before .before .args in
+    (rw (ne-eqb (a .first) 0 (c .before .before .if1 .left), le-leb (a .run .0) (a .first) (c .if2 .taken)), omega arith)
 
 returns-3 : tie.Need-returns-3
-returns-3 c = (rw (ne-eqb (c .before .before .before .args .first) 0 (c .before .before .if1 .left), lt-leb (c .before .before .before .args .run .0) (c .before .before .before .args .first) (c .if2 .left)), omega arith)
+returns-3 c =
+    let a = c .before .before .before .args in
+    (rw (ne-eqb (a .first) 0 (c .before .before .if1 .left), lt-leb (a .run .0) (a .first) (c .if2 .left)), omega arith)
 
 pub one-if-head-spec : {M : Type 1} → statement M
 one-if-head-spec = tie.close (tie.spec returns returns-2 returns-3)

@@ -40,19 +40,22 @@ slice-aggregate-marks-of c = search needs
 
 marks-of-requires : tie.Need-marks-of-requires
 marks-of-requires c κs =
-    let a = c .before .before .before .before .before .before .before .before .before .before .before .before .before .before .before .before .before .before .before .before .before .before .before .before .before .before .before .args in
-    let p = c .before .before .before .before .before .before .before .before .before .before .before .before .before .before .before .before .before .before .before .before .before .before .before .before .before .before .before .pre in
+    let b = c .before .before .before .before .before .before .before .before .before .before .before .before .before .before in
+    let a = b .before .before .before .before .before .before .before .before .before .before .before .before .before .args in
+    let p = b .before .before .before .before .before .before .before .before .before .before .before .before .before .pre in
     let k = facts (a .t1) p in
     (omega (arith, k .runs, k .sized .starts), (omega (arith, k .runs), k .runs))
 
 returns : tie.Need-returns
 returns c =
-    let a = c .before .before .before .before .before .before .before .before .before .before .before .before .before .before .before .before .before .before .before .before .before .before .before .before .before .before .before .before .args in
-    let p = c .before .before .before .before .before .before .before .before .before .before .before .before .before .before .before .before .before .before .before .before .before .before .before .before .before .before .before .before .pre in
-    let f = c .before .before .before .before .before .before .before .before .before .before .before .before .before .before .before .before .before .before .before .before .before .before .first-children in
-    let h = c .before .before .before .before .before .before .before .before .before .before .before .before .before .before .before .head-counts in
-    let s = c .before .before .before .before .before .seen-lengths in
-    c .marks-of .ensures ∙ ap keptIn (marks-are (a .t1) p (f .result) (f .ensures) (h .result) (h .ensures) (s .result) (omega (arith, facts (a .t1) p .runs)) (s .ensures))
+    let s = c .before .before .before .before .before in
+    let h = s .before .before .before .before .before .before .before .before .before .before in
+    let f = h .before .before .before .before .before .before .before in
+    let a = f .before .before .before .before .before .before .args in
+    let p = f .before .before .before .before .before .before .pre in
+    c .marks-of .ensures ∙
+    ap keptIn (marks-are (a .t1) p (f .first-children .result) (f .first-children .ensures) (h .head-counts .result) (h .head-counts .ensures)
+    (s .seen-lengths .result) (omega (arith, facts (a .t1) p .runs)) (s .seen-lengths .ensures))
 
 pub point-runs-spec : {M : Type 1} → statement M
 point-runs-spec =

@@ -12,7 +12,9 @@ use Rattle.versions.proofs.archive.put_points.Statement.{statement}
 use Rattle.versions.proofs.archive.put_points.Tie as tie
 
 abbrev Inv-loop : tie.InvT-loop
-Inv-loop starts points n list₀ p₀ i₀ list p i = (length list ≡ length list₀) × (putAll 1 (p, list) (pointsOf starts (drop i (take n points))) ≡ putAll 1 (p₀, list₀) (pointsOf starts (drop i₀ (take n points))))
+Inv-loop starts points n list₀ p₀ i₀ list p i =
+    (length list ≡ length list₀) ×
+    (putAll 1 (p, list) (pointsOf starts (drop i (take n points))) ≡ putAll 1 (p₀, list₀) (pointsOf starts (drop i₀ (take n points))))
 
 abbrev μ-loop : tie.MeasureT-loop
 μ-loop starts points n list₀ p₀ i₀ list p i = n - i
@@ -53,7 +55,11 @@ loop-again c =
     let a = c .before .before .before .before .before .before .before .before .before .before .before .args in
     let p = c .before .before .before .before .before .before .before .before .before .before .before .pre in
     let l = c .before .before .before .before .before .before .before .loop in
-    (c .before .before .put-one .kept .0 ∙ l .inv .0, ap (λ (w : Put × List ℕ). putAll 1 w (pointsOf (a .starts .now) (drop (l .i + 1) (take (a .n) (a .points .now))))) (c .before .before .put-one .ensures) ∙ (point-next (a .starts .now) (a .points .now) (a .n) (p .0) (l .i) (l .p, l .list) (c .before .before .before .before .before .before .loop-test .taken) ∙ l .inv .1))
+    let put = c .before .before .put-one in (
+      put .kept .0 ∙ l .inv .0,
+      ap (λ (w : Put × List ℕ). putAll 1 w (pointsOf (a .starts .now) (drop (l .i + 1) (take (a .n) (a .points .now))))) (put .ensures) ∙
+          (point-next (a .starts .now) (a .points .now) (a .n) (p .0) (l .i) (l .p, l .list) (c .before .before .before .before .before .before .loop-test .taken) ∙ l .inv .1),
+    )
 
 same-length : tie.Need-same-length Inv-loop μ-loop
 same-length c = c .before .loop .inv .0

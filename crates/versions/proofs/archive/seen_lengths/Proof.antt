@@ -1,17 +1,18 @@
 -- `versions::archive::seen_lengths` meets its contract. The loop's invariant: each place so far. The measure is what is left of `n`. Assumes nothing.
 use borrow.Author.Needs.{needs}
 use mathlib.Core.Path.{_≡_, ap}
-use Prim.Native.Nat.{ℕ, _≤_, _<_, _-_, _+_}
+use Prim.Native.Nat.{ℕ, _≤_, _-_, _+_}
 use native.Mathlib.Omega.{arith}
 use lib.ListN.{length, getD, length-set}
 use Rattle.graph.specs.Rows.{row}
-use Rattle.versions.specs.Heads.{highestBy, wholeIn}
+use Rattle.versions.specs.Heads.{highestBy, wholeIn, SeenLengths}
 use Rattle.versions.proofs.HeadTurns.{blank-length, filled-next}
 use Rattle.versions.proofs.archive.seen_lengths.Statement.{statement}
 use Rattle.versions.proofs.archive.seen_lengths.Tie as tie
 
 abbrev Inv-loop : tie.InvT-loop
-Inv-loop firsts counts events starts items n seen₀ q₀ seen q = (q ≤ n) × (length seen ≡ 512) × ((k : ℕ) → k < q → getD seen k 0 ≡ getD events (highestBy (wholeIn firsts counts) (row starts items k)) 0)
+Inv-loop firsts counts events starts items n seen₀ q₀ seen q =
+    (q ≤ n) × (length seen ≡ 512) × SeenLengths firsts counts events (row starts items) q seen
 
 abbrev μ-loop : tie.MeasureT-loop
 μ-loop firsts counts events starts items n seen₀ q₀ seen q = n - q
@@ -61,7 +62,9 @@ mul-seen : tie.Need-mul-seen Inv-loop μ-loop
 mul-seen c = search needs
 
 shared-slice-read-seen : tie.Need-shared-slice-read-seen Inv-loop μ-loop
-shared-slice-read-seen c = omega (arith, c .before .before .highest .ensures .1, c .before .before .before .before .before .before .before .before .before .before .before .before .before .before .pre .1 .1 .1)
+shared-slice-read-seen c =
+    let p = c .before .before .before .before .before .before .before .before .before .before .before .before .before .before .pre in
+    omega (arith, c .before .before .highest .ensures .1, p .1 .1 .1)
 
 mul-seen-2 : tie.Need-mul-seen-2 Inv-loop μ-loop
 mul-seen-2 c = search needs

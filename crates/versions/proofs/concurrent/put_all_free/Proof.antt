@@ -41,7 +41,11 @@ loop-again : tie.Need-loop-again Inv-loop μ-loop
 loop-again c =
     let a = c .before .before .before .before .before .before .before .before .before .args in
     let l = c .before .before .before .before .before .before .loop in
-    (c .before .before .put-free .kept .0 ∙ l .inv .0, ap (λ (w : Put × List ℕ). putAll 1 w (map (λ x. x ∷ []) (freeFrom (a .flags .now) (l .q + 1) (a .n)))) (c .before .before .put-free .ensures) ∙ (free-put (a .flags .now) (l .q) (a .n) (l .p, l .list) (c .before .before .before .before .before .loop-test .taken) ∙ l .inv .1))
+    let put = c .before .before .put-free in (
+      put .kept .0 ∙ l .inv .0,
+      ap (λ (w : Put × List ℕ). putAll 1 w (map (λ x. x ∷ []) (freeFrom (a .flags .now) (l .q + 1) (a .n)))) (put .ensures) ∙
+          (free-put (a .flags .now) (l .q) (a .n) (l .p, l .list) (c .before .before .before .before .before .loop-test .taken) ∙ l .inv .1),
+    )
 
 same-length : tie.Need-same-length Inv-loop μ-loop
 same-length c = c .before .loop .inv .0
@@ -49,7 +53,9 @@ same-length c = c .before .loop .inv .0
 returns : tie.Need-returns Inv-loop μ-loop
 returns c =
     let a = c .before .before .before .before .args in
-    free-written (a .flags .now) (c .before .loop .q) (a .n) (c .before .loop .p, c .before .loop .list) (c .loop-test .left) ∙ (c .before .loop .inv .1 ∙ ap (λ (l : List ℕ). putAll 1 (blank, a .list .now) (map (λ x. x ∷ []) l)) (free-start (a .flags .now) (a .n)))
+    let l = c .before .loop in
+    free-written (a .flags .now) (l .q) (a .n) (l .p, l .list) (c .loop-test .left) ∙
+    (l .inv .1 ∙ ap (λ (l : List ℕ). putAll 1 (blank, a .list .now) (map (λ x. x ∷ []) l)) (free-start (a .flags .now) (a .n)))
 
 pub put-all-free-spec : {M : Type 1} → statement M
 put-all-free-spec =
