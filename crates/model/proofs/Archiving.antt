@@ -1,8 +1,8 @@
 -- Archive points: by events, by critical versions and by runs they are the same. Assumes nothing.
-use mathlib.Core.Path.{_≡_, refl, sym, _∙_, subst}
+use mathlib.Core.Path.{_≡_, refl, sym, ap₂, _∙_, subst}
 use mathlib.Core.Logic.{_⊎_, inl, inr, _↔_}
 use mathlib.Core.Bool.{true}
-use mathlib.Core.List.{List, map}
+use mathlib.Core.List.{List, [], map}
 use Prim.Native.Nat.{ℕ, suc, _+_, _-_, _≤_, _<_}
 use native.Mathlib.Omega.{arith}
 use lib.ListN.{length}
@@ -12,10 +12,10 @@ use Rattle.lists.proofs.Members.{mem-filter, filter-mem, mem-map, map-mem, all-
 use Rattle.lists.proofs.Counts.{mem-from, from-mem, upto-mem}
 use Rattle.lists.proofs.Rising.{rising-filter, rising-map, rising-from}
 use Rattle.model.specs.EventGraph.{EventGraph, HappenedBefore, ancestor, CriticalAt, Lower}
-use Rattle.model.specs.Graph.{Graph, runs, start, firstHeld, len, marked}
+use Rattle.model.specs.Graph.{Graph, runs, start, firstHeld, len, containing, marked, side, isHeld}
 use Rattle.model.specs.Record.{view}
 use Rattle.model.specs.Broken.{WellFormed}
-use Rattle.model.specs.HeldEvents.{heldEvents}
+use Rattle.model.specs.HeldEvents.{lastEvent, eventParents, heldEvents}
 use Rattle.model.specs.Archive.{seenByLater, archivePoints, SeenByAll, Archive}
 use Rattle.model.specs.Log.{Log, madeBy, runCount, runStart, heldBefore, eventGraph}
 use Rattle.model.proofs.Ancestry.{ancestor-iff}
@@ -140,6 +140,17 @@ module _ (g : Graph) (formed : WellFormed g) where
   unfolding firstHeld
   first-point lt = (points-iff (start g 0)) .1 (0, lt, refl, λ a b h few k le. absurd (omega (arith, (held-between g a h) .0)))
 
+-- Of a graph's fields the points read starts and parents
+byParents : List ℕ → List (List ℕ) → List ℕ
+byParents starts parents = archivePoints (record { starts = starts; parents = parents; frontier = []; seen = []; changed = 0 })
+
+points-by : (g : Graph) → archivePoints g ≡ byParents (g .starts) (g .parents)
+unfolding byParents archivePoints seenByLater runs start firstHeld len containing side isHeld lastEvent eventParents
+points-by g = refl
+
+parents-only : (g h : Graph) → g .starts ≡ h .starts → g .parents ≡ h .parents → archivePoints g ≡ archivePoints h
+parents-only g h e f = points-by g ∙ ap₂ byParents e f ∙ sym (points-by h)
+
 -- In a graph that calls made, whose event graph and runs are the log's
 module _ (g : Graph) (l : Log) (G : Good g l) where
   count-is : runs g ≡ runCount l
@@ -187,6 +198,7 @@ archive = record {
   critical = critical-own;
   rises = points-rise;
   first = first-point;
+  parents-only = parents-only;
   made = λ f cs. points-made (view ((madeBy f cs) .0)) ((madeBy f cs) .1) ((made-good f cs) .fact);
   marked-made = λ f cs. marked-point (view ((madeBy f cs) .0)) ((madeBy f cs) .1) ((made-good f cs) .fact);
 }

@@ -46,6 +46,8 @@ pub record Archive : Type 0 where
   -- they rise, and where there are runs the first held event is one
   pub rises : (g : Graph) → WellFormed g → rising (archivePoints g) ≡ true
   pub first : (g : Graph) → WellFormed g → 0 < runs g → mem (firstHeld g) (archivePoints g) ≡ true
+  -- "the definition reads parents only": graphs with the same runs and parents have the same points, whatever else they hold
+  pub parents-only : (g h : Graph) → g .starts ≡ h .starts → g .parents ≡ h .parents → archivePoints g ≡ archivePoints h
   -- in a graph that calls made they are the starts of the plain log's runs at a critical version of the log, all of these and no others
   pub made : (f : Fresh) (cs : List Call) (s : ℕ) →
       (mem s (archivePoints (view ((madeBy f cs) .0))) ≡ true) ↔

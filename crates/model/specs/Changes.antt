@@ -106,6 +106,9 @@ pub record Changes : Type 0 where
   pub F6-root : pointsAfter (callsC1 ++ push [] 1 ∷ []) ≡ 0 ∷ []
   -- parents that stand for the frontier and are not its list: a point without a mark
   pub F6-joined : pointsAfter (push [] 1 ∷ push [] 2 ∷ push (0 ∷ 1 ∷ 2 ∷ []) 1 ∷ []) ≡ 0 ∷ 3 ∷ []
+  -- a critical version partway along a run is none until a run starts there
+  pub F6-partway : pointsAfter (push [] 1 ∷ push [] 2 ∷ push (0 ∷ 1 ∷ 2 ∷ []) 3 ∷ []) ≡ 0 ∷ 3 ∷ []
+  pub F6-started : pointsAfter (push [] 1 ∷ push [] 2 ∷ push (0 ∷ 1 ∷ 2 ∷ []) 3 ∷ startRunAt 4 ∷ []) ≡ 0 ∷ 3 ∷ 4 ∷ []
   -- after earlier events: the first held event, 3, and event 4; event 5 has not seen event 4
   pub F6-later : archivedIn later 3 ≡ (0, 2, 3 ∷ 4 ∷ 9 ∷ [])
   -- refusals as they were: of a list that is too short the points that fit are written; no runs, no points; 1 of a broken graph
