@@ -100,7 +100,7 @@ module _ (g : CausalGraph) (held : Held g) where
               up = rw e at (rise q)
 
               low : (x : ℕ) → mem x (p ∷ ps) ≡ true → x < suc last
-              low x k = let b : x ≤ last = last-most p ps up x k in omega arith
+              low = last-most p ps up
 
               tests : eqb (count (isHead firsts (suc last)) (p ∷ ps)) (getD counts (suc last) 0) ≡ all (λ h. mem h (p ∷ ps)) (heads pss (suc last))
               tests =

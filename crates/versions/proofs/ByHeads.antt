@@ -20,12 +20,12 @@ use Rattle.model.proofs.Maximal.{maximal, maximal-in, maximal-apart, maximal-co
 use Rattle.model.proofs.Archiving.{Parted}
 use Rattle.versions.specs.Heads.{childless, heads, lastIn, highestBy, highest}
 
--- The last of a rising list is one of it, and no other is larger
+-- The last of a rising list is one of it, and none of it is larger
 pub last-mem : (p : ℕ) (ps : List ℕ) → mem (lastIn (p ∷ ps)) (p ∷ ps) ≡ true
 unfolding lastIn
 last-mem p ps = getD-mem (p ∷ ps) (suc (length ps) - 1) 0 (omega arith)
 
-pub last-most : (p : ℕ) (ps : List ℕ) → rising (p ∷ ps) ≡ true → (x : ℕ) → mem x (p ∷ ps) ≡ true → x ≤ lastIn (p ∷ ps)
+pub last-most : (p : ℕ) (ps : List ℕ) → rising (p ∷ ps) ≡ true → (x : ℕ) → mem x (p ∷ ps) ≡ true → x < suc (lastIn (p ∷ ps))
 unfolding lastIn
 last-most p ps h x m =
     let k : (j : ℕ) × (j < suc (length ps)) × (getD (p ∷ ps) j 0 ≡ x) = mem-index x 0 (p ∷ ps) m in
@@ -67,28 +67,28 @@ module _ (pss : List (List ℕ)) (below : Below pss) (rise : (r : ℕ) → risin
         go (inl k) = parent (all p (rw (heads-maximal m) k))
         go (inr t) = further (all (t .0) (rw (heads-maximal m) (t .1))) (t .2)
 
-  -- r is one of the runs that q's parents let start at a point, by cases of these
-  abbrev Whole : ℕ → List ℕ → Bool
-  Whole m ps = all (λ h. mem h ps) (heads pss m)
+  -- All heads below m are among some parents
+  abbrev whole : ℕ → List ℕ → Bool
+  whole m ps = all (λ h. mem h ps) (heads pss m)
 
   -- All runs before r are ancestors of q: then q lets r start at a point
   seen-highest : (q r : ℕ) → ((p : ℕ) → p < r → Reach pss p q) → r ≤ highest pss q
   unfolding highest highestBy
   seen-highest q r seen = go (at pss q) refl
     where
-      go : (ps : List ℕ) → at pss q ≡ ps → r ≤ highestBy Whole ps
+      go : (ps : List ℕ) → at pss q ≡ ps → r ≤ highestBy whole ps
       go [] e = none (lt-or-le 0 r)
         where
           none : (0 < r) ⊎ (r ≤ 0) → r ≤ 0
           none (inr c) = c
           none (inl c) = absurd (omega (arith, reach-low q 0 (λ p k. false-true (unfold mem in (rw e at k))) (seen 0 c)))
-      go (p ∷ ps) e = by (Whole (suc (lastIn (p ∷ ps))) (p ∷ ps)) refl (lt-or-le r (suc (lastIn (p ∷ ps))))
+      go (p ∷ ps) e = by (whole (suc (lastIn (p ∷ ps))) (p ∷ ps)) refl (lt-or-le r (suc (lastIn (p ∷ ps))))
         where
           last : ℕ
           last = lastIn (p ∷ ps)
 
           low : (x : ℕ) → mem x (at pss q) ≡ true → x < suc last
-          low x k = let b : x ≤ last = last-most p ps (rw e at (rise q)) x (rw e at k) in omega arith
+          low x k = last-most p ps (rw e at (rise q)) x (rw e at k)
 
           most : r ≤ suc last
           most = cases (lt-or-le (suc last) r)
@@ -97,7 +97,7 @@ module _ (pss : List (List ℕ)) (below : Below pss) (rise : (r : ℕ) → risin
               cases (inr c) = c
               cases (inl c) = absurd (omega (arith, reach-low q (suc last) low (seen (suc last) c)))
 
-          by : (t : Bool) → Whole (suc last) (p ∷ ps) ≡ t → (r < suc last) ⊎ (suc last ≤ r) → r ≤ cond t (suc last) last
+          by : (t : Bool) → whole (suc last) (p ∷ ps) ≡ t → (r < suc last) ⊎ (suc last ≤ r) → r ≤ cond t (suc last) last
           by true w c = most
           by false w (inl c) = omega arith
           by false w (inr c) = false-true (sym w ∙ all-of (λ h. mem h (p ∷ ps)) (heads pss (suc last)) (λ h k.
@@ -111,9 +111,9 @@ module _ (pss : List (List ℕ)) (below : Below pss) (rise : (r : ℕ) → risin
   highest-seen n r H zero q u le lt p few = absurd (omega arith)
   highest-seen n r H (suc k) q u le lt p few = go (at pss q) refl (unfold highest in H q le lt) (λ j v w x. highest-seen n r H k j v w x p few)
     where
-      go : (ps : List ℕ) → at pss q ≡ ps → r ≤ highestBy Whole (at pss q) → ((j : ℕ) → j < k → r ≤ j → j < n → Reach pss p j) → Reach pss p q
+      go : (ps : List ℕ) → at pss q ≡ ps → r ≤ highestBy whole (at pss q) → ((j : ℕ) → j < k → r ≤ j → j < n → Reach pss p j) → Reach pss p q
       go [] e b ih = unfold highestBy in absurd (omega (arith, rw e at b))
-      go (s ∷ ps) e b ih = unfold highestBy in by (Whole (suc last) (s ∷ ps)) refl (rw e at b) (lt-or-le last r)
+      go (s ∷ ps) e b ih = unfold highestBy in by (whole (suc last) (s ∷ ps)) refl (rw e at b) (lt-or-le last r)
         where
           last : ℕ
           last = lastIn (s ∷ ps)
@@ -122,12 +122,12 @@ module _ (pss : List (List ℕ)) (below : Below pss) (rise : (r : ℕ) → risin
           mine = rw e (last-mem s ps)
 
           low : (x : ℕ) → mem x (at pss q) ≡ true → x < suc last
-          low x j = let b : x ≤ last = last-most s ps (rw e at (rise q)) x (rw e at j) in omega arith
+          low x j = last-most s ps (rw e at (rise q)) x (rw e at j)
 
           up : r ≤ last → Reach pss p q
           up c = let j : last < q = below q last mine in further mine (ih last (omega arith) c (omega arith))
 
-          by : (t : Bool) → Whole (suc last) (s ∷ ps) ≡ t → r ≤ cond (Whole (suc last) (s ∷ ps)) (suc last) last → (last < r) ⊎ (r ≤ last) → Reach pss p q
+          by : (t : Bool) → whole (suc last) (s ∷ ps) ≡ t → r ≤ cond (whole (suc last) (s ∷ ps)) (suc last) last → (last < r) ⊎ (r ≤ last) → Reach pss p q
           by t w b (inr c) = up c
           by false w b (inl c) = absurd (omega (arith, rw w at b))
           by true w b (inl c) = heads-seen q (suc last) low (λ h j. rw e (all-at (λ h. mem h (s ∷ ps)) (heads pss (suc last)) w h j)) p (omega (arith, rw w at b))

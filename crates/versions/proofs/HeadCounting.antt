@@ -1,13 +1,13 @@
 -- How many heads lie below a run, and whether a run has all of them for parents, by counts. Assumes nothing.
 use mathlib.Core.Path.{_≡_, refl, sym, ap, _∙_}
-use mathlib.Core.Bool.{Bool, true, false, not, _&&_}
+use mathlib.Core.Bool.{Bool, true, not, _&&_}
 use mathlib.Core.List.{List, [], _∷_}
 use Prim.Native.Nat.{ℕ, zero, suc, _+_, _≤_, _<_}
 use native.Mathlib.Omega.{arith}
 use lib.ListN.{length}
 use lib.Dec.{eqb}
 use Rattle.lists.specs.Lists.{all, filter, count, from, upto, mem, rising}
-use Rattle.lists.proofs.Truth.{not-so}
+use Rattle.lists.proofs.Truth.{not-so, and-true}
 use Rattle.lists.proofs.Members.{all-of, all-both}
 use Rattle.lists.proofs.Counts.{mem-from, upto-snoc, count-append, count-same, count-le, filter-count}
 use Rattle.lists.proofs.Passing.{passing-test, passing-rises}
@@ -20,11 +20,8 @@ module _ (pss : List (List ℕ)) (below : Below pss) (rise : (r : ℕ) → risin
   -- Below one run more: the run itself has no child there, and its parents have one
   childless-next : (m p : ℕ) → childless pss (suc m) p ≡ childless pss m p && not (mem p (at pss m))
   unfolding childless all
-  childless-next m p = rw (upto-snoc m) (all-both (λ c. not (mem p (at pss c))) (upto m) (m ∷ []) ∙ ap (λ (t : Bool). childless pss m p && t) (last (mem p (at pss m))))
-    where
-      last : (t : Bool) → not t && true ≡ not t
-      last true = refl
-      last false = refl
+  childless-next m p =
+      rw (upto-snoc m) (all-both (λ c. not (mem p (at pss c))) (upto m) (m ∷ []) ∙ ap (λ (t : Bool). childless pss m p && t) (and-true (not (mem p (at pss m)))))
 
   childless-self : (m : ℕ) → childless pss (suc m) m ≡ true
   unfolding childless upto
@@ -66,7 +63,7 @@ module _ (pss : List (List ℕ)) (below : Below pss) (rise : (r : ℕ) → risin
     count-is zero le = unfold heads upto from filter in refl
     count-is (suc m) le = omega (arith, count-is m (omega arith), counted m le, heads-next m)
 
-    -- and never below 0
+    -- and of no run are more parents heads than there are
     pub count-fits : HeadsFit firsts rows n
     count-fits m lt = omega (
       arith,
