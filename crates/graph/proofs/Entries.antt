@@ -11,8 +11,8 @@ use Rattle.model.specs.declared.record.CausalGraph.{CausalGraph}
 use Rattle.model.specs.Record.{view}
 use Rattle.model.specs.Broken.{Held}
 use Rattle.model.specs.History.{at}
-use Rattle.model.proofs.Histories.{Below}
-use Rattle.model.proofs.FormedReads.{parents-first, groupsFit-at}
+use Rattle.model.proofs.Histories.{Below, fit-below}
+use Rattle.model.proofs.FormedReads.{parents-first}
 use Rattle.graph.specs.Rows.{row, Rows}
 use Rattle.graph.proofs.Views.{facts}
 use Rattle.graph.proofs.Looking.{group-bounds, group-end, group-view}
@@ -27,8 +27,7 @@ groups-rise k (ps ∷ pss) h (suc r) = groups-rise (suc k) pss (parents-first k 
 module _ (g : CausalGraph) (held : Held g) where
   -- Each run's parents are below it, and rise
   pub parents-below : Below (view g .parents)
-  unfolding at
-  parents-below r p m = omega (arith, groupsFit-at 0 (view g .parents) (held .formed .parents) r p m)
+  parents-below = fit-below (view g .parents) (held .formed .parents)
 
   pub parents-rise : (r : ℕ) → rising (at (view g .parents) r) ≡ true
   parents-rise r = groups-rise 0 (view g .parents) (held .formed .parents) r

@@ -3,7 +3,7 @@ use mathlib.Core.Path.{_≡_, refl, sym, ap₂, _∙_, subst}
 use mathlib.Core.Logic.{_⊎_, inl, inr, _↔_}
 use mathlib.Core.Bool.{true}
 use mathlib.Core.List.{List, [], map}
-use Prim.Native.Nat.{ℕ, suc, _+_, _-_, _≤_, _<_}
+use Prim.Native.Nat.{ℕ, suc, _≤_, _<_}
 use native.Mathlib.Omega.{arith}
 use lib.ListN.{length}
 use Rattle.lists.specs.Lists.{all, filter, from, upto, mem, rising}
@@ -11,18 +11,18 @@ use Rattle.lists.proofs.Truth.{lt-or-le}
 use Rattle.lists.proofs.Members.{mem-filter, filter-mem, mem-map, map-mem, all-of, all-at}
 use Rattle.lists.proofs.Counts.{mem-from, from-mem, upto-mem}
 use Rattle.lists.proofs.Rising.{rising-filter, rising-map, rising-from}
-use Rattle.model.specs.EventGraph.{EventGraph, HappenedBefore, ancestor, CriticalAt, Lower}
+use Rattle.model.specs.EventGraph.{EventGraph, ancestor, CriticalAt, Lower}
 use Rattle.model.specs.Graph.{Graph, runs, start, firstHeld, len, containing, marked, side, isHeld}
 use Rattle.model.specs.Record.{view}
 use Rattle.model.specs.Broken.{WellFormed}
 use Rattle.model.specs.HeldEvents.{lastEvent, eventParents, heldEvents}
 use Rattle.model.specs.Archive.{seenByLater, archivePoints, SeenByAll, Archive}
-use Rattle.model.specs.Log.{Log, madeBy, runCount, runStart, heldBefore, eventGraph}
+use Rattle.model.specs.Log.{Log, madeBy, runCount, runStart, eventGraph}
 use Rattle.model.proofs.Ancestry.{ancestor-iff}
 use Rattle.model.proofs.Histories.{Reach}
-use Rattle.model.proofs.Exact.{ancestors}
-use Rattle.model.proofs.Runs.{held-is, runOf}
-use Rattle.model.proofs.Tied.{Tied, low, high, step, mono, run-is, in-run, ancestors-are}
+use Rattle.model.proofs.Runs.{in-is, runOf}
+use Rattle.model.proofs.Tied.{Tied, step, mono, start-held, in-run, ancestors-are}
+use Rattle.model.proofs.Concurrency.{before-runs}
 use Rattle.model.proofs.Siding.{between-held, held-between}
 use Rattle.model.proofs.Seen.{start-is, lower-tied}
 use Rattle.model.proofs.FormedReads.{start-less, first-start}
@@ -49,18 +49,14 @@ module _ (g : Graph) (l : Log) (t : Tied g l) (lower : Lower (eventGraph l)) (r 
       earlier u (inl c) = c
       earlier u (inr c) = absurd (omega (arith, mono g l t r (runOf l a) c))
 
-  first-held : (q : ℕ) → q < length (l .edges) → heldBefore l (l .next) (runStart l q) ≡ true
-  first-held q lt = held-is l (l .next) (runStart l q) (low g l t q) (omega (arith, step g l t q lt, high g l t (suc q)))
-
   seen-parted : SeenByAll (eventGraph l) (runStart l r) → Parted g r
-  unfolding runs ancestors ancestor
+  unfolding runs
   seen-parted s q p le lt few =
       let many : q < length (l .edges) = omega (arith, t .rows) in
       let some : p < length (l .edges) = omega arith in
-      let b : HappenedBefore (eventGraph l) (runStart l p) (runStart l q) =
-      s (runStart l p) (runStart l q) (first-held p some) (omega (arith, step g l t p some, mono g l t (suc p) r few)) (first-held q many) (mono g l t r q le) in
-      subst (λ (m : ℕ). Reach (g .parents) m q) (run-is g l t p (runStart l p) (omega arith) (step g l t p some))
-      ((ancestors-are g l t q (runStart l p) many (first-held p some)) .0 ((ancestor-iff (eventGraph l) lower (runStart l q) (runStart l p)) .0 b))
+      before-runs g l t lower p q (runStart l p) (runStart l q) many (λ e. omega arith)
+      (in-is l p (suc p) (runStart l p) (omega arith) (step g l t p some)) (in-is l q (suc q) (runStart l q) (omega arith) (step g l t q many))
+      (s (runStart l p) (runStart l q) (start-held g l t p some) (omega (arith, step g l t p some, mono g l t (suc p) r few)) (start-held g l t q many) (mono g l t r q le))
 
 module _ (g : Graph) (formed : WellFormed g) where
   -- By computing: the events before s and those from s on
@@ -71,24 +67,17 @@ module _ (g : Graph) (formed : WellFormed g) where
       G : EventGraph
       G = heldEvents g
 
-      earlier : List ℕ
-      earlier = from (firstHeld g) (s - firstHeld g)
-
-      later : List ℕ
-      later = from s (len g - s)
-
-      there : all (λ e. all (λ p. ancestor G e p) earlier) later ≡ true → SeenByAll G s
+      there : seenByLater g s ≡ true → SeenByAll G s
       there h a b x lt y ge =
           let i : (firstHeld g ≤ a) × (a < len g) = held-between g a x in
           let j : (firstHeld g ≤ b) × (b < len g) = held-between g b y in
           (ancestor-iff G (held-lower g formed) b a) .1
-          (all-at (λ p. ancestor G b p) earlier (all-at (λ e. all (λ p. ancestor G e p) earlier) later h b (from-mem b s (len g - s) ge (omega (arith, j .1))))
-          a (from-mem a (firstHeld g) (s - firstHeld g) (i .0) (omega arith)))
+          (all-at (λ p. ancestor G b p) _ (all-at (λ e. all (λ p. ancestor G e p) _) _ h b (from-mem b s _ ge (omega (arith, j .1)))) a (from-mem a (firstHeld g) _ (i .0) (omega arith)))
 
-      back : SeenByAll G s → all (λ e. all (λ p. ancestor G e p) earlier) later ≡ true
-      back k = all-of (λ e. all (λ p. ancestor G e p) earlier) later (λ b m. all-of (λ p. ancestor G b p) earlier (λ a n.
-          let i : (firstHeld g ≤ a) × (a < firstHeld g + (s - firstHeld g)) = mem-from a (firstHeld g) (s - firstHeld g) n in
-          let j : (s ≤ b) × (b < s + (len g - s)) = mem-from b s (len g - s) m in
+      back : SeenByAll G s → seenByLater g s ≡ true
+      back k = all-of (λ e. all (λ p. ancestor G e p) _) _ (λ b m. all-of (λ p. ancestor G b p) _ (λ a n.
+          let i = mem-from a (firstHeld g) _ n in
+          let j = mem-from b s _ m in
           (ancestor-iff G (held-lower g formed) b a) .0
           (k a b (between-held g a (i .0) (omega (arith, i .1, j .0, j .1))) (omega (arith, i .0, i .1)) (between-held g b (omega (arith, j .0)) (omega (arith, j .0, j .1))) (j .0))))
 

@@ -12,18 +12,18 @@ use Rattle.model.specs.Graph.{Graph, runs}
 use Rattle.model.specs.Record.{view}
 use Rattle.model.specs.History.{runGraph}
 use Rattle.model.specs.Beside.{concurrencyList}
-use Rattle.model.specs.Log.{Log, runCount, runStart, inRuns, heldBefore, eventGraph}
+use Rattle.model.specs.Log.{Log, runCount, runStart, inRuns, eventGraph}
 use Rattle.model.specs.Meaning.{ConcurrentRuns}
 use Rattle.model.proofs.Ancestry.{path-reaches, ancestor-iff}
 use Rattle.model.proofs.Histories.{Reach}
 use Rattle.model.proofs.ConcurrencyList.{listed-runs}
 use Rattle.model.proofs.Exact.{ancestors}
-use Rattle.model.proofs.Runs.{held-is, in-is, in-bounds}
-use Rattle.model.proofs.Tied.{Tied, low, high, step, Led, led, run-is, ancestors-are}
+use Rattle.model.proofs.Runs.{in-is, in-bounds}
+use Rattle.model.proofs.Tied.{Tied, step, start-held, Led, led, run-is, ancestors-are}
 
 module _ (g : Graph) (l : Log) (t : Tied g l) (lower : Lower (eventGraph l)) where
   -- Events d of run r and e of another run q: d happened before e only if r happened before q
-  before-runs : (r q d e : ℕ) → q < length (l .edges) → ¬ (r ≡ q) → inRuns l r (suc r) d ≡ true → inRuns l q (suc q) e ≡ true →
+  pub before-runs : (r q d e : ℕ) → q < length (l .edges) → ¬ (r ≡ q) → inRuns l r (suc r) d ≡ true → inRuns l q (suc q) e ≡ true →
       HappenedBefore (eventGraph l) d e → Reach (g .parents) r q
   before-runs r q d e lt ne m n h =
       let i : (runStart l r ≤ d) × (d < runStart l (suc r)) = in-bounds l r (suc r) d m in
@@ -39,10 +39,9 @@ module _ (g : Graph) (l : Log) (t : Tied g l) (lower : Lower (eventGraph l)) whe
       HappenedBefore (eventGraph l) (runStart l r) (runStart l q)
   unfolding ancestors
   before-starts r q ltr lt h =
-      let held : heldBefore l (l .next) (runStart l r) ≡ true = held-is l (l .next) (runStart l r) (low g l t r) (omega (arith, step g l t r ltr, high g l t (suc r))) in
       let same = run-is g l t r (runStart l r) (omega arith) (step g l t r ltr) in
       (ancestor-iff (eventGraph l) lower (runStart l q) (runStart l r)) .1
-      ((ancestors-are g l t q (runStart l r) lt held) .1 (subst (λ (k : ℕ). Reach (g .parents) k q) (sym same) h))
+      ((ancestors-are g l t q (runStart l r) lt (start-held g l t r ltr)) .1 (subst (λ (k : ℕ). Reach (g .parents) k q) (sym same) h))
 
   -- The members of r's list are runs that are concurrent with r in the graph of runs
   members : (r q : ℕ) → r < length (l .edges) → (mem q (concurrencyList g r) ≡ true) ↔ ((q < length (l .edges)) × Concurrent (runGraph (g .parents)) r q)

@@ -21,7 +21,7 @@ use Rattle.model.specs.Range.{parentsIn}
 use Rattle.model.specs.Log.{Log, runStart, inRuns, heldOf, heldBefore, eventGraph}
 use Rattle.model.proofs.Histories.{Below, Reach, history-is}
 use Rattle.model.proofs.Exact.{ancestors}
-use Rattle.model.proofs.Runs.{in-is, in-bounds, runOf, Edged, splits-of}
+use Rattle.model.proofs.Runs.{held-is, in-is, in-bounds, runOf, Edged, splits-of}
 
 -- A run's last event
 abbrev pub lastOf : Log → ℕ → ℕ
@@ -53,6 +53,10 @@ module _ (g : Graph) (l : Log) (t : Tied g l) where
   pub mono : (r s : ℕ) → r ≤ s → runStart l r ≤ runStart l s
   unfolding runStart
   mono r s q = up-mono (l .firstHeld) (l .edges) (l .next) (t .edged .up) r s q
+
+  -- A run's first event is held
+  pub start-held : (r : ℕ) → r < length (l .edges) → heldBefore l (l .next) (runStart l r) ≡ true
+  start-held r lt = held-is l (l .next) (runStart l r) (low r) (omega (arith, step r lt, high (suc r)))
 
   not-edge : (r x : ℕ) → runStart l r < x → x < runStart l (suc r) → mem x (l .edges) ≡ false
   unfolding runStart

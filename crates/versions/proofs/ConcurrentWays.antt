@@ -12,6 +12,7 @@ use Rattle.lists.specs.Lists.{filter, from, upto}
 use Rattle.lists.specs.Scans.{keptIn}
 use Rattle.lists.specs.declared.Kept.{Kept}
 use Rattle.lists.proofs.Counts.{filter-same}
+use Rattle.lists.proofs.Keeping.{kept-long}
 use Rattle.lists.proofs.Pads.{get-pad, length-pad}
 use Rattle.model.specs.declared.record.CausalGraph.{CausalGraph}
 use Rattle.model.specs.declared.answers.Refusal.{Refusal}
@@ -35,8 +36,7 @@ use Rattle.versions.proofs.Comparing.{flags-are}
 
 -- room for each run's flag
 pub kept-room : (k : Kept) (r n : ℕ) → k ≡ keptIn [] → n ≤ 512 → n ≤ length (set (k .items) r 1)
-unfolding keptIn
-kept-room k r n e h = simp length-set (omega (arith, ap (λ (x : Kept). length (x .items)) e, length-pad 512 [] (omega arith)))
+kept-room k r n e h = simp length-set (omega (arith, kept-long k [] e (omega arith)))
 
 module _ (g : CausalGraph) (held : Held g) (r : ℕ) where
   -- Both passes over a record, from flags that are all 0

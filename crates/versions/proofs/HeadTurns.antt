@@ -15,7 +15,6 @@ use Rattle.lists.specs.declared.Kept.{Kept}
 use Rattle.lists.proofs.Truth.{eq-or-not, lt-of-ne}
 use Rattle.lists.proofs.Bounds.{below-at}
 use Rattle.lists.proofs.Groups.{length-part}
-use Rattle.lists.proofs.Pads.{length-pad}
 use Rattle.versions.specs.Heads.{lastIn, highestBy, noted, noteAll, firstChildren, isHead, headCount}
 use Rattle.versions.proofs.Passes.{part-first, part-none}
 use Rattle.versions.proofs.ByHeads.{last-mem}
@@ -94,8 +93,3 @@ module _ (items : List ℕ) (from to : ℕ) (fits : to ≤ length items) (some :
 pub highest-none : (whole : ℕ → List ℕ → Bool) (items : List ℕ) (from to : ℕ) → to ≤ length items → to ≤ from → 0 ≡ highestBy whole (part from to items)
 unfolding highestBy
 highest-none whole items from to fits h = sym (ap (highestBy whole) (part-none items to fits from h))
-
--- Room for each run
-pub blank-length : (k : Kept) → k ≡ keptIn [] → length (k .items) ≡ 512
-unfolding keptIn
-blank-length k e = ap (λ (x : Kept). length (x .items)) e ∙ length-pad 512 [] (omega arith)

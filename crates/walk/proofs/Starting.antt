@@ -16,12 +16,11 @@ use Rattle.lists.proofs.Truth.{lt-or-le, eq-or-not, and-false}
 use Rattle.lists.proofs.Members.{filter-agree}
 use Rattle.lists.proofs.Groups.{group-at, length-groups}
 use Rattle.lists.proofs.Keeping.{filter-snoc}
-use Rattle.lists.proofs.Counts.{count-same}
+use Rattle.lists.proofs.Counts.{upto-snoc, count-same}
 use Rattle.model.specs.History.{at}
 use Rattle.model.specs.Choice.{Range, passed, isReady, newlyReady}
 use Rattle.tables.specs.Laid.{grouped}
 use Rattle.walk.specs.Readiness.{Wakes, waitsAt, startOf, startAll}
-use Rattle.walk.proofs.Distinct.{from-split}
 use Rattle.walk.proofs.Waiting.{held, waits, ready-iff, left-start}
 use Rattle.walk.proofs.Telling.{Tells}
 
@@ -111,13 +110,8 @@ module _ (known first : ℕ) (W : ℕ → ℕ) where
   freeBelow r = filter (λ x. eqb (W x) 0 && leb known x) (from 0 r)
 
   below-next : (r : ℕ) → freeBelow (suc r) ≡ cond (free r) (freeBelow r ++ r ∷ []) (freeBelow r)
-  below-next r = ap (filter (λ x. eqb (W x) 0 && leb known x)) (last r) ∙ filter-snoc (λ x. eqb (W x) 0 && leb known x) (from 0 r) r
-    where
-      last : (r : ℕ) → from 0 (suc r) ≡ from 0 r ++ r ∷ []
-      last r =
-          let e : suc r ≡ r + 1 = omega arith in
-          let z : 0 + r ≡ r = omega arith in
-          ap (from 0) e ∙ (from-split 0 r 1 ∙ ap (λ (k : ℕ). from 0 r ++ from k 1) z ∙ unfold from in refl)
+  unfolding upto
+  below-next r = ap (filter (λ x. eqb (W x) 0 && leb known x)) (upto-snoc r) ∙ filter-snoc (λ x. eqb (W x) 0 && leb known x) (from 0 r) r
 
   begin-one : (r : ℕ) (s : Wakes) (ps : List ℕ) → Begun W r (freeBelow r) s → r < length (s .1) → r < length (s .2) → waitsAt known first ps r ≡ W r →
       Begun W (suc r) (freeBelow (suc r)) (startOf known first s r ps)

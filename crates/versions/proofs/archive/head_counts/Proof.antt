@@ -1,13 +1,15 @@
 -- `versions::archive::head_counts` meets its contract. The loop's invariant: the count below the next run, and each place so far. The measure is what is left of `n`. Assumes nothing.
 use borrow.Author.Needs.{needs}
 use mathlib.Core.Path.{_≡_}
+use mathlib.Core.List.{[]}
 use Prim.Native.Nat.{ℕ, _≤_, _-_, _+_}
 use native.Mathlib.Omega.{arith}
 use lib.ListN.{length, length-set}
+use Rattle.lists.proofs.Keeping.{kept-long}
 use Rattle.graph.specs.Rows.{row}
 use Rattle.versions.specs.Heads.{headCount, HeadCounts}
 use Rattle.versions.proofs.Passes.{row-below}
-use Rattle.versions.proofs.HeadTurns.{blank-length, count-start, count-turn, filled-next}
+use Rattle.versions.proofs.HeadTurns.{count-start, count-turn, filled-next}
 use Rattle.versions.proofs.archive.head_counts.Statement.{statement}
 use Rattle.versions.proofs.archive.head_counts.Tie as tie
 
@@ -25,7 +27,7 @@ loop-holds : tie.Need-loop-holds Inv-loop μ-loop
 loop-holds c =
     let a = c .before .before .before .before .before .args in
     let none = c .before .nothing in
-    (omega arith, blank-length (none .result) (none .ensures), omega arith, count-start (a .firsts .now) (row (a .starts .now) (a .items .now)), λ k h. absurd (omega arith))
+    (omega arith, kept-long (none .result) [] (none .ensures) (omega arith), omega arith, count-start (a .firsts .now) (row (a .starts .now) (a .items .now)), λ k h. absurd (omega arith))
 
 cast-counts : tie.Need-cast-counts Inv-loop μ-loop
 cast-counts c = omega (arith, c .before .before .before .before .before .before .before .pre .0 .few)

@@ -1,12 +1,14 @@
 -- `versions::archive::seen_lengths` meets its contract. The loop's invariant: each place so far. The measure is what is left of `n`. Assumes nothing.
 use borrow.Author.Needs.{needs}
 use mathlib.Core.Path.{_≡_, ap}
+use mathlib.Core.List.{[]}
 use Prim.Native.Nat.{ℕ, _≤_, _-_, _+_}
 use native.Mathlib.Omega.{arith}
 use lib.ListN.{length, getD, length-set}
+use Rattle.lists.proofs.Keeping.{kept-long}
 use Rattle.graph.specs.Rows.{row}
 use Rattle.versions.specs.Heads.{highestBy, wholeIn, SeenLengths}
-use Rattle.versions.proofs.HeadTurns.{blank-length, filled-next}
+use Rattle.versions.proofs.HeadTurns.{filled-next}
 use Rattle.versions.proofs.archive.seen_lengths.Statement.{statement}
 use Rattle.versions.proofs.archive.seen_lengths.Tie as tie
 
@@ -21,7 +23,7 @@ nothing-requires : tie.Need-nothing-requires Inv-loop μ-loop
 nothing-requires c κs = search needs
 
 loop-holds : tie.Need-loop-holds Inv-loop μ-loop
-loop-holds c = (omega arith, blank-length (c .before .nothing .result) (c .before .nothing .ensures), λ k h. absurd (omega arith))
+loop-holds c = (omega arith, kept-long (c .before .nothing .result) [] (c .before .nothing .ensures) (omega arith), λ k h. absurd (omega arith))
 
 mul-highest : tie.Need-mul-highest Inv-loop μ-loop
 mul-highest c = search needs
