@@ -10,7 +10,7 @@ use lib.Dec.{leb, ltb, eqb}
 use borrow.Author.Tests.{ltb-true, eqb-true, lt-ltb, le-ltb, le-leb, lt-leb, eq-eqb}
 use Rattle.lists.specs.Lists.{bit, all, filter, count, from, mem, rising, below}
 use Rattle.lists.proofs.Truth.{lt-or-le, false-true, bool-iff, and-left, and-right, and-both, or-cases, or-left, or-right}
-use Rattle.lists.proofs.Members.{getD-mem, getD-any, mem-filter}
+use Rattle.lists.proofs.Members.{mem-first, mem-rest, mem-append, getD-mem, getD-any, mem-filter}
 
 -- The numbers rise from `lo` on, all below n
 abbrev pub Up : ℕ → List ℕ → ℕ → Type 0
@@ -213,6 +213,17 @@ unfolding rising from
 rising-from a zero = refl
 rising-from a (suc zero) = refl
 rising-from a (suc (suc n)) = and-both (ltb a (suc a)) (rising (from (suc a) (suc n))) (lt-ltb a (suc a) (omega arith)) (rising-from (suc a) (suc n))
+
+-- so do two rising lists, the second above the first
+pub rising-join : (xs ys : List ℕ) → rising xs ≡ true → rising ys ≡ true → ((x y : ℕ) → mem x xs ≡ true → mem y ys ≡ true → x < y) → rising (xs ++ ys) ≡ true
+rising-join [] ys h k lt = k
+rising-join (x ∷ xs) ys h k lt =
+    rising-cons x (xs ++ ys) (rising-join xs ys (rising-tail x xs h) k (λ u v m n. lt u v (mem-rest x u xs m) n)) (λ z m.
+    cases z (or-cases (mem z xs) (mem z ys) (sym (mem-append z xs ys) ∙ m)))
+  where
+    cases : (z : ℕ) → (mem z xs ≡ true) ⊎ (mem z ys ≡ true) → x < z
+    cases z (inl m) = rising-above x xs h z m
+    cases z (inr m) = lt x z (mem-first x xs) m
 
 -- Two lists that rise and have the same members are one: the first number is the least,
 first-least : (y : ℕ) (ys : List ℕ) → rising (y ∷ ys) ≡ true → (x : ℕ) → mem x (y ∷ ys) ≡ true → y ≤ x

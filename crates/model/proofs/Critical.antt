@@ -13,12 +13,12 @@ use Rattle.lists.proofs.Truth.{lt-or-le}
 use Rattle.lists.proofs.Members.{mem-filter}
 use Rattle.lists.proofs.Counts.{count-le}
 use Rattle.lists.proofs.Passing.{passing}
-use Rattle.model.specs.EventGraph.{EventGraph, HappenedBefore, ancestor, InEvents, CriticalAt, Lower}
+use Rattle.model.specs.EventGraph.{EventGraph, HappenedBefore, ancestor, InEvents, maximal, CriticalAt, Lower}
 use Rattle.model.specs.Graph.{Graph, marked}
 use Rattle.model.specs.Archive.{SeenByAll}
 use Rattle.model.specs.Log.{Log, runStart, heldOf, heldBefore, eventGraph}
 use Rattle.model.proofs.Ancestry.{ancestor-iff}
-use Rattle.model.proofs.Maximal.{maximal, maximal-in, maximal-apart, maximal-events}
+use Rattle.model.proofs.Maximal.{maximal-in, maximal-apart, maximal-events}
 use Rattle.model.proofs.Exact.{ancestors}
 use Rattle.model.proofs.Runs.{held-is, held-bounds, runOf}
 use Rattle.model.proofs.Tied.{Tied, mono, down, in-run}

@@ -7,9 +7,9 @@ use Prim.Native.Nat.{ℕ, zero, suc, _+_, _≤_, _<_}
 use native.Mathlib.Omega.{arith}
 use borrow.Author.Tests.{not-false}
 use Rattle.lists.specs.Lists.{all, filter, mem}
-use Rattle.lists.proofs.Truth.{false-true}
-use Rattle.lists.proofs.Members.{mem-filter, filter-mem, all-at, all-fails}
-use Rattle.model.specs.EventGraph.{EventGraph, HappenedBefore, parent, further, InEvents, Lower}
+use Rattle.lists.proofs.Truth.{false-true, not-so}
+use Rattle.lists.proofs.Members.{mem-filter, filter-mem, all-of, all-at, all-fails}
+use Rattle.model.specs.EventGraph.{EventGraph, HappenedBefore, parent, further, InEvents, maximal, closed, Lower}
 use Rattle.model.proofs.Ancestry.{before-trans}
 
 -- What happened before an event is a parent of that event or of one that happened before it
@@ -24,14 +24,18 @@ child G {a} {b} (further {q = q} h k) = go (child G k)
         onward (inl e) = rw e (parent h)
         onward (inr c) = further h c
 
--- Of a set of events, those that are parent of none of it
-unfoldable pub maximal : EventGraph → List ℕ → List ℕ
-maximal G es = filter (λ e. all (λ c. not (mem e (G .parents c))) es) es
-
 module _ (G : EventGraph) (es : List ℕ) where
   -- The set has the parents of each of its events
   abbrev pub Closed : Type 0
   Closed = (e p : ℕ) → mem e es ≡ true → mem p (G .parents e) ≡ true → mem p es ≡ true
+
+  pub closed-at : closed G es ≡ true → Closed
+  unfolding closed
+  closed-at k e p m n = all-at (λ p. mem p es) (G .parents e) (all-at (λ e. all (λ p. mem p es) (G .parents e)) es k e m) p n
+
+  pub closed-of : Closed → closed G es ≡ true
+  unfolding closed
+  closed-of h = all-of (λ e. all (λ p. mem p es) (G .parents e)) es (λ e m. all-of (λ p. mem p es) (G .parents e) (λ p n. h e p m n))
 
   -- so what happened before an event of it is in it
   closed-before : Closed → {a b : ℕ} → mem b es ≡ true → HappenedBefore G a b → mem a es ≡ true
@@ -46,9 +50,13 @@ module _ (G : EventGraph) (es : List ℕ) where
   unfolding maximal
   maximal-in e m = (mem-filter childless e es m) .0
 
-  maximal-none : (e c : ℕ) → mem e (maximal G es) ≡ true → mem c es ≡ true → ¬ (mem e (G .parents c) ≡ true)
+  pub maximal-none : (e c : ℕ) → mem e (maximal G es) ≡ true → mem c es ≡ true → ¬ (mem e (G .parents c) ≡ true)
   unfolding maximal
   maximal-none e c m n h = false-true (rw h at (all-at (λ c. not (mem e (G .parents c))) es ((mem-filter childless e es m) .1) c n))
+
+  pub maximal-has : (e : ℕ) → mem e es ≡ true → ((c : ℕ) → mem c es ≡ true → ¬ (mem e (G .parents c) ≡ true)) → mem e (maximal G es) ≡ true
+  unfolding maximal
+  maximal-has e m h = filter-mem childless e es m (all-of (λ c. not (mem e (G .parents c))) es (λ c n. rw (not-so (mem e (G .parents c)) (h c n))))
 
   -- None of them happened before an event of the set
   pub maximal-apart : Closed → (a b : ℕ) → mem a (maximal G es) ≡ true → mem b es ≡ true → ¬ HappenedBefore G a b

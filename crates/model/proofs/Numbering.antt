@@ -8,7 +8,7 @@ use native.Mathlib.Omega.{arith}
 use lib.ListN.{length, getD, drop}
 use lib.Dec.{eqb}
 use Rattle.model.specs.declared.answers.Refusal.{Refusal}
-use Rattle.model.specs.declared.answers.Refusal.the-variants.{Broken, NoEvents, NotRising, UnknownEvent, TooManyEvents, TooManyRuns, TooManyEntries, FrontierTooLong, Outside, Unmarked, ListTooShort, KnownTooLong, RowsTooLong, BookTooShort, BookTooLong, UnknownKind}
+use Rattle.model.specs.declared.answers.Refusal.the-variants.{Broken, NoEvents, NotRising, UnknownEvent, TooManyEvents, TooManyRuns, TooManyEntries, FrontierTooLong, Outside, Unmarked, ListTooShort, KnownTooLong, RowsTooLong, BookTooShort, BookTooLong, UnknownKind, NoSuchParents}
 use Rattle.model.specs.declared.answers.Outcome.{Outcome}
 use Rattle.model.specs.declared.answers.Outcome.the-variants.{Done, Refused}
 use Rattle.model.specs.declared.answers.EventAnswer.{EventAnswer}
@@ -52,6 +52,7 @@ refusal-number RowsTooLong = refl
 refusal-number BookTooShort = refl
 refusal-number BookTooLong = refl
 refusal-number UnknownKind = refl
+refusal-number NoSuchParents = refl
 
 -- the numbers from 1 on of the cases rs, the first of which has number `first`
 Ordered : ℕ → List Refusal → Type 0
@@ -67,7 +68,7 @@ case-number (r ∷ rs) first (suc k) o lt = case-number rs (suc first) k (o .1) 
 table-ordered : Ordered 1 table
 unfolding Ordered number
 table-ordered =
-    (refl, (refl, (refl, (refl, (refl, (refl, (refl, (refl, (refl, (refl, (refl, (refl, (refl, (refl, (refl, (refl, tt))))))))))))))))
+    (refl, (refl, (refl, (refl, (refl, (refl, (refl, (refl, (refl, (refl, (refl, (refl, (refl, (refl, (refl, (refl, (refl, tt)))))))))))))))))
 
 number-refusal : (n : ℕ) → 1 ≤ n → n ≤ length table → number (refusal n) ≡ n
 number-refusal n p q = case-number table 1 (n - 1) table-ordered (omega arith) ∙ omega arith

@@ -15,6 +15,7 @@ use Rattle.model.specs.Start.{startRunAtOf}
 use Rattle.model.specs.Lookups.{containingOf}
 use Rattle.model.specs.Beside.{concurrencyListOf}
 use Rattle.model.specs.Archive.{archivePoints, archivePointsOf}
+use Rattle.model.specs.Wanted.{wantedParentsOf}
 use Rattle.model.specs.Book.{bookOf}
 use Rattle.model.specs.Print.{ascii, replayText}
 use Rattle.model.specs.Log.{new, after, Call, push, startRunAt, takeChangedFrom, madeBy}
@@ -65,6 +66,18 @@ pointsAfter cs = archivePoints (view (madeBy new cs .0))
 unfoldable pub untrue : CausalGraph
 untrue = store (record { starts = 0 ∷ 1 ∷ 2 ∷ []; parents = [] ∷ [] ∷ []; frontier = 0 ∷ 1 ∷ []; seen = 0 ∷ 1 ∷ []; changed = 0 })
 
+-- Events 0 to 4, a run, and then 5 and 6 on event 1, which splits it
+unfoldable pub forked : CausalGraph
+forked = madeBy new (push [] 5 ∷ push (1 ∷ []) 2 ∷ []) .0
+
+-- Five events, the last of which is the last that any graph can hold
+unfoldable pub farthest : CausalGraph
+farthest = madeBy (after 4294967290 []) (push [] 5 ∷ []) .0
+
+-- The parents that give the events of some ranges, into so many words
+unfoldable pub wantedIn : CausalGraph → List ℕ → ℕ → ℕ × ℕ × List ℕ
+wantedIn g ws room = writtenNumbers (wantedParentsOf g ws (replicate room 9))
+
 pub record Changes : Type 0 where
   -- F-1: "a book of length 0" is whole, "a fresh graph from `new`"; "the program then prints `moved 0` alone"
   pub F1 : bookNumbers (bookOf [] .answer) ≡ 0 ∷ 0 ∷ 0 ∷ []
@@ -83,6 +96,32 @@ pub record Changes : Type 0 where
   -- refusals as they were: too short a list stays untouched, and run 5 is none
   pub F2-short : concurrentWith branches 1 1 ≡ (11, 0, 9 ∷ [])
   pub F2-outside : concurrentWith branches 5 1 ≡ (9, 0, 9 ∷ [])
+  -- F-3: events 0 to 2 of C1, by "the rising list of held events, none an ancestor of another"; what lies behind it keeps its value
+  pub F3 : wantedIn (madeBy new callsC1 .0) (0 ∷ 3 ∷ []) 3 ≡ (0, 2, 1 ∷ 2 ∷ 9 ∷ [])
+  pub F3-ranges : wantedIn (madeBy new callsC1 .0) (0 ∷ 1 ∷ 2 ∷ 3 ∷ []) 1 ≡ (0, 1, 2 ∷ [])
+  -- all events give the frontier; "the empty mark gives the empty list"
+  pub F3-all : wantedIn (madeBy new callsC1 .0) (0 ∷ 5 ∷ []) 2 ≡ (0, 2, 3 ∷ 4 ∷ [])
+  pub F3-nothing : wantedIn (madeBy new callsC1 .0) [] 1 ≡ (0, 0, 9 ∷ [])
+  -- partway along runs: a run's first events are marked, and all of its parent run or no event behind those
+  pub F3-partway : wantedIn forked (0 ∷ 3 ∷ 5 ∷ 6 ∷ []) 2 ≡ (0, 2, 2 ∷ 5 ∷ [])
+  -- 17: event 0, a parent of event 1, is not marked; the event before 1 in its run is not; event 1, where the run of 5 branched off, is not
+  pub F3-unmarked : wantedIn (madeBy new callsC1 .0) (1 ∷ 3 ∷ []) 2 ≡ (17, 0, 9 ∷ 9 ∷ [])
+  pub F3-inside : wantedIn forked (1 ∷ 2 ∷ []) 1 ≡ (17, 0, 9 ∷ [])
+  pub F3-branch : wantedIn forked (0 ∷ 1 ∷ 5 ∷ 6 ∷ []) 2 ≡ (17, 0, 9 ∷ 9 ∷ [])
+  -- 3: ranges that touch, fall or are empty, "a first without its end too"
+  pub F3-touching : wantedIn (madeBy new callsC1 .0) (0 ∷ 1 ∷ 1 ∷ 2 ∷ []) 1 ≡ (3, 0, 9 ∷ [])
+  pub F3-falling : wantedIn (madeBy new callsC1 .0) (9 ∷ 10 ∷ 3 ∷ 4 ∷ []) 1 ≡ (3, 0, 9 ∷ [])
+  pub F3-empty : wantedIn (madeBy new callsC1 .0) (2 ∷ 2 ∷ []) 1 ≡ (3, 0, 9 ∷ [])
+  pub F3-odd : wantedIn (madeBy new callsC1 .0) (0 ∷ 3 ∷ 4 ∷ []) 1 ≡ (3, 0, 9 ∷ [])
+  -- 4, "after 4" 17: events that are not yet known, and one before the graph; an earlier event that no range has is no matter
+  pub F3-unknown : wantedIn (madeBy new callsC1 .0) (3 ∷ 4 ∷ 9 ∷ 10 ∷ []) 1 ≡ (4, 0, 9 ∷ [])
+  pub F3-earlier : wantedIn later (2 ∷ 4 ∷ []) 1 ≡ (4, 0, 9 ∷ [])
+  pub F3-later : wantedIn later (3 ∷ 4 ∷ 5 ∷ 6 ∷ []) 2 ≡ (0, 1, 5 ∷ 9 ∷ [])
+  pub F3-farthest : wantedIn farthest (4294967290 ∷ 4294967295 ∷ []) 1 ≡ (0, 1, 4294967294 ∷ [])
+  -- 11, "a short list .. stays untouched", after 17; 1 before all
+  pub F3-short : wantedIn (madeBy new callsC1 .0) (0 ∷ 3 ∷ []) 1 ≡ (11, 0, 9 ∷ [])
+  pub F3-short-too : wantedIn (madeBy new callsC1 .0) (1 ∷ 3 ∷ []) 0 ≡ (17, 0, [])
+  pub F3-broken : wantedIn falling (2 ∷ 2 ∷ []) 1 ≡ (1, 0, 9 ∷ [])
   -- F-4: "a position that was once told true is told true by any later run start at it, and that later call leaves the graph unchanged". Event 1
   -- of a marked run, by a split; told true after a push that has seen all and a take, with no run more; event 2 of an unmarked run likewise
   pub F4 : startedAfter (push [] 2 ∷ push [] 1 ∷ []) 1 ≡ 0 ∷ 1 ∷ []

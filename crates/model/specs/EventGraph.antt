@@ -6,7 +6,7 @@ use mathlib.Core.Bool.{Bool, true, false, not, _&&_, _||_}
 use mathlib.Core.List.{List}
 use Prim.Native.Nat.{ℕ, zero, suc, _<_}
 use lib.Dec.{eqb}
-use Rattle.lists.specs.Lists.{any, all, mem}
+use Rattle.lists.specs.Lists.{any, all, filter, mem}
 
 -- Eg-walker: an event graph is a set of events, each of which names its parents among the others
 pub record EventGraph : Type 0 where
@@ -37,6 +37,14 @@ InEvents G vs e = (mem e vs ≡ true) ⊎ ((v : ℕ) × (mem v vs ≡ true) × H
 abbrev pub VersionOf : EventGraph → List ℕ → Type 0
 VersionOf G vs =
     (e : ℕ) → (mem e vs ≡ true) ↔ ((G .isEvent e ≡ true) × ((c : ℕ) → G .isEvent c ≡ true → mem e (G .parents c) ≡ false))
+
+-- Of a set of events, those that are parent of none of it: the version of the part of the graph that the set is
+unfoldable pub maximal : EventGraph → List ℕ → List ℕ
+maximal G es = filter (λ e. all (λ c. not (mem e (G .parents c))) es) es
+
+-- A set of events that has the parents of each of its events
+unfoldable pub closed : EventGraph → List ℕ → Bool
+closed G es = all (λ e. all (λ p. mem p es) (G .parents e)) es
 
 -- Eg-walker: a version is critical exactly if each event of Events(V) happened before each event that is not in it
 pub record Critical (G : EventGraph) (vs : List ℕ) : Type 0 where

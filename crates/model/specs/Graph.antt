@@ -77,6 +77,10 @@ held g es = filter (λ e. isHeld (side g e)) es
 unfoldable pub allKnown : Graph → List ℕ → Bool
 allKnown g es = all (λ e. isKnown (side g e)) es
 
+-- each event of a list is held
+unfoldable pub allHeld : Graph → List ℕ → Bool
+allHeld g es = all (λ e. isHeld (side g e)) es
+
 -- "With runs held and the parents just the last event"
 unfoldable pub extends : Graph → List ℕ → Bool
 extends g ps = ltb 0 (runs g) && same ps ((len g - 1) ∷ [])

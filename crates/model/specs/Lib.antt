@@ -29,6 +29,7 @@ pub mod Print
 pub mod Log
 pub mod PlainSet
 pub mod Archive
+pub mod Wanted
 pub mod Claim
 pub mod StaysTrue
 pub mod BookCalls

@@ -3,7 +3,7 @@ use Prim.Native.Nat.{ℕ, zero, suc, _-_}
 use mathlib.Core.Bool.{Bool, cond}
 use mathlib.Core.List.{List, [], _∷_}
 use Rattle.model.specs.declared.answers.Refusal.{Refusal}
-use Rattle.model.specs.declared.answers.Refusal.the-variants.{Broken, NoEvents, NotRising, UnknownEvent, TooManyEvents, TooManyRuns, TooManyEntries, FrontierTooLong, Outside, Unmarked, ListTooShort, KnownTooLong, RowsTooLong, BookTooShort, BookTooLong, UnknownKind}
+use Rattle.model.specs.declared.answers.Refusal.the-variants.{Broken, NoEvents, NotRising, UnknownEvent, TooManyEvents, TooManyRuns, TooManyEntries, FrontierTooLong, Outside, Unmarked, ListTooShort, KnownTooLong, RowsTooLong, BookTooShort, BookTooLong, UnknownKind, NoSuchParents}
 use Rattle.model.specs.declared.answers.Outcome.{Outcome}
 use Rattle.model.specs.declared.answers.Outcome.the-variants.{Done, Refused}
 
@@ -25,6 +25,7 @@ number RowsTooLong = 13
 number BookTooShort = 14
 number BookTooLong = 15
 number UnknownKind = 16
+number NoSuchParents = 17
 
 -- the cases in the order of their numbers, 1 first
 abbrev pub table : List Refusal
@@ -44,7 +45,8 @@ table =
     RowsTooLong ∷
     BookTooShort ∷
     BookTooLong ∷
-    UnknownKind ∷ []
+    UnknownKind ∷
+    NoSuchParents ∷ []
 
 -- the k-th of some cases, from 0
 abbrev pub caseAt : List Refusal → ℕ → Refusal

@@ -25,6 +25,7 @@ pub enum Refusal {
     BookTooShort,
     BookTooLong,
     UnknownKind,
+    NoSuchParents,
 }
 
 // 01's number of a refusal: the one place in code that knows it.
@@ -48,6 +49,7 @@ pub fn number(r: Refusal) -> u32
         Refusal::BookTooShort => 14,
         Refusal::BookTooLong => 15,
         Refusal::UnknownKind => 16,
+        Refusal::NoSuchParents => 17,
     }
 }
 

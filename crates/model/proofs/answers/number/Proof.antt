@@ -53,6 +53,9 @@ enum-told-15 c = search needs
 enum-told-16 : tie.Need-enum-told-16
 enum-told-16 c = search needs
 
+enum-told-17 : tie.Need-enum-told-17
+enum-told-17 c = search needs
+
 returns : tie.Need-returns
 unfolding number
 returns c = sym (ap number (c .enum-told .given .1))
@@ -117,6 +120,10 @@ returns-16 : tie.Need-returns-16
 unfolding number
 returns-16 c = sym (ap number (c .enum-told16 .given .1))
 
+returns-17 : tie.Need-returns-17
+unfolding number
+returns-17 c = sym (ap number (c .enum-told17 .given .1))
+
 pub number-spec : {M : Type 1} → statement M
 number-spec =
     tie.close
@@ -137,6 +144,7 @@ number-spec =
     enum-told-14
     enum-told-15
     enum-told-16
+    enum-told-17
     returns
     returns-2
     returns-3
@@ -152,4 +160,5 @@ number-spec =
     returns-13
     returns-14
     returns-15
-    returns-16)
+    returns-16
+    returns-17)

@@ -1,0 +1,157 @@
+-- The wanted parents give the marked events, and nothing else does. Assumes nothing.
+use mathlib.Core.Path.{_≡_, refl, sym, ap, _∙_, subst}
+use mathlib.Core.Logic.{_⊎_, inl, inr, _↔_}
+use mathlib.Core.Bool.{true, false, not}
+use mathlib.Core.List.{List, [], _∷_, _++_}
+use Prim.Native.Nat.{ℕ, _+_, _-_, _≤_, _<_}
+use native.Mathlib.Omega.{arith}
+use lib.Dec.{ltb}
+use borrow.Author.Tests.{ltb-true}
+use Rattle.lists.specs.Lists.{all, filter, from, mem, rising}
+use Rattle.lists.proofs.Truth.{bool-iff, false-true, not-so, and-left, and-right, or-cases}
+use Rattle.lists.proofs.Members.{mem-first, mem-rest, mem-append, all-of, all-at}
+use Rattle.lists.proofs.Counts.{mem-from}
+use Rattle.lists.proofs.Rising.{rising-tail, rising-above, rising-filter, rising-from, rising-join, rising-only}
+use Rattle.model.specs.declared.record.CausalGraph.{CausalGraph}
+use Rattle.model.specs.declared.record.EventIndex.{EventIndex}
+use Rattle.model.specs.declared.answers.EventsAnswer.the-variants.{Events}
+use Rattle.model.specs.EventGraph.{EventGraph, HappenedBefore, parent, InEvents, Version, maximal, closed, Lower}
+use Rattle.model.specs.Graph.{Graph, len, side, isHeld, allHeld}
+use Rattle.model.specs.Record.{view}
+use Rattle.model.specs.Broken.{WellFormed}
+use Rattle.model.specs.Push.{pushOf}
+use Rattle.model.specs.HeldEvents.{heldEvents}
+use Rattle.model.specs.Wanted.{eventsIn, paired, ranges, wantedParents, Gives, Wanted}
+use Rattle.model.specs.Log.{Log, Fresh, Call, push, madeBy, logPush, eventGraph}
+use Rattle.model.proofs.Ancestry.{before-trans}
+use Rattle.model.proofs.Maximal.{closed-at, closed-of, maximal-in, maximal-has, maximal-apart, maximal-events}
+use Rattle.model.proofs.Siding.{held-between}
+use Rattle.model.proofs.Seen.{Inv, len-tied, first-tied, lower-tied}
+use Rattle.model.proofs.Telling.{events-are, push-told}
+use Rattle.model.proofs.PushedOn.{push-sees, push-logged}
+use Rattle.model.proofs.OwnLog.{held-lower}
+use Rattle.model.proofs.Good.{made-good, made-append}
+
+-- Nothing is marked by no ranges
+none-marked : {A : Type 0} (e : ℕ) → mem e [] ≡ true → A
+unfolding mem
+none-marked e m = false-true m
+
+-- A marked event is one of the first range or of the others
+marked-either : (a b e : ℕ) (ws : List ℕ) → mem e (eventsIn (a ∷ b ∷ ws)) ≡ true → (mem e (from a (b - a)) ≡ true) ⊎ (mem e (eventsIn ws) ≡ true)
+unfolding eventsIn
+marked-either a b e ws m = or-cases (mem e (from a (b - a))) (mem e (eventsIn ws)) (sym (mem-append e (from a (b - a)) (eventsIn ws)) ∙ m)
+
+-- Marked events lie above what their ranges do
+pub events-above : (low : ℕ) (ws : List ℕ) → ((w : ℕ) → mem w ws ≡ true → low < w) → (e : ℕ) → mem e (eventsIn ws) ≡ true → low < e
+unfolding eventsIn
+events-above low [] h e m = none-marked e m
+events-above low (a ∷ []) h e m = none-marked e m
+events-above low (a ∷ b ∷ ws) h e m =
+    cases (marked-either a b e ws m) (λ n. events-above low ws (λ w k. h w (mem-rest a w (b ∷ ws) (mem-rest b w ws k))) e n)
+  where
+    cases : (mem e (from a (b - a)) ≡ true) ⊎ (mem e (eventsIn ws) ≡ true) → (mem e (eventsIn ws) ≡ true → low < e) → low < e
+    cases (inl n) ih = omega (arith, (mem-from e a (b - a) n) .0, h a (mem-first a (b ∷ ws)))
+    cases (inr n) ih = ih n
+
+-- and rise as these do
+pub events-rise : (ws : List ℕ) → rising ws ≡ true → rising (eventsIn ws) ≡ true
+unfolding eventsIn rising
+events-rise [] h = refl
+events-rise (a ∷ []) h = refl
+events-rise (a ∷ b ∷ ws) h =
+    let lt : a < b = ltb-true a b (and-left (ltb a b) (rising (b ∷ ws)) h) in
+    let k : rising (b ∷ ws) ≡ true = and-right (ltb a b) (rising (b ∷ ws)) h in
+    rising-join (from a (b - a)) (eventsIn ws) (rising-from a (b - a)) (events-rise ws (rising-tail b ws k))
+    (λ x y m n. omega (arith, (mem-from x a (b - a) m) .0, (mem-from x a (b - a) m) .1, events-above b ws (λ w q. rising-above b ws k w q) y n))
+
+-- A set that a list gives is closed
+gives-closed : (G : EventGraph) (vs es : List ℕ) → Gives G vs es → closed G es ≡ true
+gives-closed G vs es h = closed-of G es (λ e p m n. (h p) .0 (onward e p n ((h e) .1 m)))
+  where
+    onward : (e p : ℕ) → mem p (G .parents e) ≡ true → InEvents G vs e → InEvents G vs p
+    onward e p n (inl m) = inr (e, m, parent n)
+    onward e p n (inr t) = inr (t .0, t .1, before-trans G (parent n) (t .2))
+
+-- A version that gives a set is its maximal events
+version-maximal : (G : EventGraph) (vs es : List ℕ) → Version G vs → Gives G vs es → rising vs ≡ true → rising es ≡ true → vs ≡ maximal G es
+unfolding maximal
+version-maximal G vs es ver h r k =
+    rising-only vs (maximal G es) r (rising-filter (λ e. all (λ c. not (mem e (G .parents c))) es) es k) (λ v.
+    bool-iff (mem v vs) (mem v (maximal G es))
+    (λ m. maximal-has G es v ((h v) .0 (inl m)) (λ c n p. childless v m c p ((h c) .1 n)))
+    (λ m. member v m ((h v) .1 (maximal-in G es v m))))
+  where
+    childless : (v : ℕ) → mem v vs ≡ true → (c : ℕ) → mem v (G .parents c) ≡ true → InEvents G vs c → ⊥
+    childless v m c p (inl n) = ver .apart v c m n (parent p)
+    childless v m c p (inr t) = ver .apart v (t .0) m (t .1) (before-trans G (parent p) (t .2))
+
+    member : (v : ℕ) → mem v (maximal G es) ≡ true → InEvents G vs v → mem v vs ≡ true
+    member v m (inl n) = n
+    member v m (inr t) = absurd (maximal-apart G es (closed-at G es (gives-closed G vs es h)) v (t .0) m ((h (t .0)) .0 (inl (t .1))) (t .2))
+
+module _ (g : Graph) (ws : List ℕ) (formed : WellFormed g) where
+  abbrev E : EventGraph
+  E = heldEvents g
+
+  abbrev es : List ℕ
+  es = eventsIn ws
+
+  module _ (h : allHeld g es ≡ true) (k : closed E es ≡ true) where
+    marked-held : (e : ℕ) → mem e es ≡ true → isHeld (side g e) ≡ true
+    unfolding allHeld
+    marked-held e m = all-at (λ x. isHeld (side g x)) es h e m
+
+    wanted-gives : Gives E (wantedParents g ws) es
+    unfolding wantedParents
+    wanted-gives = maximal-events E es (held-lower g formed) (len g) (λ e m. (held-between g e (marked-held e m)) .1) (closed-at E es k)
+
+    wanted-held : (e : ℕ) → mem e (wantedParents g ws) ≡ true → isHeld (side g e) ≡ true
+    unfolding wantedParents
+    wanted-held e m = marked-held e (maximal-in E es e m)
+
+    wanted-version : Version E (wantedParents g ws)
+    unfolding wantedParents
+    wanted-version = record { events = wanted-held; apart = λ a b m n. maximal-apart E es (closed-at E es k) a b m (maximal-in E es b n) }
+
+  wanted-none : allHeld g es ≡ true → (closed E es ≡ false) ↔ ((vs : List ℕ) → allHeld g vs ≡ true → ¬ Gives E vs es)
+  unfolding allHeld
+  wanted-none h = (
+    (λ e vs w y. false-true (sym e ∙ gives-closed E vs es y)),
+    (λ n. not-so (closed E es) (λ k. n (wantedParents g ws) (all-of (λ e. isHeld (side g e)) (wantedParents g ws) (wanted-held h k)) (wanted-gives h k))),
+  )
+
+wanted-pushed : (f : Fresh) (cs : List Call) (ws : List ℕ) (n : ℕ) (a b : EventIndex) → let g : CausalGraph = (madeBy f cs) .0 in
+    allHeld (view g) (eventsIn ws) ≡ true → closed (heldEvents (view g)) (eventsIn ws) ≡ true →
+    pushOf g (wantedParents (view g) ws) n .answer ≡ Events a b →
+    (e : ℕ) → HappenedBefore (eventGraph ((madeBy f (cs ++ push (wantedParents (view g) ws) n ∷ [])) .1)) e (a .0) ↔ (mem e (eventsIn ws) ≡ true)
+wanted-pushed f cs ws n a b h k q e =
+    let g : Graph = view ((madeBy f cs) .0) in
+    let l : Log = (madeBy f cs) .1 in
+    let ps : List ℕ = wantedParents g ws in
+    let formed : WellFormed g = (made-good f cs) .fact .formed in
+    let v : Inv g l = (made-good f cs) .fact .inv in
+    let low : Lower (eventGraph l) = lower-tied l (v .lower) in
+    let held : (p : ℕ) → mem p ps ≡ true → (l .firstHeld ≤ p) × (p < l .next) = λ p m.
+    let i = held-between g p (wanted-held g ws formed h k p m) in
+    (omega (arith, i .0, first-tied g l (v .tied)), omega (arith, i .1, len-tied g l (v .tied))) in
+    let logged : (madeBy f (cs ++ push ps n ∷ [])) .1 ≡ logPush l ps n =
+    ap (λ (m : CausalGraph × Log). m .1) (made-append f cs (push ps n ∷ [])) ∙ push-logged ((madeBy f cs) .0) l ps n a b q in
+    let first : a .0 ≡ l .next = (push-told ((madeBy f cs) .0) l (len-tied g l (v .tied)) ps n a b q) .0 in
+    let gives : Gives (eventGraph l) ps (eventsIn ws) =
+    subst (λ (G : EventGraph). Gives G ps (eventsIn ws)) (events-are g l (v .tied) (v .lower)) (wanted-gives g ws formed h k) in
+    subst (λ (m : Log). HappenedBefore (eventGraph m) e (a .0) ↔ (mem e (eventsIn ws) ≡ true)) (sym logged)
+    (subst (λ (x : ℕ). HappenedBefore (eventGraph (logPush l ps n)) e x ↔ (mem e (eventsIn ws) ≡ true)) (sym first)
+    ((λ x. (gives e) .0 ((push-sees l low ps n held e) .0 x)), (λ m. (push-sees l low ps n held e) .1 ((gives e) .1 m))))
+
+-- What is claimed of the wanted parents
+pub wanted : Wanted
+unfolding ranges eventsIn wantedParents maximal filter
+wanted = record {
+  gives = λ g ws formed h k. (wanted-version g ws formed h k, wanted-gives g ws formed h k);
+  rises = λ g ws h. rising-filter (λ e. all (λ c. not (mem e (heldEvents g .parents c))) (eventsIn ws)) (eventsIn ws) (events-rise ws (and-left (rising ws) (paired ws) h));
+  only = λ g ws vs h r v y. version-maximal (heldEvents g) vs (eventsIn ws) v y r (events-rise ws (and-left (rising ws) (paired ws) h));
+  none = wanted-none;
+  pushed = wanted-pushed;
+  nothing = λ g. refl;
+}

@@ -1,0 +1,86 @@
+-- 02, F-3: the parents that give a wanted version, on every input, and what is claimed of them. Assumes nothing.
+use mathlib.Core.Path.{_≡_}
+use mathlib.Core.Logic.{_↔_}
+use mathlib.Core.Bool.{Bool, true, false, not, _&&_}
+use mathlib.Core.List.{List, [], _∷_, _++_}
+use Prim.Native.Nat.{ℕ, _-_}
+use lib.ListN.{length}
+use lib.Dec.{ltb}
+use Rattle.lists.specs.Lists.{from, mem, rising}
+use Rattle.lists.specs.Areas.{over}
+use Rattle.model.specs.declared.record.CausalGraph.{CausalGraph}
+use Rattle.model.specs.declared.record.EventIndex.{EventIndex}
+use Rattle.model.specs.declared.answers.Written.{Written}
+use Rattle.model.specs.declared.answers.Outcome.{Outcome}
+use Rattle.model.specs.declared.answers.Outcome.the-variants.{Done, Refused}
+use Rattle.model.specs.declared.answers.EventsAnswer.the-variants.{Events}
+use Rattle.model.specs.EventGraph.{EventGraph, HappenedBefore, InEvents, Version, maximal, closed}
+use Rattle.model.specs.Refusals.{firstOf}
+use Rattle.model.specs.Graph.{Graph, allHeld}
+use Rattle.model.specs.Record.{view}
+use Rattle.model.specs.Broken.{broken, WellFormed}
+use Rattle.model.specs.Cut.{unwritten}
+use Rattle.model.specs.Push.{pushOf}
+use Rattle.model.specs.HeldEvents.{heldEvents}
+use Rattle.model.specs.Log.{Fresh, Call, push, madeBy, eventGraph}
+
+-- the marked events: "event ranges, first and exclusive end"
+unfoldable pub eventsIn : List ℕ → List ℕ
+eventsIn [] = []
+eventsIn (a ∷ []) = []
+eventsIn (a ∷ b ∷ ws) = from a (b - a) ++ eventsIn ws
+
+-- "a first without its end too" is faulty
+unfoldable pub paired : List ℕ → Bool
+paired [] = true
+paired (a ∷ []) = false
+paired (a ∷ b ∷ ws) = paired ws
+
+-- "rising, non-empty and not touching": each word is above the one before it
+unfoldable pub ranges : List ℕ → Bool
+ranges ws = rising ws && paired ws
+
+-- the wanted parents: the marked events that are parent of no marked one
+unfoldable pub wantedParents : Graph → List ℕ → List ℕ
+wantedParents g ws = maximal (heldEvents g) (eventsIn ws)
+
+-- Refusals 1, 3, 4, 17, 11: "17 .. after 4 and before 11". No list does it where a held parent of a marked event is not marked: `none` below
+unfoldable pub wantedOutcome : CausalGraph → List ℕ → List ℕ → Outcome
+wantedOutcome g ws lent =
+    firstOf (
+    (broken g, 1) ∷
+    (not (ranges ws), 3) ∷
+    (not (allHeld (view g) (eventsIn ws)), 4) ∷
+    (not (closed (heldEvents (view g)) (eventsIn ws)), 17) ∷
+    (ltb (length lent) (length (wantedParents (view g) ws)), 11) ∷ [])
+
+-- The wanted parents into a lent list, a word each, and the list afterwards: "a short list gets 11 and stays untouched"
+unfoldable pub wantedParentsOf : CausalGraph → List ℕ → List ℕ → Written × List ℕ
+wantedParentsOf g ws lent = elim (wantedOutcome g ws lent) [
+  | Done ↦ (record { count = length (wantedParents (view g) ws); outcome = Done }, over (wantedParents (view g) ws) lent)
+  | Refused r ↦ unwritten r lent
+]
+
+-- "an event pushed on it has seen exactly" these events: Events(V) of the list is the set
+abbrev pub Gives : EventGraph → List ℕ → List ℕ → Type 0
+Gives G vs es = (e : ℕ) → InEvents G vs e ↔ (mem e es ≡ true)
+
+-- What is claimed of the wanted parents
+pub record Wanted : Type 0 where
+  -- where the answer is not refused it gives the marked events: "the rising list of held events, none an ancestor of another, such that .."
+  pub gives : (g : Graph) (ws : List ℕ) → WellFormed g → allHeld g (eventsIn ws) ≡ true → closed (heldEvents g) (eventsIn ws) ≡ true →
+      Version (heldEvents g) (wantedParents g ws) × Gives (heldEvents g) (wantedParents g ws) (eventsIn ws)
+  pub rises : (g : Graph) (ws : List ℕ) → ranges ws ≡ true → rising (wantedParents g ws) ≡ true
+  -- no other such list does
+  pub only : (g : Graph) (ws vs : List ℕ) → ranges ws ≡ true → rising vs ≡ true → Version (heldEvents g) vs → Gives (heldEvents g) vs (eventsIn ws) →
+      vs ≡ wantedParents g ws
+  -- 17: "refused exactly where no list of held events does that", be it rising or not, with ancestors of one another in it or not
+  pub none : (g : Graph) (ws : List ℕ) → WellFormed g → allHeld g (eventsIn ws) ≡ true →
+      (closed (heldEvents g) (eventsIn ws) ≡ false) ↔ ((vs : List ℕ) → allHeld g vs ≡ true → ¬ Gives (heldEvents g) vs (eventsIn ws))
+  -- on a graph that calls made, an event pushed on the answer has in the plain log exactly the marked events for ancestors
+  pub pushed : (f : Fresh) (cs : List Call) (ws : List ℕ) (n : ℕ) (a b : EventIndex) → let g : CausalGraph = (madeBy f cs) .0 in
+      allHeld (view g) (eventsIn ws) ≡ true → closed (heldEvents (view g)) (eventsIn ws) ≡ true →
+      pushOf g (wantedParents (view g) ws) n .answer ≡ Events a b →
+      (e : ℕ) → HappenedBefore (eventGraph ((madeBy f (cs ++ push (wantedParents (view g) ws) n ∷ [])) .1)) e (a .0) ↔ (mem e (eventsIn ws) ≡ true)
+  -- "The empty mark gives the empty list"
+  pub nothing : (g : Graph) → wantedParents g [] ≡ []
