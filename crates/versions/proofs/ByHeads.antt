@@ -12,11 +12,11 @@ use Rattle.lists.proofs.Truth.{lt-or-le, false-true}
 use Rattle.lists.proofs.Members.{mem-index, getD-mem, all-of, all-at}
 use Rattle.lists.proofs.Counts.{mem-from, upto-mem}
 use Rattle.lists.proofs.Rising.{rising-getD}
-use Rattle.model.specs.EventGraph.{EventGraph, parent, further, InEvents}
+use Rattle.model.specs.EventGraph.{EventGraph, parent, further, InEvents, maximal}
 use Rattle.model.specs.Graph.{Graph, runs}
 use Rattle.model.specs.History.{at, runGraph}
 use Rattle.model.proofs.Histories.{Below, Reach, reach-below}
-use Rattle.model.proofs.Maximal.{maximal, maximal-in, maximal-apart, maximal-covers}
+use Rattle.model.proofs.Maximal.{maximal-in, maximal-apart, maximal-covers}
 use Rattle.model.proofs.Archiving.{Parted}
 use Rattle.versions.specs.Heads.{childless, heads, lastIn, highestBy, highest}
 

@@ -1,3 +1,4 @@
 -- What the loops of the versions' code compute.
 pub mod Flags
 pub mod Heads
+pub mod Ranges

@@ -24,7 +24,7 @@ use model::Refusal;
 use model::Written;
 
 // Flags the numbers of a part of a list.
-fn flag_part(flags: &mut [u32], items: &[u32], from: usize, to: usize)
+pub(crate) fn flag_part(flags: &mut [u32], items: &[u32], from: usize, to: usize)
     requires { ⌜ to ≤ length (now items) ⌝ }
     requires { ⌜ below (length (now flags)) (part from to (now items)) ≡ true ⌝ }
     ensures { λ _. ⌜ now (flags .exit) ≡ flagAll (now (flags .entry)) (part from to (now (items .entry))) ⌝ }

@@ -1,6 +1,8 @@
-// What reads ancestors off a graph: archive points, and the runs that are concurrent with a run. Each call tests its graph first; its
+// What reads ancestors off a graph: archive points, the runs that are concurrent with a run, the parents that give
+// a wanted version. Each call tests its graph first; its
 // contract is an equation with its definition in the model crate.
 
 pub mod archive;
 pub mod concurrent;
+pub mod wanted;
 mod words;
