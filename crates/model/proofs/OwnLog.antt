@@ -54,14 +54,14 @@ module _ (g : Graph) (formed : WellFormed g) where
   below = fit-below (g .parents) (formed .parents)
 
   -- The parents of a run's first event
-  first-parents : (r : ℕ) → r < runs g → eventParents g (start g r) ≡ map (lastEvent g) (at (g .parents) r)
+  pub first-parents : (r : ℕ) → r < runs g → eventParents g (start g r) ≡ map (lastEvent g) (at (g .parents) r)
   first-parents r lt =
       parents-in g (start g r) r (side-run g (start g r) (first-start g formed r (omega arith))
       (omega (arith, start-less g formed r (suc r) (omega arith) lt, start-len g formed (suc r) lt)) ∙ ap inRun (containing-start g formed r lt)) ∙
       rw (eq-eqb (start g r) (start g r) refl)
 
   -- and of any other
-  later-parents : (e : ℕ) → firstHeld g ≤ e → e < len g → ¬ (e ≡ start g (containing g e)) → eventParents g e ≡ (e - 1) ∷ []
+  pub later-parents : (e : ℕ) → firstHeld g ≤ e → e < len g → ¬ (e ≡ start g (containing g e)) → eventParents g e ≡ (e - 1) ∷ []
   later-parents e p q ne = parents-in g e (containing g e) (side-run g e p q) ∙ rw (ne-eqb e (start g (containing g e)) ne)
 
   last-held : (r j : ℕ) → r < runs g → mem j (at (g .parents) r) ≡ true → leb (firstHeld g) (lastEvent g j) ≡ true

@@ -11,3 +11,7 @@ pub mod ByHeads
 pub mod HeadTurns
 pub mod Points
 pub mod ArchiveWays
+-- Wanted parents
+pub mod RangeWords
+pub mod FirstParts
+pub mod MarkedRuns
