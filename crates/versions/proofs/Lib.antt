@@ -15,3 +15,5 @@ pub mod ArchiveWays
 pub mod RangeWords
 pub mod FirstParts
 pub mod MarkedRuns
+pub mod RangeTurns
+pub mod WantedWays

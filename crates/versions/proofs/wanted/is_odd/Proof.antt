@@ -1,0 +1,14 @@
+use borrow.Author.Needs.{needs}
+use Rattle.versions.specs.Ranges.{isOdd}
+use Rattle.versions.proofs.wanted.is_odd.Statement.{statement}
+use Rattle.versions.proofs.wanted.is_odd.Tie as tie
+use Rattle.versions.proofs.wanted.is_odd.Reads as reads
+use Rattle.versions.proofs.wanted.is_odd.Lts as lts
+
+-- src/wanted.rt:30:1
+returns : tie.Need-returns
+unfolding isOdd
+returns c = search needs
+
+pub is-odd-spec : {M : Type 1} → statement M
+is-odd-spec = tie.close (tie.spec returns)
