@@ -6,7 +6,7 @@ use mathlib.Core.List.{List}
 use Prim.Native.Nat.{ℕ, zero, suc, _+_, _≤_, _<_}
 use native.Mathlib.Omega.{arith}
 use borrow.Author.Tests.{not-false}
-use Rattle.lists.specs.Lists.{all, filter, mem}
+use Rattle.lists.specs.Lists.{all, mem}
 use Rattle.lists.proofs.Truth.{false-true, not-so}
 use Rattle.lists.proofs.Members.{mem-filter, filter-mem, all-of, all-at, all-fails}
 use Rattle.model.specs.EventGraph.{EventGraph, HappenedBefore, parent, further, InEvents, maximal, closed, Lower}

@@ -1,6 +1,6 @@
 -- A set of held events that has, of each run, the first events up to an end: whether it is closed, and which of its events are maximal, run by
 -- run. Assumes nothing.
-use mathlib.Core.Path.{_≡_, refl, sym, ap, _∙_}
+use mathlib.Core.Path.{_≡_, sym, ap, _∙_}
 use mathlib.Core.Logic.{_⊎_, inl, inr, _↔_}
 use mathlib.Core.Bool.{true}
 use mathlib.Core.List.{List, [], _∷_}
@@ -10,7 +10,7 @@ use Rattle.lists.specs.Lists.{mem}
 use Rattle.lists.proofs.Truth.{eq-or-not, lt-or-le, lt-of-ne}
 use Rattle.lists.proofs.Members.{mem-first, mem-one, mem-map, map-mem, all-at}
 use Rattle.model.specs.EventGraph.{EventGraph, maximal}
-use Rattle.model.specs.Graph.{Graph, runs, start, firstHeld, len, containing, side, isHeld, allHeld}
+use Rattle.model.specs.Graph.{Graph, runs, start, containing, side, isHeld, allHeld}
 use Rattle.model.specs.Broken.{WellFormed}
 use Rattle.model.specs.History.{at}
 use Rattle.model.specs.HeldEvents.{lastEvent, eventParents, heldEvents}
@@ -109,8 +109,14 @@ module _ (g : Graph) (formed : WellFormed g) where
       -- A maximal event is the last of its run that the set has, and no such run is a child of that run
       pub maximal-top : (e : ℕ) → mem e (maximal G es) ≡ true → (r : ℕ) × (r < runs g) × Met r × (e ≡ E r - 1) × Childless r
       unfolding lastEvent
-      maximal-top e top = (r, i .0, omega (arith, i .1, reach), last (lt-or-le (suc e) (E r)), λ q lt h c.
-          maximal-none G es e (start g q) top (met-start q lt h) (ends q lt h c))
+      maximal-top e top = (
+        r,
+        i .0,
+        omega (arith, i .1, reach),
+        last (lt-or-le (suc e) (E r)),
+        λ q lt h c.
+            maximal-none G es e (start g q) top (met-start q lt h) (ends q lt h c),
+      )
         where
           m : mem e es ≡ true
           m = maximal-in G es e top

@@ -1,8 +1,8 @@
 -- The wanted parents by runs are those of the definition, and so is refusal 17. Assumes nothing.
-use mathlib.Core.Path.{_≡_, refl, sym, ap, ap₂, _∙_}
+use mathlib.Core.Path.{_≡_, refl, sym, ap, _∙_}
 use mathlib.Core.Logic.{_⊎_, inl, inr, _↔_}
-use mathlib.Core.Bool.{Bool, true, false, not, cond, _&&_, _||_}
-use mathlib.Core.List.{List, [], _∷_, map}
+use mathlib.Core.Bool.{Bool, true, false, not, _||_}
+use mathlib.Core.List.{List, [], map}
 use Prim.Native.Nat.{ℕ, zero, suc, _-_, _≤_, _<_}
 use native.Mathlib.Omega.{arith}
 use lib.ListN.{length, getD}
@@ -12,7 +12,7 @@ use Rattle.lists.specs.Lists.{all, filter, from, upto, mem, rising}
 use Rattle.lists.proofs.Truth.{eq-or-not, false-true, bool-iff, not-so, and-left, and-right, and-both, or-cases, or-left, or-right}
 use Rattle.lists.proofs.Members.{mem-map, map-mem, all-of, all-at}
 use Rattle.lists.proofs.Counts.{mem-from, upto-mem}
-use Rattle.lists.proofs.Rising.{rising-filter, rising-map, rising-from, rising-only}
+use Rattle.lists.proofs.Rising.{rising-filter, rising-map, rising-only}
 use Rattle.lists.proofs.Passing.{passing, passing-rises}
 use Rattle.lists.proofs.Pads.{get-pad, length-pad}
 use Rattle.model.specs.EventGraph.{EventGraph, maximal, closed}
@@ -159,7 +159,8 @@ module _ (g : Graph) (formed : WellFormed g) (starts : List ℕ) (same : (r : �
         back : all (wholeIn flags ends starts) (from 0 (runs g)) ≡ true → closed G es ≡ true
         back k = closed-of G es (whole-closed g formed es held E most parts (λ r j lt h m.
             let b : j < runs g = omega (arith, below r j m) in
-            cases r j lt h m b (or-cases (eqb (getD flags j 0) 0) (eqb (E j) (getD starts (suc j) 0)) (all-at (wholeIn flags ends starts) (from 0 (runs g)) k j (unfold upto in upto-mem j (runs g) b)))))
+            let test : wholeIn flags ends starts j ≡ true = all-at (wholeIn flags ends starts) (from 0 (runs g)) k j (upto-mem j (runs g) b) in
+            cases r j lt h m b (or-cases (eqb (getD flags j 0) 0) (eqb (E j) (getD starts (suc j) 0)) test)))
           where
             cases : (r j : ℕ) → r < runs g → MetRun r → mem j (at (g .parents) r) ≡ true → j < runs g →
                 (eqb (getD flags j 0) 0 ≡ true) ⊎ (eqb (E j) (getD starts (suc j) 0) ≡ true) → E j ≡ start g (suc j)

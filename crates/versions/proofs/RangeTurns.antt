@@ -1,7 +1,7 @@
 -- The loops behind the wanted parents, turn by turn, and the ways out of the tests. Assumes nothing.
-use mathlib.Core.Path.{_≡_, refl, sym, ap, ap₂, _∙_}
+use mathlib.Core.Path.{_≡_, refl, sym, ap, _∙_}
 use mathlib.Core.Logic.{_⊎_, inl, inr}
-use mathlib.Core.Bool.{Bool, true, false, not, cond, _&&_, _||_}
+use mathlib.Core.Bool.{Bool, true, false, cond, _&&_}
 use mathlib.Core.List.{List, [], _∷_, _++_, map}
 use Prim.Native.Nat.{ℕ, zero, suc, _+_, _-_, _%_, _≤_, _<_, min}
 use native.Mathlib.Numerals.{add-one}
@@ -11,14 +11,14 @@ use lib.Seq.{take-length}
 use lib.Dec.{leb, eqb}
 use borrow.Author.Tests.{le-leb, lt-leb, eq-eqb, ne-eqb}
 use Rattle.lists.specs.declared.Kept.{Kept}
-use Rattle.lists.specs.Lists.{all, filter, from, upto, mem, rising}
+use Rattle.lists.specs.Lists.{all, filter, from, upto, rising}
 use Rattle.lists.specs.Scans.{keptIn, kept, addIf}
-use Rattle.lists.proofs.Truth.{lt-or-le, false-true, not-so, and-false, and-both}
+use Rattle.lists.proofs.Truth.{lt-or-le, false-true, not-so, and-false}
 use Rattle.lists.proofs.Members.{all-at, all-both}
 use Rattle.lists.proofs.Counts.{upto-mem, upto-snoc}
 use Rattle.lists.proofs.Keeping.{add-if-kept, filter-snoc}
 use Rattle.lists.proofs.Scanning.{drop-first, drop-none}
-use Rattle.model.specs.Wanted.{ranges, paired}
+use Rattle.model.specs.Wanted.{ranges}
 use Rattle.graph.specs.declared.cut.Put.{Put}
 use Rattle.graph.specs.Cutting.{put, putAll}
 use Rattle.versions.specs.Flags.{flagAll}

@@ -1,16 +1,16 @@
 -- What rising words mark, a first and an end in turn: an event exactly if those at most the event are odd in number. Assumes nothing.
-use mathlib.Core.Path.{_≡_, refl, sym, ap, ap₂, _∙_}
+use mathlib.Core.Path.{_≡_, refl, sym, ap, _∙_}
 use mathlib.Core.Logic.{_⊎_, inl, inr, _↔_}
 use mathlib.Core.Bool.{Bool, true, false, not, cond, _&&_, _||_}
 use mathlib.Core.List.{List, [], _∷_}
 use Prim.Native.Nat.{ℕ, suc, _+_, _-_, _%_, _≤_, _<_, min}
 use native.Mathlib.Omega.{arith}
 use lib.ListN.{length, getD}
-use lib.Dec.{leb, ltb, eqb}
-use borrow.Author.Tests.{ltb-true, leb-true, lt-ltb, le-ltb, le-leb, lt-leb, eq-eqb, ne-eqb, eqb-true, leb-false}
+use lib.Dec.{leb, eqb}
+use borrow.Author.Tests.{ltb-true, leb-true, lt-ltb, le-leb, lt-leb, eq-eqb, ne-eqb, eqb-true, leb-false}
 use Rattle.lists.specs.Lists.{bit, count, from, mem, rising}
 use Rattle.lists.proofs.Truth.{eq-or-not, lt-or-le, false-true, bool-iff, not-so, and-left, and-right, or-cases, or-first, or-last}
-use Rattle.lists.proofs.Members.{mem-first, mem-rest, mem-append, all-of, all-at}
+use Rattle.lists.proofs.Members.{mem-first, mem-append, all-of, all-at}
 use Rattle.lists.proofs.Counts.{mem-from, from-mem, count-le, count-same, count-none}
 use Rattle.lists.proofs.Rising.{rising-getD, rising-count, rising-tail, rising-above, rising-less}
 use Rattle.model.specs.Graph.{Graph, firstHeld, len, side, isHeld, allHeld}

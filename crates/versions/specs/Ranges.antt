@@ -2,11 +2,11 @@
 -- event are odd in number; and what is marked of a run, where no range begins inside it, goes from the run's start up to an end. Assumes nothing.
 use mathlib.Core.Path.{_≡_}
 use mathlib.Core.Bool.{Bool, not, cond, _&&_, _||_}
-use mathlib.Core.List.{List, [], _∷_, map}
+use mathlib.Core.List.{List, [], map}
 use Prim.Native.Nat.{ℕ, zero, suc, _+_, _-_, _%_, _≤_, _<_, min}
 use lib.ListN.{length, getD}
 use lib.Dec.{leb, eqb}
-use Rattle.lists.specs.Lists.{all, filter, count, upto}
+use Rattle.lists.specs.Lists.{filter, count, upto}
 use Rattle.lists.specs.Areas.{pad}
 use Rattle.model.specs.Limits.{maxRuns}
 use Rattle.versions.specs.Flags.{flagAll}

@@ -226,7 +226,12 @@ fn top_events(flags: &[u32], ends: &[u32], n: usize) -> Kept
     let mut c = 0;
     let mut r = 0;
     while r < n {
-        c = lists::put_if(is_top(flags[r], ends[r]), &mut items, c, last_before(ends[r]));
+        c = lists::put_if(
+            is_top(flags[r], ends[r]),
+            &mut items,
+            c,
+            last_before(ends[r]),
+        );
         r += 1;
     }
     Kept {
@@ -285,7 +290,11 @@ pub fn wanted_parents(g: CausalGraph, ranges: &[u32], list: &mut [u32]) -> Writt
             outcome: Outcome::Refused(Refusal::NotRising),
         };
     }
-    if !are_within(ranges, EventIndex(g.starts[0]), EventIndex(g.starts[g.run_count])) {
+    if !are_within(
+        ranges,
+        EventIndex(g.starts[0]),
+        EventIndex(g.starts[g.run_count]),
+    ) {
         return Written {
             count: 0,
             outcome: Outcome::Refused(Refusal::UnknownEvent),

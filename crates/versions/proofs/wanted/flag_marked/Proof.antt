@@ -1,3 +1,4 @@
+-- `versions::wanted::flag_marked` meets its contract. The loop's invariant: the flags of the runs so far. The measure is what is left of `n`. Assumes nothing.
 use borrow.Author.Needs.{needs}
 use mathlib.Core.Path.{_≡_, sym, _∙_, ap}
 use mathlib.Core.Bool.{cond}
@@ -14,10 +15,6 @@ use Rattle.versions.proofs.MarkedRuns.{flags-long}
 use Rattle.versions.proofs.RangeTurns.{flags-start, flags-next}
 use Rattle.versions.proofs.wanted.flag_marked.Statement.{statement}
 use Rattle.versions.proofs.wanted.flag_marked.Tie as tie
-use Rattle.versions.proofs.wanted.flag_marked.Reads as reads
-use Rattle.versions.proofs.wanted.flag_marked.Lts as lts
-use Rattle.lists.proofs.nothing.Reads as nothing-reads
-use Rattle.versions.proofs.wanted.flag_if.Reads as flag-if-reads
 
 abbrev Inv-loop : tie.InvT-loop
 Inv-loop ends starts items n flags₀ r₀ flags r = (r ≤ n) × (flags ≡ flagMarked (row starts items) ends r)
@@ -25,76 +22,77 @@ Inv-loop ends starts items n flags₀ r₀ flags r = (r ≤ n) × (flags ≡ fla
 abbrev μ-loop : tie.MeasureT-loop
 μ-loop ends starts items n flags₀ r₀ flags r = n - r
 
--- src/wanted.rt:157:9
 nothing-requires : tie.Need-nothing-requires Inv-loop μ-loop
 nothing-requires c κs = search needs
 
--- src/wanted.rt:160:5
 loop-holds : tie.Need-loop-holds Inv-loop μ-loop
-loop-holds c = (omega arith, flags-start (row (c .before .before .before .before .before .args .starts .now) (c .before .before .before .before .before .args .items .now)) (c .before .before .before .before .before .args .ends .now) (c .before .nothing .result) (c .before .nothing .ensures))
+loop-holds c =
+    let a = c .before .before .before .before .before .args in
+    (omega arith, flags-start (row (a .starts .now) (a .items .now)) (a .ends .now) (c .before .nothing .result) (c .before .nothing .ensures))
 
--- src/wanted.rt:162:13
 mul-flag-if : tie.Need-mul-flag-if Inv-loop μ-loop
 mul-flag-if c = search needs
 
--- src/wanted.rt:162:13
 shared-slice-read-flag-if : tie.Need-shared-slice-read-flag-if Inv-loop μ-loop
 shared-slice-read-flag-if c = omega (arith, c .before .before .before .before .before .before .before .before .pre .1)
 
--- src/wanted.rt:163:13
 slice-aggregate-flag-if : tie.Need-slice-aggregate-flag-if Inv-loop μ-loop
-slice-aggregate-flag-if c = sym (ap length (c .before .before .before .loop .inv .1) ∙ flags-long (row (c .before .before .before .before .before .before .before .before .before .args .starts .now) (c .before .before .before .before .before .before .before .before .before .args .items .now)) (c .before .before .before .before .before .before .before .before .before .args .ends .now) (c .before .before .before .loop .r))
+slice-aggregate-flag-if c =
+    let a = c .before .before .before .before .before .before .before .before .before .args in
+    let l = c .before .before .before .loop in
+    sym (ap length (l .inv .1) ∙ flags-long (row (a .starts .now) (a .items .now)) (a .ends .now) (l .r))
 
--- src/wanted.rt:165:13
 mul-flag-if-2 : tie.Need-mul-flag-if-2 Inv-loop μ-loop
 mul-flag-if-2 c = search needs
 
--- src/wanted.rt:165:13
 shared-slice-read-flag-if-2 : tie.Need-shared-slice-read-flag-if-2 Inv-loop μ-loop
 shared-slice-read-flag-if-2 c = omega (arith, c .before .before .before .before .before .before .before .before .before .before .pre .0 .fits)
 
--- src/wanted.rt:165:13
 cast-flag-if : tie.Need-cast-flag-if Inv-loop μ-loop
 cast-flag-if c = omega (arith, c .shared-slice-known5 .given (c .before .before .before .before .loop .r))
 
--- src/wanted.rt:166:20
 add-flag-if : tie.Need-add-flag-if Inv-loop μ-loop
 add-flag-if c = search needs
 
--- src/wanted.rt:166:13
 mul-flag-if-3 : tie.Need-mul-flag-if-3 Inv-loop μ-loop
 mul-flag-if-3 c = search needs
 
--- src/wanted.rt:166:13
 shared-slice-read-flag-if-3 : tie.Need-shared-slice-read-flag-if-3 Inv-loop μ-loop
 shared-slice-read-flag-if-3 c = omega (arith, c .before .before .before .before .before .before .before .before .before .before .before .pre .0 .fits)
 
--- src/wanted.rt:166:13
 cast-flag-if-2 : tie.Need-cast-flag-if-2 Inv-loop μ-loop
 cast-flag-if-2 c = omega (arith, c .shared-slice-known6 .given (c .before .before .before .before .before .loop .r + 1))
 
--- src/wanted.rt:161:9
 flag-if-requires : tie.Need-flag-if-requires Inv-loop μ-loop
-flag-if-requires c κs = (c .before .before .before .before .before .before .before .before .before .before .before .pre .0 .inside (c .before .before .before .before .before .loop .r) (c .before .before .before .before .loop-test .taken), row-below (c .before .before .before .before .before .before .before .before .before .before .before .args .starts .now) (c .before .before .before .before .before .before .before .before .before .before .before .args .items .now) (c .before .before .before .before .before .before .before .before .before .before .before .args .n) _ (c .before .before .before .before .before .loop .r) (c .before .before .before .before .before .before .before .before .before .before .before .pre .0) (c .before .before .before .before .loop-test .taken) (omega (arith, c .before .before .before .before .before .before .before .before .before .before .before .pre .0 .few, ap length (c .before .before .before .before .before .loop .inv .1), flags-long (row (c .before .before .before .before .before .before .before .before .before .before .before .args .starts .now) (c .before .before .before .before .before .before .before .before .before .before .before .args .items .now)) (c .before .before .before .before .before .before .before .before .before .before .before .args .ends .now) (c .before .before .before .before .before .loop .r))))
+flag-if-requires c κs =
+    let a = c .before .before .before .before .before .before .before .before .before .before .before .args in
+    let p = c .before .before .before .before .before .before .before .before .before .before .before .pre in
+    let l = c .before .before .before .before .before .loop in
+    let lt = c .before .before .before .before .loop-test .taken in
+    let long = flags-long (row (a .starts .now) (a .items .now)) (a .ends .now) (l .r) in
+    (p .0 .inside (l .r) lt, row-below (a .starts .now) (a .items .now) (a .n) _ (l .r) (p .0) lt (omega (arith, p .0 .few, ap length (l .inv .1), long)))
 
--- src/wanted.rt:168:9
 add-r : tie.Need-add-r Inv-loop μ-loop
 add-r c = search needs
 
--- src/wanted.rt:160:5
 loop-less : tie.Need-loop-less Inv-loop μ-loop
 loop-less c = search needs
 
--- src/wanted.rt:160:5
 loop-again : tie.Need-loop-again Inv-loop μ-loop
 unfolding row
-loop-again c = let rows : ℕ → List ℕ = row (c .before .before .before .before .before .before .before .before .before .before .before .before .before .args .starts .now) (c .before .before .before .before .before .before .before .before .before .before .before .before .before .args .items .now) in
-    (omega arith, c .before .flag-if .ensures ∙ (ap (λ (f : List ℕ). cond (eqb (getD (c .before .before .before .before .before .before .before .before .before .before .before .before .before .args .ends .now) (c .before .before .before .before .before .before .before .loop .r) 0) 0) f (flagAll f (rows (c .before .before .before .before .before .before .before .loop .r)))) (c .before .before .before .before .before .before .before .loop .inv .1) ∙ flags-next rows (c .before .before .before .before .before .before .before .before .before .before .before .before .before .args .ends .now) (c .before .before .before .before .before .before .before .loop .r)))
+loop-again c =
+    let a = c .before .before .before .before .before .before .before .before .before .before .before .before .before .args in
+    let l = c .before .before .before .before .before .before .before .loop in
+    let rows : ℕ → List ℕ = row (a .starts .now) (a .items .now) in
+    let step : List ℕ → List ℕ = λ f. cond (eqb (getD (a .ends .now) (l .r) 0) 0) f (flagAll f (rows (l .r))) in
+    (omega arith, c .before .flag-if .ensures ∙ (ap step (l .inv .1) ∙ flags-next rows (a .ends .now) (l .r)))
 
--- src/wanted.rt:152:1
 returns : tie.Need-returns Inv-loop μ-loop
-returns c = let e : c .before .loop .r ≡ c .before .before .before .before .before .before .before .args .n = omega arith in
-    c .before .loop .inv .1 ∙ ap (flagMarked (row (c .before .before .before .before .before .before .before .args .starts .now) (c .before .before .before .before .before .before .before .args .items .now)) (c .before .before .before .before .before .before .before .args .ends .now)) e
+returns c =
+    let a = c .before .before .before .before .before .before .before .args in
+    let l = c .before .loop in
+    let e : l .r ≡ a .n = omega arith in
+    l .inv .1 ∙ ap (flagMarked (row (a .starts .now) (a .items .now)) (a .ends .now)) e
 
 pub flag-marked-spec : {M : Type 1} → statement M
 flag-marked-spec =

@@ -1,11 +1,9 @@
+-- `versions::wanted::is_odd` meets its contract. Assumes nothing.
 use borrow.Author.Needs.{needs}
 use Rattle.versions.specs.Ranges.{isOdd}
 use Rattle.versions.proofs.wanted.is_odd.Statement.{statement}
 use Rattle.versions.proofs.wanted.is_odd.Tie as tie
-use Rattle.versions.proofs.wanted.is_odd.Reads as reads
-use Rattle.versions.proofs.wanted.is_odd.Lts as lts
 
--- src/wanted.rt:30:1
 returns : tie.Need-returns
 unfolding isOdd
 returns c = search needs
