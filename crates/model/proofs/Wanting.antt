@@ -1,28 +1,37 @@
 -- The wanted parents give the marked events, and nothing else does. Assumes nothing.
 use mathlib.Core.Path.{_≡_, refl, sym, ap, _∙_, subst}
 use mathlib.Core.Logic.{_⊎_, inl, inr, _↔_}
-use mathlib.Core.Bool.{true, false, not}
+use mathlib.Core.Bool.{Bool, true, false, not}
 use mathlib.Core.List.{List, [], _∷_, _++_}
 use Prim.Native.Nat.{ℕ, _+_, _-_, _≤_, _<_}
 use native.Mathlib.Omega.{arith}
+use lib.ListN.{length}
 use lib.Dec.{ltb}
-use borrow.Author.Tests.{ltb-true}
+use borrow.Author.Tests.{ltb-true, le-ltb}
 use Rattle.lists.specs.Lists.{all, filter, from, mem, rising}
+use Rattle.lists.specs.Areas.{over}
 use Rattle.lists.proofs.Truth.{bool-iff, false-true, not-so, and-left, and-right, or-cases}
 use Rattle.lists.proofs.Members.{mem-first, mem-rest, mem-append, all-of, all-at}
 use Rattle.lists.proofs.Counts.{mem-from}
 use Rattle.lists.proofs.Rising.{rising-tail, rising-above, rising-filter, rising-from, rising-join, rising-only}
 use Rattle.model.specs.declared.record.CausalGraph.{CausalGraph}
 use Rattle.model.specs.declared.record.EventIndex.{EventIndex}
+use Rattle.model.specs.declared.answers.Written.{Written}
+use Rattle.model.specs.declared.answers.Outcome.{Outcome}
+use Rattle.model.specs.declared.answers.Outcome.the-variants.{Done, Refused}
 use Rattle.model.specs.declared.answers.EventsAnswer.the-variants.{Events}
 use Rattle.model.specs.EventGraph.{EventGraph, HappenedBefore, parent, InEvents, Version, maximal, closed, Lower}
+use Rattle.model.specs.Refusals.{number, refusal, firstOf}
+use Rattle.model.specs.Answers.{outcomeNumber}
 use Rattle.model.specs.Graph.{Graph, len, side, isHeld, allHeld}
-use Rattle.model.specs.Record.{view}
-use Rattle.model.specs.Broken.{WellFormed}
+use Rattle.model.specs.Record.{Sized, view}
+use Rattle.model.specs.Broken.{broken, WellFormed}
+use Rattle.model.specs.Cut.{unwritten}
 use Rattle.model.specs.Push.{pushOf}
 use Rattle.model.specs.HeldEvents.{heldEvents}
-use Rattle.model.specs.Wanted.{eventsIn, paired, ranges, wantedParents, Gives, Wanted}
+use Rattle.model.specs.Wanted.{eventsIn, paired, ranges, wantedParents, wantedOutcome, wantedParentsOf, Gives, ends, Wanted}
 use Rattle.model.specs.Log.{Log, Fresh, Call, push, madeBy, logPush, eventGraph}
+use Rattle.model.proofs.Stored.{held-of}
 use Rattle.model.proofs.Ancestry.{before-trans}
 use Rattle.model.proofs.Maximal.{closed-at, closed-of, maximal-in, maximal-has, maximal-apart, maximal-events}
 use Rattle.model.proofs.Siding.{held-between}
@@ -90,6 +99,14 @@ version-maximal G vs es ver h r k =
     member v m (inl n) = n
     member v m (inr t) = absurd (maximal-apart G es (closed-at G es (gives-closed G vs es h)) v (t .0) m ((h (t .0)) .0 (inl (t .1))) (t .2))
 
+words-rise : (ws : List ℕ) → ranges ws ≡ true → rising (eventsIn ws) ≡ true
+unfolding ranges
+words-rise ws h = events-rise ws (and-left (rising ws) (paired ws) h)
+
+wanted-rises : (g : Graph) (ws : List ℕ) → ranges ws ≡ true → rising (wantedParents g ws) ≡ true
+unfolding wantedParents maximal
+wanted-rises g ws h = rising-filter (λ e. all (λ c. not (mem e (heldEvents g .parents c))) (eventsIn ws)) (eventsIn ws) (words-rise ws h)
+
 module _ (g : Graph) (ws : List ℕ) (formed : WellFormed g) where
   abbrev E : EventGraph
   E = heldEvents g
@@ -121,11 +138,68 @@ module _ (g : Graph) (ws : List ℕ) (formed : WellFormed g) where
     (λ n. not-so (closed E es) (λ k. n (wantedParents g ws) (all-of (λ e. isHeld (side g e)) (wantedParents g ws) (wanted-held h k)) (wanted-gives h k))),
   )
 
-wanted-pushed : (f : Fresh) (cs : List Call) (ws : List ℕ) (n : ℕ) (a b : EventIndex) → let g : CausalGraph = (madeBy f cs) .0 in
-    allHeld (view g) (eventsIn ws) ≡ true → closed (heldEvents (view g)) (eventsIn ws) ≡ true →
-    pushOf g (wantedParents (view g) ws) n .answer ≡ Events a b →
+-- What the tests say where the call is done, and where it is 17
+done-tests : (a b c d e : Bool) → firstOf ((a, 1) ∷ (not b, 3) ∷ (not c, 4) ∷ (not d, 17) ∷ (e, 11) ∷ []) ≡ Done →
+    (a ≡ false) × (b ≡ true) × (c ≡ true) × (d ≡ true)
+unfolding firstOf outcomeNumber number
+done-tests true b c d e h = absurd (omega (arith, ap outcomeNumber h))
+done-tests false false c d e h = absurd (omega (arith, ap outcomeNumber h))
+done-tests false true false d e h = absurd (omega (arith, ap outcomeNumber h))
+done-tests false true true false e h = absurd (omega (arith, ap outcomeNumber h))
+done-tests false true true true e h = (refl, refl, refl, refl)
+
+none-tests : (a b c d e : Bool) → firstOf ((a, 1) ∷ (not b, 3) ∷ (not c, 4) ∷ (not d, 17) ∷ (e, 11) ∷ []) ≡ Refused (refusal 17) →
+    (a ≡ false) × (b ≡ true) × (c ≡ true) × (d ≡ false)
+unfolding firstOf outcomeNumber number
+none-tests true b c d e h = absurd (omega (arith, ap outcomeNumber h))
+none-tests false false c d e h = absurd (omega (arith, ap outcomeNumber h))
+none-tests false true false d e h = absurd (omega (arith, ap outcomeNumber h))
+none-tests false true true false e h = (refl, refl, refl, refl)
+none-tests false true true true true h = absurd (omega (arith, ap outcomeNumber h))
+none-tests false true true true false h = absurd (omega (arith, ap outcomeNumber h))
+
+module _ (g : CausalGraph) (ws lent : List ℕ) where
+  ends-so : (wantedParentsOf g ws lent) .0 .outcome ≡ wantedOutcome g ws lent
+  unfolding wantedParentsOf unwritten
+  ends-so = go (wantedOutcome g ws lent)
+    where
+      go : (o : Outcome) → (elim o as (λ _. Written × List ℕ) [
+        | Done ↦ (record { count = length (wantedParents (view g) ws); outcome = Done }, over (wantedParents (view g) ws) lent)
+        | Refused r ↦ unwritten r lent
+      ]) .0 .outcome ≡ o
+      go Done = refl
+      go (Refused r) = refl
+
+  abbrev Tests : Bool → Type 0
+  Tests d = (broken g ≡ false) × (ranges ws ≡ true) × (allHeld (view g) (eventsIn ws) ≡ true) × (closed (heldEvents (view g)) (eventsIn ws) ≡ d)
+
+  done-so : ends g ws lent Done → Tests true
+  unfolding wantedOutcome
+  done-so h = done-tests (broken g) (ranges ws) (allHeld (view g) (eventsIn ws)) (closed (heldEvents (view g)) (eventsIn ws)) _ (sym ends-so ∙ h)
+
+  none-so : ends g ws lent (Refused (refusal 17)) → Tests false
+  unfolding wantedOutcome
+  none-so h = none-tests (broken g) (ranges ws) (allHeld (view g) (eventsIn ws)) (closed (heldEvents (view g)) (eventsIn ws)) _ (sym ends-so ∙ h)
+
+  so-none : Tests false → ends g ws lent (Refused (refusal 17))
+  unfolding wantedOutcome firstOf
+  so-none t = ends-so ∙ rw (t .0, t .1, t .2, t .3)
+
+  call-none : Sized g → ends g ws lent (Refused (refusal 17)) ↔
+      ((broken g ≡ false) × (ranges ws ≡ true) × (allHeld (view g) (eventsIn ws) ≡ true) ×
+      ((vs : List ℕ) → allHeld (view g) vs ≡ true → ¬ Gives (heldEvents (view g)) vs (eventsIn ws)))
+  call-none sized = (
+    (λ h. let t = none-so h in (t .0, t .1, t .2, (wanted-none (view g) ws (held-of g sized (t .0) .formed) (t .2)) .0 (t .3))),
+    (λ n. so-none (n .0, n .1, n .2, (wanted-none (view g) ws (held-of g sized (n .0) .formed) (n .2)) .1 (n .3))),
+  )
+
+wanted-pushed : (f : Fresh) (cs : List Call) (ws lent : List ℕ) (n : ℕ) (a b : EventIndex) → let g : CausalGraph = (madeBy f cs) .0 in
+    ends g ws lent Done → pushOf g (wantedParents (view g) ws) n .answer ≡ Events a b →
     (e : ℕ) → HappenedBefore (eventGraph ((madeBy f (cs ++ push (wantedParents (view g) ws) n ∷ [])) .1)) e (a .0) ↔ (mem e (eventsIn ws) ≡ true)
-wanted-pushed f cs ws n a b h k q e =
+wanted-pushed f cs ws lent n a b done q e =
+    let tests = done-so ((madeBy f cs) .0) ws lent done in
+    let h = tests .2 in
+    let k = tests .3 in
     let g : Graph = view ((madeBy f cs) .0) in
     let l : Log = (madeBy f cs) .1 in
     let ps : List ℕ = wantedParents g ws in
@@ -144,14 +218,23 @@ wanted-pushed f cs ws n a b h k q e =
     (subst (λ (x : ℕ). HappenedBefore (eventGraph (logPush l ps n)) e x ↔ (mem e (eventsIn ws) ≡ true)) (sym first)
     ((λ x. (gives e) .0 ((push-sees l low ps n held e) .0 x)), (λ m. (push-sees l low ps n held e) .1 ((gives e) .1 m))))
 
+nothing-wanted : (g : CausalGraph) (lent : List ℕ) → broken g ≡ false → wantedParentsOf g [] lent ≡ (record { count = 0; outcome = Done }, lent)
+unfolding wantedParentsOf wantedOutcome firstOf ranges paired rising eventsIn allHeld all wantedParents maximal filter closed over
+nothing-wanted g lent h =
+    let none : length (wantedParents (view g) []) ≡ 0 = refl in
+    let done : wantedOutcome g [] lent ≡ Done = rw (h, le-ltb (length lent) (length (wantedParents (view g) [])) (omega (arith, none))) in
+    rw (done, wantedParentsOf) refl
+
 -- What is claimed of the wanted parents
 pub wanted : Wanted
-unfolding ranges eventsIn wantedParents maximal filter
 wanted = record {
-  gives = λ g ws formed h k. (wanted-version g ws formed h k, wanted-gives g ws formed h k);
-  rises = λ g ws h. rising-filter (λ e. all (λ c. not (mem e (heldEvents g .parents c))) (eventsIn ws)) (eventsIn ws) (events-rise ws (and-left (rising ws) (paired ws) h));
-  only = λ g ws vs h r v y. version-maximal (heldEvents g) vs (eventsIn ws) v y r (events-rise ws (and-left (rising ws) (paired ws) h));
-  none = wanted-none;
+  gives = λ g ws lent sized done.
+      let t = done-so g ws lent done in
+      let formed = held-of g sized (t .0) .formed in
+      (wanted-version (view g) ws formed (t .2) (t .3), wanted-gives (view g) ws formed (t .2) (t .3));
+  rises = λ g ws lent done. wanted-rises (view g) ws (done-so g ws lent done .1);
+  only = λ g ws vs h r v y. unfold wantedParents in version-maximal (heldEvents g) vs (eventsIn ws) v y r (words-rise ws h);
+  none = call-none;
   pushed = wanted-pushed;
-  nothing = λ g. refl;
+  nothing = nothing-wanted;
 }

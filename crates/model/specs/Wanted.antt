@@ -15,10 +15,10 @@ use Rattle.model.specs.declared.answers.Outcome.{Outcome}
 use Rattle.model.specs.declared.answers.Outcome.the-variants.{Done, Refused}
 use Rattle.model.specs.declared.answers.EventsAnswer.the-variants.{Events}
 use Rattle.model.specs.EventGraph.{EventGraph, HappenedBefore, InEvents, Version, maximal, closed}
-use Rattle.model.specs.Refusals.{firstOf}
+use Rattle.model.specs.Refusals.{refusal, firstOf}
 use Rattle.model.specs.Graph.{Graph, allHeld}
-use Rattle.model.specs.Record.{view}
-use Rattle.model.specs.Broken.{broken, WellFormed}
+use Rattle.model.specs.Record.{Sized, view}
+use Rattle.model.specs.Broken.{broken}
 use Rattle.model.specs.Cut.{unwritten}
 use Rattle.model.specs.Push.{pushOf}
 use Rattle.model.specs.HeldEvents.{heldEvents}
@@ -65,22 +65,27 @@ wantedParentsOf g ws lent = elim (wantedOutcome g ws lent) [
 abbrev pub Gives : EventGraph → List ℕ → List ℕ → Type 0
 Gives G vs es = (e : ℕ) → InEvents G vs e ↔ (mem e es ≡ true)
 
--- What is claimed of the wanted parents
+-- How the call ends
+abbrev pub ends : CausalGraph → List ℕ → List ℕ → Outcome → Type 0
+ends g ws lent o = (wantedParentsOf g ws lent) .0 .outcome ≡ o
+
+-- What is claimed of the wanted parents. A record is `Sized` as its arrays are: of every value of the code
 pub record Wanted : Type 0 where
-  -- where the answer is not refused it gives the marked events: "the rising list of held events, none an ancestor of another, such that .."
-  pub gives : (g : Graph) (ws : List ℕ) → WellFormed g → allHeld g (eventsIn ws) ≡ true → closed (heldEvents g) (eventsIn ws) ≡ true →
-      Version (heldEvents g) (wantedParents g ws) × Gives (heldEvents g) (wantedParents g ws) (eventsIn ws)
-  pub rises : (g : Graph) (ws : List ℕ) → ranges ws ≡ true → rising (wantedParents g ws) ≡ true
+  -- done, it gives the marked events: "the rising list of held events, none an ancestor of another, such that .."
+  pub gives : (g : CausalGraph) (ws lent : List ℕ) → Sized g → ends g ws lent Done →
+      Version (heldEvents (view g)) (wantedParents (view g) ws) × Gives (heldEvents (view g)) (wantedParents (view g) ws) (eventsIn ws)
+  pub rises : (g : CausalGraph) (ws lent : List ℕ) → ends g ws lent Done → rising (wantedParents (view g) ws) ≡ true
   -- no other such list does
   pub only : (g : Graph) (ws vs : List ℕ) → ranges ws ≡ true → rising vs ≡ true → Version (heldEvents g) vs → Gives (heldEvents g) vs (eventsIn ws) →
       vs ≡ wantedParents g ws
-  -- 17: "refused exactly where no list of held events does that", be it rising or not, with ancestors of one another in it or not
-  pub none : (g : Graph) (ws : List ℕ) → WellFormed g → allHeld g (eventsIn ws) ≡ true →
-      (closed (heldEvents g) (eventsIn ws) ≡ false) ↔ ((vs : List ℕ) → allHeld g vs ≡ true → ¬ Gives (heldEvents g) vs (eventsIn ws))
+  -- 17 comes exactly where, of ranges that are not faulty, all of held events, "no list of held events does that", be it rising or not, with
+  -- ancestors of one another in it or not
+  pub none : (g : CausalGraph) (ws lent : List ℕ) → Sized g → ends g ws lent (Refused (refusal 17)) ↔
+      ((broken g ≡ false) × (ranges ws ≡ true) × (allHeld (view g) (eventsIn ws) ≡ true) ×
+      ((vs : List ℕ) → allHeld (view g) vs ≡ true → ¬ Gives (heldEvents (view g)) vs (eventsIn ws)))
   -- on a graph that calls made, an event pushed on the answer has in the plain log exactly the marked events for ancestors
-  pub pushed : (f : Fresh) (cs : List Call) (ws : List ℕ) (n : ℕ) (a b : EventIndex) → let g : CausalGraph = (madeBy f cs) .0 in
-      allHeld (view g) (eventsIn ws) ≡ true → closed (heldEvents (view g)) (eventsIn ws) ≡ true →
-      pushOf g (wantedParents (view g) ws) n .answer ≡ Events a b →
+  pub pushed : (f : Fresh) (cs : List Call) (ws lent : List ℕ) (n : ℕ) (a b : EventIndex) → let g : CausalGraph = (madeBy f cs) .0 in
+      ends g ws lent Done → pushOf g (wantedParents (view g) ws) n .answer ≡ Events a b →
       (e : ℕ) → HappenedBefore (eventGraph ((madeBy f (cs ++ push (wantedParents (view g) ws) n ∷ [])) .1)) e (a .0) ↔ (mem e (eventsIn ws) ≡ true)
   -- "The empty mark gives the empty list"
-  pub nothing : (g : Graph) → wantedParents g [] ≡ []
+  pub nothing : (g : CausalGraph) (lent : List ℕ) → broken g ≡ false → wantedParentsOf g [] lent ≡ (record { count = 0; outcome = Done }, lent)
