@@ -29,7 +29,7 @@ use Rattle.model.specs.Broken.{broken, WellFormed}
 use Rattle.model.specs.Cut.{unwritten}
 use Rattle.model.specs.Push.{pushOf}
 use Rattle.model.specs.HeldEvents.{heldEvents}
-use Rattle.model.specs.Wanted.{eventsIn, paired, ranges, wantedParents, wantedOutcome, wantedParentsOf, Gives, ends, Wanted}
+use Rattle.model.specs.Wanted.{eventsIn, paired, ranges, wantedParents, wantedOutcome, wantedParentsOf, Gives, ended, Wanted}
 use Rattle.model.specs.Log.{Log, Fresh, Call, push, madeBy, logPush, eventGraph}
 use Rattle.model.proofs.Stored.{held-of}
 use Rattle.model.proofs.Ancestry.{before-trans}
@@ -173,19 +173,19 @@ module _ (g : CausalGraph) (ws lent : List ℕ) where
   abbrev Tests : Bool → Type 0
   Tests d = (broken g ≡ false) × (ranges ws ≡ true) × (allHeld (view g) (eventsIn ws) ≡ true) × (closed (heldEvents (view g)) (eventsIn ws) ≡ d)
 
-  done-so : ends g ws lent Done → Tests true
+  done-so : ended g ws lent Done → Tests true
   unfolding wantedOutcome
   done-so h = done-tests (broken g) (ranges ws) (allHeld (view g) (eventsIn ws)) (closed (heldEvents (view g)) (eventsIn ws)) _ (sym ends-so ∙ h)
 
-  none-so : ends g ws lent (Refused (refusal 17)) → Tests false
+  none-so : ended g ws lent (Refused (refusal 17)) → Tests false
   unfolding wantedOutcome
   none-so h = none-tests (broken g) (ranges ws) (allHeld (view g) (eventsIn ws)) (closed (heldEvents (view g)) (eventsIn ws)) _ (sym ends-so ∙ h)
 
-  so-none : Tests false → ends g ws lent (Refused (refusal 17))
+  so-none : Tests false → ended g ws lent (Refused (refusal 17))
   unfolding wantedOutcome firstOf
   so-none t = ends-so ∙ rw (t .0, t .1, t .2, t .3)
 
-  call-none : Sized g → ends g ws lent (Refused (refusal 17)) ↔
+  call-none : Sized g → ended g ws lent (Refused (refusal 17)) ↔
       ((broken g ≡ false) × (ranges ws ≡ true) × (allHeld (view g) (eventsIn ws) ≡ true) ×
       ((vs : List ℕ) → allHeld (view g) vs ≡ true → ¬ Gives (heldEvents (view g)) vs (eventsIn ws)))
   call-none sized = (
@@ -194,7 +194,7 @@ module _ (g : CausalGraph) (ws lent : List ℕ) where
   )
 
 wanted-pushed : (f : Fresh) (cs : List Call) (ws lent : List ℕ) (n : ℕ) (a b : EventIndex) → let g : CausalGraph = (madeBy f cs) .0 in
-    ends g ws lent Done → pushOf g (wantedParents (view g) ws) n .answer ≡ Events a b →
+    ended g ws lent Done → pushOf g (wantedParents (view g) ws) n .answer ≡ Events a b →
     (e : ℕ) → HappenedBefore (eventGraph ((madeBy f (cs ++ push (wantedParents (view g) ws) n ∷ [])) .1)) e (a .0) ↔ (mem e (eventsIn ws) ≡ true)
 wanted-pushed f cs ws lent n a b done q e =
     let tests = done-so ((madeBy f cs) .0) ws lent done in

@@ -65,27 +65,27 @@ wantedParentsOf g ws lent = elim (wantedOutcome g ws lent) [
 abbrev pub Gives : EventGraph → List ℕ → List ℕ → Type 0
 Gives G vs es = (e : ℕ) → InEvents G vs e ↔ (mem e es ≡ true)
 
--- How the call ends
-abbrev pub ends : CausalGraph → List ℕ → List ℕ → Outcome → Type 0
-ends g ws lent o = (wantedParentsOf g ws lent) .0 .outcome ≡ o
+-- How the call ended
+abbrev pub ended : CausalGraph → List ℕ → List ℕ → Outcome → Type 0
+ended g ws lent o = (wantedParentsOf g ws lent) .0 .outcome ≡ o
 
 -- What is claimed of the wanted parents. A record is `Sized` as its arrays are: of every value of the code
 pub record Wanted : Type 0 where
   -- done, it gives the marked events: "the rising list of held events, none an ancestor of another, such that .."
-  pub gives : (g : CausalGraph) (ws lent : List ℕ) → Sized g → ends g ws lent Done →
+  pub gives : (g : CausalGraph) (ws lent : List ℕ) → Sized g → ended g ws lent Done →
       Version (heldEvents (view g)) (wantedParents (view g) ws) × Gives (heldEvents (view g)) (wantedParents (view g) ws) (eventsIn ws)
-  pub rises : (g : CausalGraph) (ws lent : List ℕ) → ends g ws lent Done → rising (wantedParents (view g) ws) ≡ true
+  pub rises : (g : CausalGraph) (ws lent : List ℕ) → ended g ws lent Done → rising (wantedParents (view g) ws) ≡ true
   -- no other such list does
   pub only : (g : Graph) (ws vs : List ℕ) → ranges ws ≡ true → rising vs ≡ true → Version (heldEvents g) vs → Gives (heldEvents g) vs (eventsIn ws) →
       vs ≡ wantedParents g ws
   -- 17 comes exactly where, of ranges that are not faulty, all of held events, "no list of held events does that", be it rising or not, with
   -- ancestors of one another in it or not
-  pub none : (g : CausalGraph) (ws lent : List ℕ) → Sized g → ends g ws lent (Refused (refusal 17)) ↔
+  pub none : (g : CausalGraph) (ws lent : List ℕ) → Sized g → ended g ws lent (Refused (refusal 17)) ↔
       ((broken g ≡ false) × (ranges ws ≡ true) × (allHeld (view g) (eventsIn ws) ≡ true) ×
       ((vs : List ℕ) → allHeld (view g) vs ≡ true → ¬ Gives (heldEvents (view g)) vs (eventsIn ws)))
   -- on a graph that calls made, an event pushed on the answer has in the plain log exactly the marked events for ancestors
   pub pushed : (f : Fresh) (cs : List Call) (ws lent : List ℕ) (n : ℕ) (a b : EventIndex) → let g : CausalGraph = (madeBy f cs) .0 in
-      ends g ws lent Done → pushOf g (wantedParents (view g) ws) n .answer ≡ Events a b →
+      ended g ws lent Done → pushOf g (wantedParents (view g) ws) n .answer ≡ Events a b →
       (e : ℕ) → HappenedBefore (eventGraph ((madeBy f (cs ++ push (wantedParents (view g) ws) n ∷ [])) .1)) e (a .0) ↔ (mem e (eventsIn ws) ≡ true)
   -- "The empty mark gives the empty list"
   pub nothing : (g : CausalGraph) (lent : List ℕ) → broken g ≡ false → wantedParentsOf g [] lent ≡ (record { count = 0; outcome = Done }, lent)
