@@ -16,6 +16,12 @@ LOGS = os.environ.get("LOGS")
 # where the old text stands more than once. Or the name of an edit: one of the crate's must-fail edits, which the gate tries too, or one
 # beside this file, in wrong_answers/CRATE/. Or a list of edits, file, old text and new text: an edit of the code that asks for other
 # bounds, with the proof of them.
+# The list's room looked at before the marks
+SHORT_FIRST = [
+    ("specs/Wanted.antt", "    (not (closed (heldEvents (view g)) (eventsIn ws)), 17) ∷\n    (ltb (length lent) (length (wantedParents (view g) ws)), 11) ∷ [])",
+     "    (ltb (length lent) (length (wantedParents (view g) ws)), 11) ∷\n    (not (closed (heldEvents (view g)) (eventsIn ws)), 17) ∷ [])"),
+]
+
 MODEL = [
     ("pushing::push", "takes a parent that is no known event: C6", "unknown_parent"),
     ("pushing::push", "leaves later parents on a split run's first part: demand 3", "later_parents"),
@@ -32,6 +38,7 @@ MODEL = [
     ("archive::archive_points", "asks of the first event from the start on alone: F-6", "first_event_seen"),
     ("wanted::wanted_parents", "an ancestor is left in the answer: F-3", "wanted_ancestors"),
     ("wanted::wanted_parents", "a mark that is not closed is taken: F-3's cases", "unclosed_mark"),
+    ("wanted::wanted_parents", "11 before 17: F-3's cases", SHORT_FIRST),
     ("concurrent::concurrent_runs", "falling by run number: F-2", "concurrency_falling"),
     ("concurrent::concurrent_runs", "run 0 is left out: F-2", "concurrent_left_out"),
     ("starting::start_run_at", "a split gives the second part its own start as seen: F-4", "second_part_seen"),
@@ -122,13 +129,11 @@ VERSIONS = [
     ("wanted::wanted_parents", "a range that begins inside a run is taken", "wanted.rt", "if !all_clear(&g.starts, n, ranges) {", "if !all_clear(&g.starts, 0, ranges) {"),
     ("wanted::wanted_parents", "a parent run of which some events are marked counts as whole", "wanted.rt", "    end == next\n", "    end <= next\n"),
     ("wanted::wanted_parents", "the event after the last marked one", "wanted.rt", "if end == 0 { 0 } else { end - 1 }", "if end == 0 { 0 } else { end - 0 }"),
-    ("wanted::wanted_parents", "a range is marked up to its run's end", "wanted.rt", "lists::smaller(words[k], end.0)", "lists::larger(words[k], end.0)"),
     ("wanted::wanted_parents", "a first without its end is taken", "wanted.rt", "if is_odd(words.len()) {", "if is_odd(0) {"),
     ("wanted::wanted_parents", "refuses a range that ends at len", "wanted.rt", "words[n - 1] <= end.0", "words[n - 1] < end.0"),
     ("wanted::wanted_parents", "takes an event before the first held one", "wanted.rt", "if words[0] < first.0 {\n        return false;", "if words[0] < first.0 {\n        return true;"),
     ("wanted::wanted_parents", "writes the parents that fit where the list is too short", "wanted.rt", "if list.len() < found.count {", "if list.len() < 0 {"),
     ("wanted::wanted_parents", "17 in place of 11", "wanted.rt", "Outcome::Refused(Refusal::ListTooShort)", "Outcome::Refused(Refusal::NoSuchParents)"),
-    ("wanted::wanted_parents", "11 before 17", "wanted.rt", "    let n = g.run_count;\n    if !all_clear", "    let n = g.run_count;\n    if list.len() == 0 {\n        return Written {\n            count: 0,\n            outcome: Outcome::Refused(Refusal::ListTooShort),\n        };\n    }\n    if !all_clear"),
 ]
 
 READER = [

@@ -21,10 +21,11 @@ use Rattle.model.proofs.Maximal.{Closed, maximal-in, maximal-none, maximal-has}
 use Rattle.model.proofs.OwnLog.{first-parents, later-parents}
 
 module _ (g : Graph) (formed : WellFormed g) where
-  below : Below (g .parents)
+  -- A run's parents are below it, and it starts before the next
+  pub below : Below (g .parents)
   below = fit-below (g .parents) (formed .parents)
 
-  run-step : (r : ℕ) → r < runs g → start g r < start g (suc r)
+  pub run-step : (r : ℕ) → r < runs g → start g r < start g (suc r)
   run-step r lt = start-less g formed r (suc r) (omega arith) lt
 
   -- The parents of a run's first event are the last events of its parent runs,

@@ -21,15 +21,14 @@ use Rattle.model.specs.Broken.{WellFormed}
 use Rattle.model.specs.History.{at}
 use Rattle.model.specs.HeldEvents.{heldEvents}
 use Rattle.model.specs.Wanted.{eventsIn, ranges, wantedParents}
-use Rattle.model.proofs.FormedReads.{start-less, start-mono}
-use Rattle.model.proofs.Histories.{Below, fit-below}
+use Rattle.model.proofs.FormedReads.{start-mono}
 use Rattle.model.proofs.Maximal.{closed-at, closed-of}
 use Rattle.model.proofs.Wanting.{events-rise}
 use Rattle.versions.specs.Flags.{flagAll}
 use Rattle.versions.specs.Ranges.{placeOf, clearAt, endAt, clearIn, endIn, Ends, flagMarked, wholeIn, isTop, tops}
 use Rattle.versions.proofs.Flagging.{flag-length, flag-get, flag-in, flag-stays}
 use Rattle.versions.proofs.RangeWords.{ranges-even, marked-part, part-most, part-above, not-clear}
-use Rattle.versions.proofs.FirstParts.{Met, Whole, Childless, later-has, closed-whole, whole-closed, maximal-top, top-maximal}
+use Rattle.versions.proofs.FirstParts.{below, run-step, Met, Whole, Childless, later-has, closed-whole, whole-closed, maximal-top, top-maximal}
 
 -- Flags: of the parents of runs of which something is marked, and of no other runs
 module _ (rows : ℕ → List ℕ) (ends : List ℕ) where
@@ -90,9 +89,6 @@ module _ (g : Graph) (formed : WellFormed g) (starts : List ℕ) (same : (r : �
   unfolding endIn
   end-at r lt = rw (same r (omega arith), same (suc r) lt)
 
-  step : (r : ℕ) → r < runs g → start g r < start g (suc r)
-  step r lt = start-less g formed r (suc r) (omega arith) lt
-
   -- Where the marked events have their held parents no range begins inside a run
   pub closed-clear : closed G es ≡ true → all (clearIn starts ws) (upto (runs g)) ≡ true
   unfolding upto
@@ -129,10 +125,7 @@ module _ (g : Graph) (formed : WellFormed g) (starts : List ℕ) (same : (r : �
     MetRun = Met g formed es held E most parts
 
     met : (r : ℕ) → r < runs g → (E r ≡ 0 → ⊥) → MetRun r
-    met r lt n = rw (is r lt) (part-above ws words (start g r) (start g (suc r)) (step r lt) (λ z. n (is r lt ∙ z)))
-
-    below : Below (g .parents)
-    below = fit-below (g .parents) (formed .parents)
+    met r lt n = rw (is r lt) (part-above ws words (start g r) (start g (suc r)) (run-step g formed r lt) (λ z. n (is r lt ∙ z)))
 
     -- A flag stands for a run with a child of which something is marked
     flag-childless : (r : ℕ) → r < runs g → eqb (getD flags r 0) 0 ≡ true → Childless g formed es held E most parts r
@@ -158,7 +151,7 @@ module _ (g : Graph) (formed : WellFormed g) (starts : List ℕ) (same : (r : �
 
         back : all (wholeIn flags ends starts) (from 0 (runs g)) ≡ true → closed G es ≡ true
         back k = closed-of G es (whole-closed g formed es held E most parts (λ r j lt h m.
-            let b : j < runs g = omega (arith, below r j m) in
+            let b : j < runs g = omega (arith, below g formed r j m) in
             let test : wholeIn flags ends starts j ≡ true = all-at (wholeIn flags ends starts) (from 0 (runs g)) k j (upto-mem j (runs g) b) in
             cases r j lt h m b (or-cases (eqb (getD flags j 0) 0) (eqb (E j) (getD starts (suc j) 0)) test)))
           where
