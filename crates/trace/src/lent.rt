@@ -51,6 +51,10 @@ fn concurrent(g: CausalGraph, run: u32, list: &mut [u32]) -> Said {
     )
 }
 
+fn wanted(g: CausalGraph, ranges: &[u32], list: &mut [u32]) -> Said {
+    answers::written(20, versions::wanted::wanted_parents(g, ranges, list))
+}
+
 fn walk(g: CausalGraph, h: Head, rows: &mut [u32], steps: &mut [u32]) -> Said {
     let a = h.words;
     let first = EventRunIndex(a[1]);
@@ -65,21 +69,22 @@ fn replay(g: CausalGraph, rows: &mut [u32], steps: &mut [u32]) -> Said {
     answers::walked(7, walk::replaying::replay(g, rows, steps))
 }
 
-// Makes the call of an operation and its arguments.
-fn make(g: CausalGraph, h: Head, rows: &mut [u32], steps: &mut [u32]) -> Said {
+// Makes the call of an operation, its arguments and the words that follow them.
+fn make(g: CausalGraph, h: Head, list: &[u32], rows: &mut [u32], steps: &mut [u32]) -> Said {
     let operation = h.operation;
     match operation {
         5 => cut(g, h.first, steps),
         6 => walk(g, h, rows, steps),
         7 => replay(g, rows, steps),
         8 => archive(g, steps),
-        _ => concurrent(g, h.first, steps),
+        9 => concurrent(g, h.first, steps),
+        _ => wanted(g, list, steps),
     }
 }
 
 // The same, on lists that have the room that the call names.
-pub fn write(g: CausalGraph, h: Head, rows: &mut [u32], steps: &mut [u32]) -> Said {
+pub fn write(g: CausalGraph, h: Head, list: &[u32], rows: &mut [u32], steps: &mut [u32]) -> Said {
     let n = least(script::room(h, script::ROWS), rows.len());
     let m = least(script::room(h, script::STEPS), steps.len());
-    make(g, h, &mut rows[0..n], &mut steps[0..m])
+    make(g, h, list, &mut rows[0..n], &mut steps[0..m])
 }

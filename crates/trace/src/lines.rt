@@ -46,7 +46,7 @@ fn pattern(i: usize) -> u8 {
     let all =
         b"new.........afterA......pushABC.....startAB.....takeAB......cutAB.......walkABC.....replayABC...\
         archiveAB...concurrentABrunAB :CDE :eventABC....extendsAB...graphABCD...raw.........reader......\
-        graphA......ABC......... end........ refusedA...";
+        graphA......ABC......... end........ refusedA...wantedAB....";
     if i < all.len() { all[i] } else { b'.' }
 }
 
@@ -73,7 +73,7 @@ fn put(out: &mut Out, used: usize, b: u8, s: Said) -> usize {
 // A line's name and values.
 pub fn line(out: &mut Out, used: usize, s: Said) -> usize {
     let mut now = used;
-    let mut i = 12 * least(words::index(s.pattern), 19);
+    let mut i = 12 * least(words::index(s.pattern), 20);
     let to = i + 12;
     while i < to {
         now = put(out, now, pattern(i), s);

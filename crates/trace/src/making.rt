@@ -34,11 +34,18 @@ fn plain(g: CausalGraph, h: Head, call: &Call) -> Called {
     }
 }
 
+// The calls that write a list.
+fn lists(g: CausalGraph, h: Head, call: &Call, rows: &mut Rows, steps: &mut Steps) -> Said {
+    let end = script::end(h);
+    let all = &call[..];
+    lent::write(g, h, &all[script::HEAD..end], rows, steps)
+}
+
 // Makes a call.
 fn make(g: CausalGraph, h: Head, call: &Call, rows: &mut Rows, steps: &mut Steps) -> Called {
     let operation = h.operation;
     match operation {
-        5..=9 => changing::with(g, lent::write(g, h, rows, steps)),
+        5..=9 | 20 => changing::with(g, lists(g, h, call, rows, steps)),
         _ => plain(g, h, call),
     }
 }

@@ -41,7 +41,8 @@ pub struct Head {
 pub const NOWHERE: usize = usize::MAX;
 
 // Columns of the table below: how many words an operation and its arguments are; the place of the argument that counts the words
-// that follow; that of the rows' room; that of the room of the steps, or of another list that the call writes.
+// that follow; that of the rows' room; that of the room of the steps, or of another list that the call writes. The room of wanted
+// parents comes after the words that follow, and is read to place 2.
 const LENGTH: usize = 0;
 
 const LIST: usize = 1;
@@ -55,7 +56,9 @@ fn digit(i: usize) -> u8 {
     let all = b"1...32..32..2...\
         1...3..27.563.12\
         2..13..22...2...\
-        21..1...1...21..";
+        21..1...1...21..\
+        ................\
+        21.2";
     if i < all.len() { all[i] } else { b'.' }
 }
 
@@ -66,7 +69,7 @@ fn wide(b: u8) -> usize {
 
 // What the table has of an operation in a column; NOWHERE for a dot and an unknown operation.
 pub fn entry(operation: u32, column: usize) -> usize {
-    let d = digit(4 * least(words::index(operation), 16) + least(column, 3));
+    let d = digit(4 * least(words::index(operation), 21) + least(column, 3));
     if d == b'.' { NOWHERE } else { wide(d & 7) }
 }
 
@@ -111,9 +114,9 @@ pub fn end(h: Head) -> usize
     HEAD + least(count(h), MAX_LIST)
 }
 
-// Whether the program has room for the call.
-fn fits(h: Head) -> bool {
-    count(h) <= MAX_LIST && room(h, ROWS) <= MAX_ROWS && room(h, STEPS) <= MAX_STEPS
+// Whether the program has the rooms that the call names.
+fn has_rooms(h: Head) -> bool {
+    room(h, ROWS) <= MAX_ROWS && room(h, STEPS) <= MAX_STEPS
 }
 
 // Reads an operation and its arguments. Where the first leaves another state than READING, the second reads nothing.
@@ -129,9 +132,17 @@ fn read_head(bytes: &mut Bytes, call: &mut Call, r: Input) -> Input {
     )
 }
 
+// Reads the words that follow, and the room if that comes after them.
+fn read_rest(bytes: &mut Bytes, call: &mut Call, h: Head, r: Input) -> Input {
+    let listed = input::read(bytes, call, HEAD, end(h), r);
+    let to = if h.operation == 20 { 3 } else { 2 };
+    input::read(bytes, call, 2, to, listed)
+}
+
 // Reads a call.
 pub fn read(bytes: &mut Bytes, call: &mut Call, r: Input) -> Input {
     let named = read_head(bytes, call, r);
     let h = head_of(call);
-    input::read(bytes, call, HEAD, end(h), input::checked(named, fits(h)))
+    let all = read_rest(bytes, call, h, input::checked(named, count(h) <= MAX_LIST));
+    input::checked(all, has_rooms(head_of(call)))
 }
