@@ -2,8 +2,8 @@
 //!
 //! From the Rust: every push, run start, take, cut, walk step and lookup that 01 accepts, and the
 //! starts, parents, frontier and marks. From 01's plain model, since the Rust has no such thing or
-//! keeps it private: the refusals, the rows, the seen lengths, `changed_from` between takes, and the
-//! archive points (02, F-6), of starts and parents that are the Rust's.
+//! keeps it private: the refusals, the rows, the seen lengths, `changed_from` between takes, the
+//! archive points (02, F-6) and the wanted parents (F-3), of starts and parents that are the Rust's.
 //! Each answer that both have is compared; where they part it panics and says so.
 //! After a raw record (operation 14), which cannot be put into the Rust, the model answers alone;
 //! where the record is broken, all that looks at the graph is refused by 1.
@@ -28,6 +28,7 @@ fn has_rooms(call: &[u32]) -> bool {
         6 => within(5, ROW_ROOM) && within(6, STEP_ROOM),
         7 => within(1, ROW_ROOM) && within(2, STEP_ROOM),
         8 => within(1, STEP_ROOM),
+        20 => within(2 + call[1] as usize, STEP_ROOM),
         _ => true,
     }
 }
@@ -43,6 +44,7 @@ pub fn call_length(script: &[u32]) -> Option<usize> {
         12 | 15 => counted(1)?,
         1 | 2 => counted(2)?,
         14 => record::WORDS,
+        20 => counted(1)? + 1,
         _ => return None,
     };
     Some(length).filter(|&length| length <= script.len() && has_rooms(script))
@@ -109,7 +111,8 @@ fn of_broken(operation: u32) -> &'static str {
         10 => "run 1 0 : 1 0 0 : 1",
         11 => "event 1 0 0",
         12 => "extends 1 0",
-        _ => "graph 1",
+        13 => "graph 1",
+        _ => "wanted 1 0 :",
     }
 }
 
@@ -228,7 +231,7 @@ impl Oracle {
     /// A call's line. The call is whole, as `call_length` says.
     pub fn answer(&mut self, call: &[u32]) -> String {
         let room = |at: usize| call[at] as usize;
-        if self.broken && (2..=13).contains(&call[0]) {
+        if self.broken && matches!(call[0], 2..=13 | 20) {
             return of_broken(call[0]).into();
         }
         match call[0] {
@@ -327,6 +330,15 @@ impl Oracle {
                     self.model = record.graph();
                 }
                 "raw".into()
+            }
+            20 => {
+                same("starts", self.of_rust(rust_starts), self.model.starts.clone());
+                same("parents", self.of_rust(rust_parents), self.model.parents.clone());
+                match self.model.wanted_parents(&call[2..call.len() - 1]) {
+                    Err(refusal) => format!("wanted {refusal} 0 :"),
+                    Ok(list) if list.len() > room(call.len() - 1) => "wanted 11 0 :".into(),
+                    Ok(list) => format!("wanted 0 {} :{}", list.len(), words(&list)),
+                }
             }
             _ => {
                 let mut line = "reader".to_string();

@@ -18,6 +18,7 @@ mod records;
 mod scripts;
 mod starts;
 mod walks;
+mod wanted;
 
 use answers::{answer_script, Oracle};
 use std::collections::BTreeMap;
@@ -37,7 +38,8 @@ type Counts = BTreeMap<(u32, String), u64>;
 /// Walks, replays, concurrency lists, run starts and graphs that have something of note; how many.
 type Notes = BTreeMap<&'static str, u64>;
 
-const NAMES: [&str; 16] = ["new", "after", "push", "start", "take", "cut", "walk", "replay", "archive", "concurrent", "run", "event", "extends", "graph", "raw", "reader"];
+/// By operation; there are none from 16 to 19.
+const NAMES: [&str; 21] = ["new", "after", "push", "start", "take", "cut", "walk", "replay", "archive", "concurrent", "run", "event", "extends", "graph", "raw", "reader", "", "", "", "", "wanted"];
 
 fn bytes(calls: &[Vec<u32>]) -> Vec<u8> {
     calls.iter().flatten().flat_map(|word| word.to_le_bytes()).collect()
@@ -291,17 +293,19 @@ fn smallest(trace: &str, calls: &[Vec<u32>]) -> Vec<Vec<u32>> {
     while again {
         again = false;
         for at in 0..best.len() {
-            let list = match best.get(at).map(|call| call[0]) {
-                Some(1 | 2) => 3,
-                Some(12 | 15) => 2,
+            // Where the items of the call's list begin, and how many words come after them.
+            let (list, after) = match best.get(at).map(|call| call[0]) {
+                Some(1 | 2) => (3, 0),
+                Some(12 | 15) => (2, 0),
+                Some(20) => (2, 1),
                 Some(14) | None => continue,
-                _ => usize::MAX,
+                _ => (usize::MAX, 0),
             };
             let mut width = best[at].len();
             while list < best[at].len() && width > 0 {
                 let mut place = list;
-                while at < best.len() && place < best[at].len() {
-                    let to = (place + width).min(best[at].len());
+                while at < best.len() && place < best[at].len() - after {
+                    let to = (place + width).min(best[at].len() - after);
                     let mut candidate = best.clone();
                     candidate[at].drain(place..to);
                     candidate[at][list - 1] -= (to - place) as u32;
@@ -364,6 +368,7 @@ fn text(call: &[u32]) -> String {
             format!("raw record: {counts}; {}; zeros after these. Broken by: {:?}", arrays.join(", "), g.faults())
         }
         15 => format!("step reader {}", list(&call[2..])),
+        20 => format!("wanted parents of the ranges {}, room {}", list(&call[2..call.len() - 1]), call[call.len() - 1]),
         operation => call[1..].iter().fold(NAMES[operation as usize].to_string(), |line, word| format!("{line} {word}")),
     }
 }
@@ -468,6 +473,13 @@ fn main() {
         points::random(feed, (count / 5).max(1), seed);
         points::at_limits(feed, seed);
         points::records(feed, (count / 2).max(1), seed)
+    });
+    part("wanted parents (02, F-3): all lists of three calls from `new`, pushes of 1 to 3 events, of two from each `after` of 1 or 2 events, every mark in every room, each answer pushed", &|feed| wanted::small(feed, 3, 3));
+    part("wanted parents (02, F-3): all lists of four words after all lists of two calls from `new`, of one from each such `after`; longer ones", &|feed| wanted::words(feed, 2));
+    part("wanted parents (02, F-3): random graphs, graphs at the limits, records by hand", &|feed| {
+        wanted::random(feed, (count / 5).max(1), seed);
+        wanted::at_limits(feed, seed);
+        wanted::records(feed, (count / 5).max(1), seed)
     });
     if scripts::WALKS {
         part("walks and replays in every room from 0 to enough", &|feed| walks::in_every_room(feed, (count / 40).max(1), seed));

@@ -2,6 +2,8 @@
 //! Refusals are 01's numbers. Refusals 1, 11 and 13 to 16 are not here: this graph is never broken,
 //! and lists are as long as need be.
 
+use std::ops::Range;
+
 /// Kind, first run, end run: a cut range or a step.
 pub type Triple = [u32; 3];
 pub const LINEAR: u32 = 0;
@@ -239,24 +241,38 @@ impl Graph {
         points
     }
 
-    /// As the sentence has it: each event's ancestors, from parent to parent, and then every event from a start on.
-    fn points_by_events(&self) -> Vec<u32> {
-        let (first, held) = (self.first_held(), (self.len() - self.first_held()) as usize);
-        let mut parents: Vec<Vec<u32>> = vec![];
+    /// The held parents of each held event, counted from the first held one: of a run's first event the last ones of its parent runs, of any other the
+    /// event before it.
+    fn event_parents(&self) -> Vec<Vec<usize>> {
+        let from_first = |event: u32| (event - self.first_held()) as usize;
+        let mut parents: Vec<Vec<usize>> = vec![];
         for run in 0..self.runs() {
-            parents.push(self.parents[run].iter().map(|&parent| self.starts[parent as usize + 1] - 1).collect());
-            parents.extend((self.starts[run] + 1..self.starts[run + 1]).map(|event| vec![event - 1]));
+            parents.push(self.parents[run].iter().map(|&parent| from_first(self.starts[parent as usize + 1] - 1)).collect());
+            parents.extend((self.starts[run] + 1..self.starts[run + 1]).map(|event| vec![from_first(event - 1)]));
         }
-        let mut ancestors = vec![vec![false; held]; held];
-        for event in 0..held {
+        parents
+    }
+
+    /// Each held event's ancestors, from parent to parent.
+    fn event_ancestors(&self) -> Vec<Vec<bool>> {
+        let parents = self.event_parents();
+        let mut ancestors = vec![vec![false; parents.len()]; parents.len()];
+        for event in 0..parents.len() {
             let mut todo = parents[event].clone();
-            while let Some(parent) = todo.pop().map(|parent| (parent - first) as usize) {
+            while let Some(parent) = todo.pop() {
                 if !ancestors[event][parent] {
                     ancestors[event][parent] = true;
                     todo.extend(&parents[parent]);
                 }
             }
         }
+        ancestors
+    }
+
+    /// As the sentence has it: each event's ancestors, and then every event from a start on.
+    fn points_by_events(&self) -> Vec<u32> {
+        let (first, ancestors) = (self.first_held(), self.event_ancestors());
+        let held = ancestors.len();
         let is_point = |start: usize| (start..held).all(|event| (0..start).all(|before| ancestors[event][before]));
         self.starts[..self.runs()].iter().copied().filter(|&start| is_point((start - first) as usize)).collect()
     }
@@ -267,6 +283,91 @@ impl Graph {
         let history = histories(&parents);
         let is_point = |run: usize| history[run..].iter().all(|set| set[..run].iter().all(|&seen| seen));
         (0..self.runs()).filter(|&run| is_point(run)).map(|run| self.starts[run]).collect()
+    }
+
+    /// The parents to push so that the new event has seen exactly the events of some ranges (02, F-3), each range its first event and its end; or 3, 4
+    /// or 17. By the events at the ends of ranges and runs; where few events are held, by each event too; where very few, by each list of them.
+    /// Panics if two of these differ.
+    pub fn wanted_parents(&self, words: &[u32]) -> Result<Vec<u32>, u32> {
+        if words.len() % 2 == 1 {
+            return Err(3);
+        }
+        let ranges: Vec<Range<u32>> = words.chunks(2).map(|pair| pair[0]..pair[1]).collect();
+        let rise = ranges.windows(2).all(|two| two[0].start < two[1].start && two[0].end < two[1].start);
+        if !rise || ranges.iter().any(|range| range.is_empty()) {
+            return Err(3);
+        }
+        if ranges.iter().any(|range| range.start < self.first_held() || range.end > self.len()) {
+            return Err(4);
+        }
+        let found = self.wanted_by_ends(&ranges);
+        let held = self.len() - self.first_held();
+        let same = |how: &str, other: Option<Vec<u32>>| assert!(other == found, "wanted parents by {how} {other:?}, by ends {found:?}, for {words:?} of {self:?}");
+        if held <= 4096 {
+            same("events", self.wanted_by_events(&ranges));
+        }
+        if held <= 10 {
+            same("lists", self.wanted_by_lists(&ranges));
+        }
+        found.ok_or(17)
+    }
+
+    /// As the sentence has it: of all lists of held events, those whose events, their members and the ancestors of these, are the marked ones; of
+    /// these lists the one in which none is an ancestor of another. None if no list has these events; panics if one has and not just one is such.
+    fn wanted_by_lists(&self, ranges: &[Range<u32>]) -> Option<Vec<u32>> {
+        let (first, ancestors) = (self.first_held(), self.event_ancestors());
+        let bits = |set: &[bool]| (0..set.len()).filter(|&event| set[event]).fold(0u32, |bits, event| bits | 1 << event);
+        let before: Vec<u32> = ancestors.iter().map(|set| bits(set)).collect();
+        let members = |list: u32| (0..before.len()).filter(move |&event| list >> event & 1 == 1);
+        let seen = |list: u32| members(list).fold(0, |seen, event| seen | before[event]);
+        let marked = ranges.iter().cloned().flatten().fold(0u32, |bits, event| bits | 1 << (event - first));
+        let lists: Vec<u32> = (0..1u32 << before.len()).filter(|&list| list | seen(list) == marked).collect();
+        let apart: Vec<u32> = lists.iter().copied().filter(|&list| list & seen(list) == 0).collect();
+        assert!(apart.len() == (!lists.is_empty()) as usize, "lists that give {ranges:?}: {lists:?}, without an ancestor pair: {apart:?}, in {self:?}");
+        apart.first().map(|&list| members(list).map(|event| first + event as u32).collect())
+    }
+
+    /// Each marked event's parents must be marked; then the marked events that are no marked one's parent.
+    fn wanted_by_events(&self, ranges: &[Range<u32>]) -> Option<Vec<u32>> {
+        let (first, parents) = (self.first_held(), self.event_parents());
+        let mut marked = vec![false; parents.len()];
+        ranges.iter().for_each(|range| marked[(range.start - first) as usize..(range.end - first) as usize].fill(true));
+        let mut is_parent = vec![false; parents.len()];
+        for event in (0..parents.len()).filter(|&event| marked[event]) {
+            for &parent in &parents[event] {
+                if !marked[parent] {
+                    return None;
+                }
+                is_parent[parent] = true;
+            }
+        }
+        Some((0..parents.len()).filter(|&event| marked[event] && !is_parent[event]).map(|event| first + event as u32).collect())
+    }
+
+    /// The same, of those events alone by which it can fail or that can be answered: a range's first and last, and a run's.
+    fn wanted_by_ends(&self, ranges: &[Range<u32>]) -> Option<Vec<u32>> {
+        let marked = |event: u32| {
+            let begun = ranges.partition_point(|range| range.start <= event);
+            begun > 0 && event < ranges[begun - 1].end
+        };
+        // A range that begins inside a run has its first event's parent just before it, which no range before it has: they do not touch.
+        if ranges.iter().any(|range| self.starts.binary_search(&range.start).is_err()) {
+            return None;
+        }
+        let mut parents: Vec<u32> = vec![];
+        for run in (0..self.runs()).filter(|&run| marked(self.starts[run])) {
+            parents.extend(self.parents[run].iter().map(|&parent| self.starts[parent as usize + 1] - 1));
+        }
+        if !parents.iter().all(|&parent| marked(parent)) {
+            return None;
+        }
+        parents.sort();
+        let range_ends = ranges.iter().map(|range| range.end - 1);
+        let run_ends = self.starts[1..].iter().map(|end| end - 1).filter(|&event| marked(event));
+        let mut found: Vec<u32> = range_ends.chain(run_ends).filter(|event| parents.binary_search(event).is_err()).collect();
+        found.sort();
+        found.dedup();
+        Some(found)
     }
 
     pub fn cut(&self, from: u32) -> Result<Vec<Triple>, u32> {

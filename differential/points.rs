@@ -64,7 +64,7 @@ pub fn small(feed: &mut Feed, calls: u32) {
 
 /// The parents of up to `count` runs, by their numbers: layers of some runs, each on all heads that its layer found; now and then one names more, or
 /// leaves one out. They end where there would be more than 2,048 entries.
-fn layers(r: &mut Random, count: u32) -> Vec<Vec<u32>> {
+pub fn layers(r: &mut Random, count: u32) -> Vec<Vec<u32>> {
     let (width, odd) = (r.pick(&[1, 2, 2, 3, 3, 4, 6, 20, 1 + count / 4]), r.pick(&[6, 20, 60]));
     let (mut all, mut heads, mut entries): (Vec<Vec<u32>>, Vec<u32>, usize) = (vec![], vec![], 0);
     let (mut found, mut left) = (vec![], 0);
@@ -138,7 +138,7 @@ pub fn random(feed: &mut Feed, count: u32, seed: u64) {
 }
 
 /// The largest graphs, by each run's parents: every run a point, every second, two of them, or one, where the last run takes away all others.
-fn largest() -> Vec<Vec<Vec<u32>>> {
+pub fn largest() -> Vec<Vec<Vec<u32>>> {
     // The four runs before each, five for the last ten: every run a point. The two layers of two before each, one more for the last twelve: every second.
     let chain: Vec<Vec<u32>> = (0..512u32).map(|run| (run.saturating_sub(if run < 502 { 4 } else { 5 })..run).collect()).collect();
     let pairs: Vec<Vec<u32>> = (0..512u32).map(|run| ((run / 2 * 2).saturating_sub(if run < 500 { 4 } else { 5 })..run / 2 * 2).collect()).collect();

@@ -3,7 +3,7 @@
 
 use crate::model::Graph;
 use crate::record::{self, Record};
-use crate::scripts::{after, ask, change, event, extends, new, push, upto, Random, LAST, WALKS};
+use crate::scripts::{after, ask, change, event, extends, new, push, upto, wanted, Random, LAST, WALKS};
 use crate::Feed;
 
 /// A record with few runs, put together by hand: starts, each run's parents, frontier, seen lengths; the rest
@@ -173,6 +173,9 @@ fn every_call(feed: &mut Feed) {
         vec![9, 1, 9],
         vec![9, 2, 0],
         vec![9, 9, 9],
+        wanted(&[2, 5], 1),
+        wanted(&[2, 6, 7, 8], 0),
+        wanted(&[2], 9),
         vec![3, 0],
         vec![3, 4],
         vec![13],

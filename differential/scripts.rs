@@ -3,7 +3,7 @@
 
 use crate::model::Graph;
 use crate::record::{self, Record};
-use crate::{answers, walks, Feed};
+use crate::{answers, walks, wanted as marks, Feed};
 
 /// Whether the trace program answers walks and full replays (operations 6 and 7) yet.
 pub const WALKS: bool = true;
@@ -30,6 +30,10 @@ pub fn push(parents: &[u32], len: u32) -> Vec<u32> {
 
 pub fn extends(parents: &[u32]) -> Vec<u32> {
     counted(&[12], parents)
+}
+
+pub fn wanted(ranges: &[u32], room: u32) -> Vec<u32> {
+    [&counted(&[20], ranges)[..], &[room]].concat()
 }
 
 pub fn upto(end: u32) -> Vec<u32> {
@@ -184,6 +188,7 @@ fn ask_all(feed: &mut Feed, odd: u32, all: bool) {
     }
     feed.call(extends(&[]));
     feed.call(extends(&[0, len.wrapping_sub(1)]));
+    marks::every_mark(feed, odd);
     if WALKS {
         feed.call(vec![7, 64, 192]);
         feed.call(vec![7, odd % 30, odd % 40]);
@@ -535,7 +540,8 @@ pub fn bad_scripts() -> Vec<Vec<u8>> {
     let good = [push(&[], 3), push(&[], 2), push(&[2, 4], 2), vec![13]];
     let with = |call: &[u32]| bytes(&[&good[..], &[call.to_vec()]].concat());
     let mut all = vec![vec![], vec![1], vec![0, 0, 0], with(&[]), [with(&[]), vec![0]].concat(), [with(&[]), vec![1, 2, 3]].concat()];
-    all.extend([&[16][..], &[17, 0], &[LAST], &[1], &[1, 3], &[1, 3, 2, 0], &[2], &[2, 1], &[2, 1, 3, 1, 2], &[3], &[5], &[5, 0], &[8], &[9, 0], &[10], &[11], &[12], &[12, 2, 1], &[14], &[14, 0, 0, 0]].map(with));
+    all.extend([&[16][..], &[17, 0], &[19], &[21], &[LAST], &[1], &[1, 3], &[1, 3, 2, 0], &[2], &[2, 1], &[2, 1, 3, 1, 2], &[3], &[5], &[5, 0], &[8], &[9, 0], &[10], &[11], &[12], &[12, 2, 1], &[14], &[14, 0, 0, 0]].map(with));
+    all.extend([&[20][..], &[20, 0], &[20, 2], &[20, 2, 0], &[20, 2, 0, 1], &[20, LAST, 0, 1, 9]].map(with));
     let record = Record::of(&Graph::new()).call();
     all.push(with(&record[..record::WORDS - 1]));
     all.push(with(&record));
@@ -544,10 +550,10 @@ pub fn bad_scripts() -> Vec<Vec<u8>> {
     // Rooms and lists above the program's own, and as long as these.
     let (rows, steps) = (answers::ROW_ROOM, answers::STEP_ROOM);
     for room in [steps, steps + 1, LAST] {
-        all.extend([&[5, 0, room][..], &[8, room], &[9, 0, room]].map(with));
+        all.extend([&[5, 0, room][..], &[8, room], &[9, 0, room], &[20, 0, room], &[20, 2, 0, 3, room]].map(with));
     }
     for count in [answers::LIST_ROOM, answers::LIST_ROOM + 1] {
-        all.extend([counted(&[1, LAST], &upto(count)), push(&upto(count), 1), extends(&upto(count))].iter().map(|call| with(call)));
+        all.extend([counted(&[1, LAST], &upto(count)), push(&upto(count), 1), extends(&upto(count)), wanted(&upto(count), 1)].iter().map(|call| with(call)));
     }
     all.push(with(&[2, 1, LAST, 0]));
     if WALKS {
@@ -574,6 +580,7 @@ pub fn sample(feed: &mut Feed) {
     // C1's graph again, asked everything.
     case(feed, &c1());
     ask_all(feed, 5, false);
+    marks::said(feed);
     if WALKS {
         walks::sample(feed);
     }
