@@ -1,12 +1,12 @@
-//! Times ours against the Rust: full replay, and the pushes that make the graph, on graphs of several shapes. Then archive points (02, F-6), of
-//! which the Rust has none.
+//! Times ours against the Rust: full replay, and the pushes that make the graph, on graphs of several shapes. Then archive points (02, F-6) and
+//! wanted parents (F-3), of which the Rust has none.
 //!
 //! speed PROGRAM [ROUNDS]   PROGRAM: the speed program
 //!
 //! A round takes the Rust first and ours after it. The Rust runs in this process; the speed program is started with N turns and
 //! with 2N, and the difference is that of N turns without starting, reading and building. All times are processor time, so
 //! that other work on the machine matters less. Printed are, of each shape, the medians of all rounds, and of their ratios. What the speed program
-//! prints is held to the Rust, and of archive points to 01's plain model.
+//! prints is held to the Rust, and of archive points and wanted parents to 01's plain model.
 
 #[allow(dead_code)]
 mod model;
@@ -108,6 +108,35 @@ fn many_points() -> Vec<(&'static str, Pushes)> {
     vec![("chain, 2,048 entries", chain), ("pairs, 2,048 entries", pairs)]
 }
 
+/// What is marked in a shape: its name, the pushes, what the mark is, and its ranges.
+fn marks() -> Vec<(&'static str, Pushes, &'static str, Vec<u32>)> {
+    let all: Vec<(&'static str, Pushes)> = shapes().into_iter().chain(many_points()).collect();
+    let of = |name: &'static str, mark: &'static str, ranges: Vec<u32>| {
+        let (_, pushes) = all.iter().find(|shape| shape.0 == name).expect("a shape");
+        (name, pushes.clone(), mark, ranges)
+    };
+    // So many ranges of one length, a step from one first event to the next.
+    let apart = |first: u32, count: u32, length: u32, step: u32| (0..count).flat_map(move |nth| [first + step * nth, first + step * nth + length]);
+    let long: Pushes = vec![(vec![], 16000)];
+    vec![
+        of("linear", "all", vec![0, 512]),
+        of("linear", "the first half", vec![0, 256]),
+        of("chain, 2,048 entries", "all", vec![0, 1024]),
+        of("chain, 2,048 entries", "the first half", vec![0, 512]),
+        of("2,048 entries", "all", vec![0, 1024]),
+        of("2,048 entries", "roots, and each second run on them", [0, 514].into_iter().chain(apart(516, 127, 2, 4)).collect()),
+        of("forks on a trunk", "all", vec![0, 1022]),
+        of("forks on a trunk", "the trunk", vec![0, 512]),
+        of("512 roots", "all", vec![0, 1024]),
+        of("512 roots", "each second run", apart(0, 256, 2, 4).collect()),
+        of("512 roots", "each run's first event", apart(0, 512, 1, 2).collect()),
+        of("512 roots", "each run's last event", apart(1, 512, 1, 2).collect()),
+        of("one run", "all", vec![0, 512]),
+        ("one run of 16,000", long.clone(), "each second event of 2,000", apart(0, 1000, 1, 2).collect()),
+        ("one run of 16,000", long, "each second event", apart(0, 8000, 1, 2).collect()),
+    ]
+}
+
 fn build(pushes: &Pushes) -> CausalGraph {
     let mut graph = CausalGraph::new();
     for (parents, len) in pushes {
@@ -170,12 +199,15 @@ fn per_turn(turns: u32, mut work: impl FnMut()) -> f64 {
 }
 
 /// Runs the speed program: its processor time in µs, and what it printed.
-fn run(program: &str, turns: u32, what: u32, pushes: &Pushes) -> (f64, String) {
+fn run(program: &str, turns: u32, what: u32, pushes: &Pushes, ranges: &[u32]) -> (f64, String) {
     let mut words = vec![turns, what, pushes.len() as u32];
     for (parents, len) in pushes {
         words.extend([*len, parents.len() as u32]);
         words.extend(parents);
     }
+    words.extend([0, ranges.len() as u32]);
+    words.extend(ranges);
+    assert!(words.len() <= 16384, "{} words", words.len());
     let mut child = Command::new(program).stdin(Stdio::piped()).stdout(Stdio::piped()).spawn().unwrap_or_else(|error| {
         println!("{program} does not start: {error}");
         exit(2)
@@ -194,19 +226,20 @@ fn median(mut list: Vec<f64>) -> f64 {
     list[list.len() / 2]
 }
 
-/// What the speed program does, on which pushes, and what it must print.
+/// What the speed program does, on which pushes and with which ranges, and what it must print.
 struct Ours<'a> {
     program: &'a str,
     what: u32,
     pushes: &'a Pushes,
+    ranges: &'a [u32],
     expected: String,
 }
 
 impl Ours<'_> {
     /// The µs of so many turns.
     fn time(&self, turns: u32) -> f64 {
-        let (once, said) = run(self.program, turns, self.what, self.pushes);
-        let (twice, _) = run(self.program, 2 * turns, self.what, self.pushes);
+        let (once, said) = run(self.program, turns, self.what, self.pushes, self.ranges);
+        let (twice, _) = run(self.program, 2 * turns, self.what, self.pushes, self.ranges);
         if said != self.expected {
             println!("the speed program says {said}, not {}", self.expected);
             exit(1);
@@ -262,26 +295,42 @@ fn main() {
         replay(&graph, &mut steps);
         let moved: u64 = steps.chunks(3).filter(|step| step[0] < 2).map(|step| (runs.start(step[2]) - runs.start(step[1])) as u64).sum();
         let count = steps.len() / 3;
-        let ours = Ours { program, what: 1, pushes, expected: format!("{count} {moved} 0") };
+        let ours = Ours { program, what: 1, pushes, ranges: &[], expected: format!("{count} {moved} 0") };
         let (rust, ours, ratio) = side_by_side(rounds, ours, || replay(black_box(&graph), black_box(&mut steps)));
         println!("| {name} | {} | {entries} | {count} | {moved} | {} | {} | {ratio:.2} |", runs.len(), number(rust), number(ours));
     }
     println!("\n| Pushes of | pushes | runs | Rust, µs | ours, µs | ratio | ours, µs a push |\n|---|---|---|---|---|---|---|");
     for (name, pushes) in &shapes {
-        let ours = Ours { program, what: 2, pushes, expected: format!("{} 0 0", pushes.len()) };
+        let ours = Ours { program, what: 2, pushes, ranges: &[], expected: format!("{} 0 0", pushes.len()) };
         let (rust, ours, ratio) = side_by_side(rounds, ours, || drop(black_box(build(black_box(pushes)))));
         println!("| {name} | {} | {} | {} | {} | {ratio:.2} | {:.1} |", pushes.len(), build(pushes).runs().len(), number(rust), number(ours), ours / pushes.len() as f64);
     }
-    println!("\n| Archive points of | runs | entries | points | ours, µs |\n|---|---|---|---|---|");
-    for (name, pushes) in shapes.iter().chain(&many_points()) {
+    let of_model = |pushes: &Pushes| {
         let mut graph = model::Graph::new();
         for (parents, len) in pushes {
             graph.push(parents, *len).expect("a push that is taken");
         }
-        let points = graph.archive_points().len();
-        let ours = Ours { program, what: 3, pushes, expected: format!("{points} 0 0") };
+        graph
+    };
+    let alone = |ours: Ours| {
         let turns = ours.turns();
-        let time = median((0..rounds).map(|_| ours.time(turns) / turns as f64).collect());
-        println!("| {name} | {} | {} | {points} | {} |", graph.runs(), graph.entries(), number(time));
+        number(median((0..rounds).map(|_| ours.time(turns) / turns as f64).collect()))
+    };
+    println!("\n| Archive points of | runs | entries | points | ours, µs |\n|---|---|---|---|---|");
+    for (name, pushes) in shapes.iter().chain(&many_points()) {
+        let graph = of_model(pushes);
+        let points = graph.archive_points().len();
+        let time = alone(Ours { program, what: 3, pushes, ranges: &[], expected: format!("{points} 0 0") });
+        println!("| {name} | {} | {} | {points} | {time} |", graph.runs(), graph.entries());
+    }
+    println!("\n| Wanted parents in | runs | entries | the mark | ranges | parents | ours, µs |\n|---|---|---|---|---|---|---|");
+    for (name, pushes, mark, ranges) in &marks() {
+        let graph = of_model(pushes);
+        let (expected, parents) = match graph.wanted_parents(ranges) {
+            Ok(list) => (format!("{} 0 0", list.len()), list.len().to_string()),
+            Err(refusal) => ("0 0 1".to_string(), format!("refused {refusal}")),
+        };
+        let time = alone(Ours { program, what: 4, pushes, ranges, expected });
+        println!("| {name} | {} | {} | {mark} | {} | {parents} | {time} |", graph.runs(), graph.entries(), ranges.len() / 2);
     }
 }

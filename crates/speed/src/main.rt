@@ -1,6 +1,7 @@
 // For differential/speed.sh to time: builds a graph by the public calls and then does one thing as often as it is told.
 // Standard input, in little-endian words: how often; what (0 nothing, 1 full replay, 2 the pushes again, from `new`, 3 archive
-// points); how many pushes; for each its length, its parent count and its parents. At most 16,384 words.
+// points, 4 wanted parents); how many pushes; for each its length, its parent count and its parents; for 4 then a 0, the count of the
+// ranges' words, and these. At most 16,384 words.
 mod script;
 
 use libc::STDIN_FILENO;
@@ -10,6 +11,7 @@ use model::EventsAnswer;
 use model::MAX_RUNS;
 use model::MAX_STARTS;
 use model::Outcome;
+use model::Written;
 use script::WORDS;
 use script::Words;
 
@@ -20,7 +22,7 @@ struct Built {
     refused: u64,
 }
 
-// What is printed: how many steps, pushes or points, the events moved, and 1 if the last call was refused.
+// What is printed: how many steps, pushes, points or parents, the events moved, and 1 if the last call was refused.
 struct Told {
     count: u64,
     moved: u64,
@@ -44,7 +46,7 @@ fn is_refused(answer: EventsAnswer) -> u64 {
     }
 }
 
-// 1 if a replay or the list of points was refused.
+// 1 if a replay or a list was refused.
 fn is_undone(outcome: Outcome) -> u64 {
     match outcome {
         Outcome::Done => 0,
@@ -118,9 +120,8 @@ fn replay(g: CausalGraph, rows: &mut [u32], steps: &mut [u32]) -> Told {
     }
 }
 
-// One list of the archive points.
-fn points(g: CausalGraph, list: &mut [u32]) -> Told {
-    let w = versions::archive::archive_points(g, list);
+// What is printed of a written list.
+fn listed(w: Written) -> Told {
     let outcome = w.outcome;
     Told {
         count: w.count as u64,
@@ -129,23 +130,45 @@ fn points(g: CausalGraph, list: &mut [u32]) -> Told {
     }
 }
 
-// One replay, or one list of points.
-fn once(g: CausalGraph, what: u32, rows: &mut [u32], steps: &mut [u32]) -> Told {
+// One replay, one list of the archive points, or one of the parents that give the events of the ranges.
+fn once(g: CausalGraph, what: u32, ranges: &[u32], rows: &mut [u32], steps: &mut [u32]) -> Told {
     match what {
         1 => replay(g, rows, steps),
-        _ => points(g, steps),
+        3 => listed(versions::archive::archive_points(g, steps)),
+        _ => listed(versions::wanted::wanted_parents(g, ranges, steps)),
     }
 }
 
 // The same, so many times.
-fn repeat(g: CausalGraph, what: u32, times: u32, rows: &mut Rows, steps: &mut Steps) -> Told {
+fn repeat(
+    g: CausalGraph,
+    what: u32,
+    ranges: &[u32],
+    times: u32,
+    rows: &mut Rows,
+    steps: &mut Steps,
+) -> Told {
     let mut told = nothing();
     let mut left = times;
     while 0 < left {
-        told = once(g, what, rows, steps);
+        told = once(g, what, ranges, rows, steps);
         left -= 1;
     }
     told
+}
+
+// The wanted parents of the ranges whose words stand at `b.at`, so many times, if all of them are there.
+fn wanted(b: Built, words: &Words, times: u32, rows: &mut Rows, steps: &mut Steps) -> Told {
+    let at = b.at;
+    let to = script::end_of(words, at);
+    let all = &words[..];
+    if all.len() < to {
+        return nothing();
+    }
+    if to - at < 2 {
+        return nothing();
+    }
+    repeat(b.graph, 4, &all[at + 2..to], times, rows, steps)
 }
 
 // Before the first.
@@ -162,9 +185,11 @@ fn run(words: &Words, rows: &mut Rows, steps: &mut Steps) -> Told {
     let times = script::get(words, 0);
     let what = script::get(words, 1);
     let b = build(words);
+    let all = &words[..];
     match what {
-        1 | 3 => repeat(b.graph, what, times, rows, steps),
+        1 | 3 => repeat(b.graph, what, &all[0..0], times, rows, steps),
         2 => pushes(words, times),
+        4 => wanted(b, words, times, rows, steps),
         _ => nothing(),
     }
 }

@@ -38,7 +38,7 @@ pub fn get(words: &Words, i: usize) -> u32 {
     if i < WORDS { words[i] } else { 0 }
 }
 
-// The end of the push whose words start at place `at`; `at` if its count is past the end.
+// The end of the push, or of the ranges, whose words start at place `at`; `at` if their count is past the end.
 pub fn end_of(words: &Words, at: usize) -> usize
     ensures { λ r. ⌜ at ≤ r ⌝ }
 {

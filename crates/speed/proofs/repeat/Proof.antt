@@ -4,10 +4,10 @@ use Rattle.speed.proofs.repeat.Statement.{statement}
 use Rattle.speed.proofs.repeat.Tie as tie
 
 abbrev Inv-loop : tie.InvT-loop
-Inv-loop g what times rows₀ steps₀ told₀ left₀ rows steps told left = Unit
+Inv-loop g what ranges times rows₀ steps₀ told₀ left₀ rows steps told left = Unit
 
 abbrev μ-loop : tie.MeasureT-loop
-μ-loop g what times rows₀ steps₀ told₀ left₀ rows steps told left = left
+μ-loop g what ranges times rows₀ steps₀ told₀ left₀ rows steps told left = left
 
 nothing-requires : tie.Need-nothing-requires Inv-loop μ-loop
 nothing-requires c κs = search needs
