@@ -165,8 +165,7 @@ fn push_told(feed: &mut Feed, log: &mut Log, ranges: &[u32], told: &[u32]) -> bo
     taken
 }
 
-/// 02's case and those of `Changes` (crates/model/specs/Changes.antt, F3 and what follows it), as calls, with their lines. Panics where the model tells
-/// another.
+/// The cases of `Changes` (crates/model/specs/Changes.antt, F3 to F3-broken), as calls, with their lines. Panics where the model tells another.
 pub fn said(feed: &mut Feed) {
     let of_c1 = [vec![new()], c1()].concat();
     let forked = vec![new(), push(&[], 5), push(&[1], 2)];
@@ -241,8 +240,8 @@ fn every_word_list(feed: &mut Feed, longest: usize, low: u32, high: u32) {
     }
 }
 
-/// Faulty ranges, and events that are not held: all lists of up to four words after all lists of up to `calls` calls as above, pushes of 1 or 2 events, longer ones on a few small
-/// graphs and on a broken one; the last numbers; and as many words as the trace program takes.
+/// Faulty ranges, and events that are not held: all lists of up to four words after all lists of up to `calls` calls as above, pushes of 1 or 2 events;
+/// longer lists on a few small graphs, near the last numbers and on a broken one; and as many words as the trace program takes.
 pub fn words(feed: &mut Feed, calls: u32) {
     let each = |feed: &mut Feed, calls: &[Vec<u32>], _: &[u32]| {
         calls.iter().for_each(|call| feed.call(call.clone()));
@@ -294,7 +293,7 @@ pub fn words(feed: &mut Feed, calls: u32) {
     }
 }
 
-/// Some held events, in no order: of many graphs mostly the last ones of runs.
+/// Some held events, in no order, many of them by the ends of runs.
 fn some_events(r: &mut Random, graph: &Graph) -> Vec<u32> {
     let count = [0, 1, 1, 2, 2, 3, 4, 6, graph.runs() as u32 / 2, 2 * graph.runs() as u32][r.below(10) as usize];
     (0..count)
