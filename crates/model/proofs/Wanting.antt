@@ -7,7 +7,7 @@ use Prim.Native.Nat.{ℕ, _+_, _-_, _≤_, _<_}
 use native.Mathlib.Omega.{arith}
 use lib.ListN.{length}
 use lib.Dec.{ltb}
-use borrow.Author.Tests.{ltb-true, le-ltb}
+use borrow.Author.Tests.{ltb-true, ltb-false, le-ltb}
 use Rattle.lists.specs.Lists.{all, filter, from, mem, rising}
 use Rattle.lists.specs.Areas.{over}
 use Rattle.lists.proofs.Truth.{bool-iff, false-true, not-so, and-left, and-right, or-cases}
@@ -140,13 +140,14 @@ module _ (g : Graph) (ws : List ℕ) (formed : WellFormed g) where
 
 -- What the tests say where the call is done, and where it is 17
 done-tests : (a b c d e : Bool) → firstOf ((a, 1) ∷ (not b, 3) ∷ (not c, 4) ∷ (not d, 17) ∷ (e, 11) ∷ []) ≡ Done →
-    (a ≡ false) × (b ≡ true) × (c ≡ true) × (d ≡ true)
+    (a ≡ false) × (b ≡ true) × (c ≡ true) × (d ≡ true) × (e ≡ false)
 unfolding firstOf outcomeNumber number
 done-tests true b c d e h = absurd (omega (arith, ap outcomeNumber h))
 done-tests false false c d e h = absurd (omega (arith, ap outcomeNumber h))
 done-tests false true false d e h = absurd (omega (arith, ap outcomeNumber h))
 done-tests false true true false e h = absurd (omega (arith, ap outcomeNumber h))
-done-tests false true true true e h = (refl, refl, refl, refl)
+done-tests false true true true true h = absurd (omega (arith, ap outcomeNumber h))
+done-tests false true true true false h = (refl, refl, refl, refl, refl)
 
 none-tests : (a b c d e : Bool) → firstOf ((a, 1) ∷ (not b, 3) ∷ (not c, 4) ∷ (not d, 17) ∷ (e, 11) ∷ []) ≡ Refused (refusal 17) →
     (a ≡ false) × (b ≡ true) × (c ≡ true) × (d ≡ false)
@@ -159,23 +160,39 @@ none-tests false true true true true h = absurd (omega (arith, ap outcomeNumber 
 none-tests false true true true false h = absurd (omega (arith, ap outcomeNumber h))
 
 module _ (g : CausalGraph) (ws lent : List ℕ) where
+  abbrev answered : Outcome → Written × List ℕ
+  answered o = elim o as (λ _. Written × List ℕ) [
+    | Done ↦ (record { count = length (wantedParents (view g) ws); outcome = Done }, over (wantedParents (view g) ws) lent)
+    | Refused r ↦ unwritten r lent
+  ]
+
   ends-so : (wantedParentsOf g ws lent) .0 .outcome ≡ wantedOutcome g ws lent
   unfolding wantedParentsOf unwritten
   ends-so = go (wantedOutcome g ws lent)
     where
-      go : (o : Outcome) → (elim o as (λ _. Written × List ℕ) [
-        | Done ↦ (record { count = length (wantedParents (view g) ws); outcome = Done }, over (wantedParents (view g) ws) lent)
-        | Refused r ↦ unwritten r lent
-      ]) .0 .outcome ≡ o
+      go : (o : Outcome) → (answered o) .0 .outcome ≡ o
       go Done = refl
       go (Refused r) = refl
 
   abbrev Tests : Bool → Type 0
   Tests d = (broken g ≡ false) × (ranges ws ≡ true) × (allHeld (view g) (eventsIn ws) ≡ true) × (closed (heldEvents (view g)) (eventsIn ws) ≡ d)
 
-  done-so : ended g ws lent Done → Tests true
+  done-all : wantedOutcome g ws lent ≡ Done →
+      (broken g ≡ false) × (ranges ws ≡ true) × (allHeld (view g) (eventsIn ws) ≡ true) × (closed (heldEvents (view g)) (eventsIn ws) ≡ true) ×
+      (ltb (length lent) (length (wantedParents (view g) ws)) ≡ false)
   unfolding wantedOutcome
-  done-so h = done-tests (broken g) (ranges ws) (allHeld (view g) (eventsIn ws)) (closed (heldEvents (view g)) (eventsIn ws)) _ (sym ends-so ∙ h)
+  done-all h = done-tests (broken g) (ranges ws) (allHeld (view g) (eventsIn ws)) (closed (heldEvents (view g)) (eventsIn ws)) _ h
+
+  done-so : ended g ws lent Done → Tests true
+  done-so h = let t = done-all (sym ends-so ∙ h) in (t .0, t .1, t .2, t .3)
+
+  wanted-fits : (wantedParentsOf g ws lent) .0 .count ≤ length lent
+  unfolding wantedParentsOf unwritten
+  wanted-fits = go (wantedOutcome g ws lent) refl
+    where
+      go : (o : Outcome) → wantedOutcome g ws lent ≡ o → (answered o) .0 .count ≤ length lent
+      go Done e = ltb-false (length lent) (length (wantedParents (view g) ws)) (done-all e .4)
+      go (Refused r) e = omega arith
 
   none-so : ended g ws lent (Refused (refusal 17)) → Tests false
   unfolding wantedOutcome
@@ -236,5 +253,6 @@ wanted = record {
   only = λ g ws vs h r v y. unfold wantedParents in version-maximal (heldEvents g) vs (eventsIn ws) v y r (words-rise ws h);
   none = call-none;
   pushed = wanted-pushed;
+  fits = wanted-fits;
   nothing = nothing-wanted;
 }

@@ -3,7 +3,7 @@ use mathlib.Core.Path.{_≡_}
 use mathlib.Core.Logic.{_↔_}
 use mathlib.Core.Bool.{Bool, true, false, not, _&&_}
 use mathlib.Core.List.{List, [], _∷_, _++_}
-use Prim.Native.Nat.{ℕ, _-_}
+use Prim.Native.Nat.{ℕ, _-_, _≤_}
 use lib.ListN.{length}
 use lib.Dec.{ltb}
 use Rattle.lists.specs.Lists.{from, mem, rising}
@@ -87,5 +87,7 @@ pub record Wanted : Type 0 where
   pub pushed : (f : Fresh) (cs : List Call) (ws lent : List ℕ) (n : ℕ) (a b : EventIndex) → let g : CausalGraph = (madeBy f cs) .0 in
       ended g ws lent Done → pushOf g (wantedParents (view g) ws) n .answer ≡ Events a b →
       (e : ℕ) → HappenedBefore (eventGraph ((madeBy f (cs ++ push (wantedParents (view g) ws) n ∷ [])) .1)) e (a .0) ↔ (mem e (eventsIn ws) ≡ true)
+  -- so many words as it tells are there, done or refused
+  pub fits : (g : CausalGraph) (ws lent : List ℕ) → (wantedParentsOf g ws lent) .0 .count ≤ length lent
   -- "The empty mark gives the empty list"
   pub nothing : (g : CausalGraph) (lent : List ℕ) → broken g ≡ false → wantedParentsOf g [] lent ≡ (record { count = 0; outcome = Done }, lent)
