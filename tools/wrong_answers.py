@@ -129,9 +129,9 @@ VERSIONS = [
     ("wanted::wanted_parents", "a range that begins inside a run is taken", "wanted.rt", "if !all_clear(&g.starts, n, ranges) {", "if !all_clear(&g.starts, 0, ranges) {"),
     ("wanted::wanted_parents", "a parent run of which some events are marked counts as whole", "wanted.rt", "    end == next\n", "    end <= next\n"),
     ("wanted::wanted_parents", "the event after the last marked one", "wanted.rt", "if end == 0 { 0 } else { end - 1 }", "if end == 0 { 0 } else { end - 0 }"),
-    ("wanted::wanted_parents", "a first without its end is taken", "wanted.rt", "if is_odd(words.len()) {", "if is_odd(0) {"),
-    ("wanted::wanted_parents", "refuses a range that ends at len", "wanted.rt", "words[n - 1] <= end.0", "words[n - 1] < end.0"),
-    ("wanted::wanted_parents", "takes an event before the first held one", "wanted.rt", "if words[0] < first.0 {\n        return false;", "if words[0] < first.0 {\n        return true;"),
+    ("wanted::wanted_parents", "a first without its end is taken", "ranges.rt", "if is_odd(words.len()) {", "if is_odd(0) {"),
+    ("wanted::wanted_parents", "refuses a range that ends at len", "ranges.rt", "words[n - 1] <= end.0", "words[n - 1] < end.0"),
+    ("wanted::wanted_parents", "takes an event before the first held one", "ranges.rt", "if words[0] < first.0 {\n        return false;", "if words[0] < first.0 {\n        return true;"),
     ("wanted::wanted_parents", "writes the parents that fit where the list is too short", "wanted.rt", "if list.len() < found.count {", "if list.len() < 0 {"),
     ("wanted::wanted_parents", "17 in place of 11", "wanted.rt", "Outcome::Refused(Refusal::ListTooShort)", "Outcome::Refused(Refusal::NoSuchParents)"),
 ]

@@ -4,5 +4,6 @@
 
 pub mod archive;
 pub mod concurrent;
+mod ranges;
 pub mod wanted;
 mod words;

@@ -2,10 +2,10 @@
 // none of the run; and where a run has some of them, its parent runs have all of theirs. So the marked events are told run by run.
 ghost use mathlib.Core.Path.{_≡_};
 ghost use mathlib.Core.Bool.{true, not, cond, _&&_, _||_};
-ghost use Prim.Native.Nat.{suc, _-_, _≤_, _<_};
-ghost use lib.ListN.{length, getD};
+ghost use Prim.Native.Nat.{_-_, _≤_, _<_};
+ghost use lib.ListN.{length};
 ghost use lib.Dec.{eqb};
-ghost use Rattle.lists.specs.Lists.{all, upto, below, rising};
+ghost use Rattle.lists.specs.Lists.{all, upto, below};
 ghost use Rattle.lists.specs.Areas.{part};
 ghost use Rattle.lists.specs.Scans.{keptIn};
 ghost use Rattle.model.specs.Limits.{maxRuns};
@@ -15,8 +15,12 @@ ghost use Rattle.model.specs.Broken.{Held};
 ghost use Rattle.model.specs.Wanted.{eventsIn, ranges as Wanted·ranges, wantedParentsOf};
 ghost use Rattle.graph.specs.Rows.{row, Rows};
 ghost use Rattle.versions.specs.Flags.{flagAll};
-ghost use Rattle.versions.specs.Ranges.{isOdd, placeOf, within, clearAt, endAt, clearIn, Ends, flagMarked, wholeIn, isTop, tops, Starts};
+ghost use Rattle.versions.specs.Ranges.{flagMarked, wholeIn, tops};
 use crate::concurrent::flag_part;
+use crate::ranges::all_clear;
+use crate::ranges::are_ranges;
+use crate::ranges::are_within;
+use crate::ranges::marked_ends;
 use crate::words::put_all;
 use lists::Kept;
 use model::CausalGraph;
@@ -25,116 +29,6 @@ use model::MAX_RUNS;
 use model::Outcome;
 use model::Refusal;
 use model::Written;
-
-// Whether a number is odd.
-fn is_odd(k: usize) -> bool
-    ensures { λ r. ⌜ r ≡ isOdd k ⌝ }
-{
-    k % 2 == 1
-}
-
-// Whether words rise, each first with its end.
-fn are_ranges(words: &[u32]) -> bool
-    ensures { λ r. ⌜ r ≡ Wanted·ranges (now (words .entry)) ⌝ }
-{
-    if is_odd(words.len()) {
-        return false;
-    }
-    lists::is_rising(words, words.len())
-}
-
-// Whether no word is below `first` or above `end`, of words that rise.
-fn are_within(words: &[u32], first: EventIndex, end: EventIndex) -> bool
-    ensures { λ r. ⌜ r ≡ within (first .0) (end .0) (now (words .entry)) ⌝ }
-{
-    let n = words.len();
-    if n == 0 {
-        return true;
-    }
-    if words[0] < first.0 {
-        return false;
-    }
-    words[n - 1] <= end.0
-}
-
-// How many of some rising words are at most an event, where `from` of them are.
-fn place(words: &[u32], from: usize, e: EventIndex) -> usize
-    requires { ⌜ rising (now words) ≡ true ⌝ }
-    requires { ⌜ from ≤ placeOf (now words) (e .0) ⌝ }
-    ensures { λ r. ⌜ r ≡ placeOf (now (words .entry)) (e .0) ⌝ }
-{
-    let mut k = from;
-    while k < words.len() {
-        if e.0 < words[k] {
-            return k;
-        }
-        k += 1;
-    }
-    k
-}
-
-// Whether no range begins at place k or behind it and before `end`.
-fn is_clear(words: &[u32], k: usize, end: EventIndex) -> bool
-    ensures { λ r. ⌜ r ≡ clearAt (now (words .entry)) k (end .0) ⌝ }
-{
-    if words.len() <= k {
-        return true;
-    }
-    let next = k + k % 2;
-    if words.len() <= next {
-        return true;
-    }
-    end.0 <= words[next]
-}
-
-// Whether no range begins inside one of n runs.
-fn all_clear(starts: &[u32], n: usize, words: &[u32]) -> bool
-    requires { ⌜ rising (now words) ≡ true ⌝ }
-    requires { ⌜ Starts (now starts) n ⌝ }
-    ensures { λ r. ⌜ r ≡ all (clearIn (now (starts .entry)) (now (words .entry))) (upto n) ⌝ }
-{
-    let mut k = 0;
-    let mut r = 0;
-    while r < n {
-        k = place(words, k, EventIndex(starts[r]));
-        if !is_clear(words, k, EventIndex(starts[r + 1])) {
-            return false;
-        }
-        r += 1;
-    }
-    true
-}
-
-// The end of what is marked from an event up to `end`, where k words are at most that event; 0 if it is not marked.
-fn end_at(words: &[u32], k: usize, end: EventIndex) -> u32
-    ensures { λ r. ⌜ r ≡ endAt (now (words .entry)) k (end .0) ⌝ }
-{
-    if !is_odd(k) {
-        return 0;
-    }
-    if words.len() <= k {
-        return 0;
-    }
-    lists::smaller(words[k], end.0)
-}
-
-// The end of what is marked of each of n runs; 0 if its first event is not.
-fn marked_ends(starts: &[u32], n: usize, words: &[u32]) -> [u32; MAX_RUNS]
-    requires { ⌜ rising (now words) ≡ true ⌝ }
-    requires { ⌜ Starts (now starts) n ⌝ }
-    ensures { λ r. ⌜ Ends (now (starts .entry)) (now (words .entry)) n r ⌝ }
-{
-    let none = lists::nothing();
-    let mut ends = none.items;
-    let mut k = 0;
-    let mut r = 0;
-    while r < n {
-        k = place(words, k, EventIndex(starts[r]));
-        ends[r] = end_at(words, k, EventIndex(starts[r + 1]));
-        r += 1;
-    }
-    ends
-}
 
 // Flags the numbers of a part of a list, if `end` is not 0.
 fn flag_if(end: u32, flags: &mut [u32], items: &[u32], from: usize, to: usize)

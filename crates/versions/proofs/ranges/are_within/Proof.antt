@@ -1,8 +1,8 @@
--- `versions::wanted::are_within` meets its contract: the first word and the last are looked at. Assumes nothing.
+-- `versions::ranges::are_within` meets its contract: the first word and the last are looked at. Assumes nothing.
 use Rattle.versions.proofs.RangeTurns.{within-none, within-low, within-is}
 use borrow.Author.Needs.{needs}
-use Rattle.versions.proofs.wanted.are_within.Statement.{statement}
-use Rattle.versions.proofs.wanted.are_within.Tie as tie
+use Rattle.versions.proofs.ranges.are_within.Statement.{statement}
+use Rattle.versions.proofs.ranges.are_within.Tie as tie
 
 returns : tie.Need-returns
 returns c =

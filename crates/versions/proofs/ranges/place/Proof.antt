@@ -1,11 +1,11 @@
--- `versions::wanted::place` meets its contract. The loop's invariant: so many words are at most the event. The measure is what is left of the words. Assumes nothing.
+-- `versions::ranges::place` meets its contract. The loop's invariant: so many words are at most the event. The measure is what is left of the words. Assumes nothing.
 use borrow.Author.Needs.{needs}
 use Prim.Native.Nat.{_≤_, _-_}
 use lib.ListN.{length}
 use Rattle.versions.specs.Ranges.{placeOf}
 use Rattle.versions.proofs.RangeTurns.{place-here, place-on, place-end}
-use Rattle.versions.proofs.wanted.place.Statement.{statement}
-use Rattle.versions.proofs.wanted.place.Tie as tie
+use Rattle.versions.proofs.ranges.place.Statement.{statement}
+use Rattle.versions.proofs.ranges.place.Tie as tie
 
 abbrev Inv-loop : tie.InvT-loop
 Inv-loop words from e k₀ k = k ≤ placeOf words (e .0)

@@ -1,10 +1,10 @@
--- `versions::wanted::end_at` meets its contract: by whether the place is odd. Assumes nothing.
+-- `versions::ranges::end_at` meets its contract: by whether the place is odd. Assumes nothing.
 use mathlib.Core.Path.{sym, _∙_}
 use borrow.Author.Tests.{not-true, not-false}
 use Rattle.versions.proofs.RangeTurns.{end-even, end-past, end-is}
 use borrow.Author.Needs.{needs}
-use Rattle.versions.proofs.wanted.end_at.Statement.{statement}
-use Rattle.versions.proofs.wanted.end_at.Tie as tie
+use Rattle.versions.proofs.ranges.end_at.Statement.{statement}
+use Rattle.versions.proofs.ranges.end_at.Tie as tie
 
 is-odd-requires : tie.Need-is-odd-requires
 is-odd-requires c κs = search needs

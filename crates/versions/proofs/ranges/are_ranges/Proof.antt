@@ -1,9 +1,9 @@
--- `versions::wanted::are_ranges` meets its contract: words that are even in number and rise. Assumes nothing.
+-- `versions::ranges::are_ranges` meets its contract: words that are even in number and rise. Assumes nothing.
 use mathlib.Core.Path.{sym, _∙_}
 use Rattle.versions.proofs.RangeTurns.{ranges-odd, ranges-is}
 use borrow.Author.Needs.{needs}
-use Rattle.versions.proofs.wanted.are_ranges.Statement.{statement}
-use Rattle.versions.proofs.wanted.are_ranges.Tie as tie
+use Rattle.versions.proofs.ranges.are_ranges.Statement.{statement}
+use Rattle.versions.proofs.ranges.are_ranges.Tie as tie
 
 is-odd-requires : tie.Need-is-odd-requires
 is-odd-requires c κs = search needs

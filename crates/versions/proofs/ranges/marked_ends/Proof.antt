@@ -1,4 +1,4 @@
--- `versions::wanted::marked_ends` meets its contract. The loop's invariant: each place so far. The measure is what is left of `n`. Assumes nothing.
+-- `versions::ranges::marked_ends` meets its contract. The loop's invariant: each place so far. The measure is what is left of `n`. Assumes nothing.
 use borrow.Author.Needs.{needs}
 use mathlib.Core.Path.{_≡_}
 use mathlib.Core.List.{[]}
@@ -9,8 +9,8 @@ use Rattle.lists.proofs.Keeping.{kept-long}
 use Rattle.versions.specs.Ranges.{placeOf, endIn, Ends}
 use Rattle.versions.proofs.HeadTurns.{filled-next}
 use Rattle.versions.proofs.RangeTurns.{place-next, end-turn}
-use Rattle.versions.proofs.wanted.marked_ends.Statement.{statement}
-use Rattle.versions.proofs.wanted.marked_ends.Tie as tie
+use Rattle.versions.proofs.ranges.marked_ends.Statement.{statement}
+use Rattle.versions.proofs.ranges.marked_ends.Tie as tie
 
 abbrev Inv-loop : tie.InvT-loop
 Inv-loop starts n words ends₀ k₀ r₀ ends k r = (r ≤ n) × (length ends ≡ 512) × (k ≤ placeOf words (getD starts r 0)) × Ends starts words r ends

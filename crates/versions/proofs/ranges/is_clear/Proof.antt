@@ -1,9 +1,9 @@
--- `versions::wanted::is_clear` meets its contract: the next first, if there is one, is looked at. Assumes nothing.
+-- `versions::ranges::is_clear` meets its contract: the next first, if there is one, is looked at. Assumes nothing.
 use native.Mathlib.Omega.{arith}
 use Rattle.versions.proofs.RangeTurns.{clear-end, clear-is}
 use borrow.Author.Needs.{needs}
-use Rattle.versions.proofs.wanted.is_clear.Statement.{statement}
-use Rattle.versions.proofs.wanted.is_clear.Tie as tie
+use Rattle.versions.proofs.ranges.is_clear.Statement.{statement}
+use Rattle.versions.proofs.ranges.is_clear.Tie as tie
 
 returns : tie.Need-returns
 returns c =

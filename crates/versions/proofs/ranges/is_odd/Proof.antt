@@ -1,8 +1,8 @@
--- `versions::wanted::is_odd` meets its contract. Assumes nothing.
+-- `versions::ranges::is_odd` meets its contract. Assumes nothing.
 use borrow.Author.Needs.{needs}
 use Rattle.versions.specs.Ranges.{isOdd}
-use Rattle.versions.proofs.wanted.is_odd.Statement.{statement}
-use Rattle.versions.proofs.wanted.is_odd.Tie as tie
+use Rattle.versions.proofs.ranges.is_odd.Statement.{statement}
+use Rattle.versions.proofs.ranges.is_odd.Tie as tie
 
 returns : tie.Need-returns
 unfolding isOdd

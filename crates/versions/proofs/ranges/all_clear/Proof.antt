@@ -1,4 +1,4 @@
--- `versions::wanted::all_clear` meets its contract. The loop's invariant: the runs so far are clear, and the place is not past the next start's. The measure is what is left of `n`. Assumes nothing.
+-- `versions::ranges::all_clear` meets its contract. The loop's invariant: the runs so far are clear, and the place is not past the next start's. The measure is what is left of `n`. Assumes nothing.
 use borrow.Author.Needs.{needs}
 use mathlib.Core.Path.{_≡_, sym, _∙_, ap}
 use mathlib.Core.Bool.{true}
@@ -9,8 +9,8 @@ use borrow.Author.Tests.{not-true, not-false}
 use Rattle.lists.specs.Lists.{all, upto}
 use Rattle.versions.specs.Ranges.{placeOf, clearIn}
 use Rattle.versions.proofs.RangeTurns.{place-next, clear-turn, all-start, all-next, all-stop}
-use Rattle.versions.proofs.wanted.all_clear.Statement.{statement}
-use Rattle.versions.proofs.wanted.all_clear.Tie as tie
+use Rattle.versions.proofs.ranges.all_clear.Statement.{statement}
+use Rattle.versions.proofs.ranges.all_clear.Tie as tie
 
 abbrev Inv-loop : tie.InvT-loop
 Inv-loop starts n words k₀ r₀ k r = (r ≤ n) × (k ≤ placeOf words (getD starts r 0)) × (all (clearIn starts words) (upto r) ≡ true)
