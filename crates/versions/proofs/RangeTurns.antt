@@ -6,7 +6,7 @@ use mathlib.Core.List.{List, [], _∷_, _++_, map}
 use Prim.Native.Nat.{ℕ, zero, suc, _+_, _-_, _%_, _≤_, _<_, min}
 use native.Mathlib.Numerals.{add-one}
 use native.Mathlib.Omega.{arith}
-use lib.ListN.{length, getD, take, drop, length-append, List·getD-eq-default}
+use lib.ListN.{length, getD, take, length-append, List·getD-eq-default}
 use lib.Seq.{take-length}
 use lib.Dec.{leb, eqb}
 use borrow.Author.Tests.{le-leb, lt-leb, eq-eqb, ne-eqb}
@@ -17,10 +17,7 @@ use Rattle.lists.proofs.Truth.{lt-or-le, false-true, not-so, and-false}
 use Rattle.lists.proofs.Members.{all-at, all-both}
 use Rattle.lists.proofs.Counts.{upto-mem, upto-snoc}
 use Rattle.lists.proofs.Keeping.{add-if-kept, filter-snoc}
-use Rattle.lists.proofs.Scanning.{drop-first, drop-none}
 use Rattle.model.specs.Wanted.{ranges}
-use Rattle.graph.specs.declared.cut.Put.{Put}
-use Rattle.graph.specs.Cutting.{put, putAll}
 use Rattle.versions.specs.Flags.{flagAll}
 use Rattle.versions.specs.Ranges.{isOdd, placeOf, within, clearAt, endAt, clearIn, endIn, flagMarked, isTop, tops, Starts}
 use Rattle.versions.proofs.RangeWords.{paired-even, word-le, le-word, place-most, place-mono}
@@ -165,14 +162,3 @@ module _ (flags ends : List ℕ) where
       addIf t k v ≡ keptIn (tops flags ends (r + 1))
   unfolding last-of
   tops-turn r k t v lt e f q = rw (q, e, f, add-one r, tops-next r) (add-if-kept (isTop flags ends r) (tops flags ends r) (getD ends r 0 - 1) (omega (arith, tops-few r)))
-
--- Words written one by one
-module _ (items : List ℕ) (n : ℕ) (fits : n ≤ length items) (i : ℕ) where
-  pub word-next : (w : Put × List ℕ) → i < n →
-      putAll 1 (put 1 w (getD items i 0 ∷ [])) (map (λ x. x ∷ []) (drop (i + 1) (take n items))) ≡ putAll 1 w (map (λ x. x ∷ []) (drop i (take n items)))
-  unfolding putAll
-  word-next w h = rw (add-one i) (sym (ap (λ (xs : List ℕ). putAll 1 w (map (λ x. x ∷ []) xs)) (drop-first n items fits i h)))
-
-  pub word-none : (w : Put × List ℕ) → n ≤ i → w ≡ putAll 1 w (map (λ x. x ∷ []) (drop i (take n items)))
-  unfolding putAll
-  word-none w h = sym (ap (λ (xs : List ℕ). putAll 1 w (map (λ x. x ∷ []) xs)) (drop-none n items fits i h))

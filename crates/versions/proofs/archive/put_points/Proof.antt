@@ -1,13 +1,13 @@
 -- `versions::archive::put_points` meets its contract. The loop's invariant: what is left, written from here, is the whole. The measure is what is left of `n`. Assumes nothing.
 use borrow.Author.Needs.{needs}
 use mathlib.Core.Path.{_≡_, refl, _∙_, ap}
-use mathlib.Core.List.{List}
+use mathlib.Core.List.{List, [], _∷_}
 use Prim.Native.Nat.{ℕ, _-_, _+_}
 use native.Mathlib.Omega.{arith}
-use lib.ListN.{length, drop, take}
+use lib.ListN.{length, drop, take, getD}
 use Rattle.graph.specs.declared.cut.Put.{Put}
 use Rattle.graph.specs.Cutting.{putAll}
-use Rattle.versions.proofs.Points.{pointsOf, point-in, point-next, point-none}
+use Rattle.versions.proofs.Points.{pointsOf, point-in, record-next, record-none}
 use Rattle.versions.proofs.archive.put_points.Statement.{statement}
 use Rattle.versions.proofs.archive.put_points.Tie as tie
 
@@ -51,6 +51,7 @@ loop-less : tie.Need-loop-less Inv-loop μ-loop
 loop-less c = search needs
 
 loop-again : tie.Need-loop-again Inv-loop μ-loop
+unfolding pointsOf
 loop-again c =
     let a = c .before .before .before .before .before .before .before .before .before .before .before .args in
     let p = c .before .before .before .before .before .before .before .before .before .before .before .pre in
@@ -58,7 +59,7 @@ loop-again c =
     let put = c .before .before .put-one in (
       put .kept .0 ∙ l .inv .0,
       ap (λ (w : Put × List ℕ). putAll 1 w (pointsOf (a .starts .now) (drop (l .i + 1) (take (a .n) (a .points .now))))) (put .ensures) ∙
-          (point-next (a .starts .now) (a .points .now) (a .n) (p .0) (l .i) (l .p, l .list) (c .before .before .before .before .before .before .loop-test .taken) ∙ l .inv .1),
+          (record-next (λ m. getD (a .starts .now) m 0 ∷ []) (a .points .now) (a .n) (p .0) (l .i) (l .p, l .list) (c .before .before .before .before .before .before .loop-test .taken) ∙ l .inv .1),
     )
 
 same-length : tie.Need-same-length Inv-loop μ-loop
@@ -70,7 +71,7 @@ returns c =
     let a = c .before .before .before .before .before .args in
     let p = c .before .before .before .before .before .pre in
     let l = c .before .loop in
-    point-none (a .starts .now) (a .points .now) (a .n) (p .0) (l .i) (l .p, l .list) (c .loop-test .left) ∙ l .inv .1
+    record-none (λ m. getD (a .starts .now) m 0 ∷ []) (a .points .now) (a .n) (p .0) (l .i) (l .p, l .list) (c .loop-test .left) ∙ l .inv .1
 
 pub put-points-spec : {M : Type 1} → statement M
 put-points-spec =

@@ -6,7 +6,7 @@ use Prim.Native.Nat.{ℕ, _-_, _+_}
 use lib.ListN.{length, drop, take}
 use Rattle.graph.specs.declared.cut.Put.{Put}
 use Rattle.graph.specs.Cutting.{putAll}
-use Rattle.versions.proofs.RangeTurns.{word-next, word-none}
+use Rattle.versions.proofs.Points.{record-next, record-none}
 use Rattle.versions.proofs.words.put_all.Statement.{statement}
 use Rattle.versions.proofs.words.put_all.Tie as tie
 
@@ -44,7 +44,7 @@ loop-again c =
     let put = c .before .before .put-one in (
       put .kept .0 ∙ l .inv .0,
       ap (λ (w : Put × List ℕ). putAll 1 w (map (λ x. x ∷ []) (drop (l .i + 1) (take (a .n) (a .items .now))))) (put .ensures) ∙
-          (word-next (a .items .now) (a .n) p (l .i) (l .p, l .list) (c .before .before .before .before .before .loop-test .taken) ∙ l .inv .1),
+          (record-next (λ x. x ∷ []) (a .items .now) (a .n) p (l .i) (l .p, l .list) (c .before .before .before .before .before .loop-test .taken) ∙ l .inv .1),
     )
 
 same-length : tie.Need-same-length Inv-loop μ-loop
@@ -55,7 +55,7 @@ returns c =
     let a = c .before .before .before .before .args in
     let p = c .before .before .before .before .pre in
     let l = c .before .loop in
-    word-none (a .items .now) (a .n) p (l .i) (l .p, l .list) (c .loop-test .left) ∙ l .inv .1
+    record-none (λ x. x ∷ []) (a .items .now) (a .n) p (l .i) (l .p, l .list) (c .loop-test .left) ∙ l .inv .1
 
 pub put-all-spec : {M : Type 1} → statement M
 put-all-spec =
