@@ -5,7 +5,7 @@ use mathlib.Core.Bool.{Bool, true, false, not}
 use mathlib.Core.List.{List, [], _∷_, _++_}
 use Prim.Native.Nat.{ℕ, _+_, _-_, _≤_, _<_}
 use native.Mathlib.Omega.{arith}
-use lib.ListN.{length}
+use lib.ListN.{length, take, drop}
 use lib.Dec.{ltb}
 use borrow.Author.Tests.{ltb-true, ltb-false, le-ltb}
 use Rattle.lists.specs.Lists.{all, filter, from, mem, rising}
@@ -13,6 +13,7 @@ use Rattle.lists.specs.Areas.{over}
 use Rattle.lists.proofs.Truth.{bool-iff, false-true, not-so, and-left, and-right, or-cases}
 use Rattle.lists.proofs.Members.{mem-first, mem-rest, mem-append, all-of, all-at}
 use Rattle.lists.proofs.Counts.{mem-from}
+use Rattle.lists.proofs.Pads.{take-over, drop-over}
 use Rattle.lists.proofs.Rising.{rising-tail, rising-above, rising-filter, rising-from, rising-join, rising-only}
 use Rattle.model.specs.declared.record.CausalGraph.{CausalGraph}
 use Rattle.model.specs.declared.record.EventIndex.{EventIndex}
@@ -186,6 +187,15 @@ module _ (g : CausalGraph) (ws lent : List ℕ) where
   done-so : ended g ws lent Done → Tests true
   done-so h = let t = done-all (sym ends-so ∙ h) in (t .0, t .1, t .2, t .3)
 
+  wanted-written : ended g ws lent Done →
+      (take ((wantedParentsOf g ws lent) .0 .count) ((wantedParentsOf g ws lent) .1) ≡ wantedParents (view g) ws) ×
+      (drop ((wantedParentsOf g ws lent) .0 .count) ((wantedParentsOf g ws lent) .1) ≡ drop ((wantedParentsOf g ws lent) .0 .count) lent)
+  unfolding wantedParentsOf
+  wanted-written h =
+      let vs : List ℕ = wantedParents (view g) ws in
+      subst (λ (o : Outcome). (take ((answered o) .0 .count) ((answered o) .1) ≡ vs) × (drop ((answered o) .0 .count) ((answered o) .1) ≡ drop ((answered o) .0 .count) lent))
+      (sym (sym ends-so ∙ h)) (take-over vs lent (length vs) refl, drop-over vs lent (length vs) refl)
+
   wanted-fits : (wantedParentsOf g ws lent) .0 .count ≤ length lent
   unfolding wantedParentsOf unwritten
   wanted-fits = go (wantedOutcome g ws lent) refl
@@ -253,6 +263,7 @@ wanted = record {
   only = λ g ws vs h r v y. unfold wantedParents in version-maximal (heldEvents g) vs (eventsIn ws) v y r (words-rise ws h);
   none = call-none;
   pushed = wanted-pushed;
+  written = wanted-written;
   fits = wanted-fits;
   nothing = nothing-wanted;
 }

@@ -4,7 +4,7 @@ use mathlib.Core.Logic.{_↔_}
 use mathlib.Core.Bool.{Bool, true, false, not, _&&_}
 use mathlib.Core.List.{List, [], _∷_, _++_}
 use Prim.Native.Nat.{ℕ, _-_, _≤_}
-use lib.ListN.{length}
+use lib.ListN.{length, take, drop}
 use lib.Dec.{ltb}
 use Rattle.lists.specs.Lists.{from, mem, rising}
 use Rattle.lists.specs.Areas.{over}
@@ -87,6 +87,9 @@ pub record Wanted : Type 0 where
   pub pushed : (f : Fresh) (cs : List Call) (ws lent : List ℕ) (n : ℕ) (a b : EventIndex) → let g : CausalGraph = (madeBy f cs) .0 in
       ended g ws lent Done → pushOf g (wantedParents (view g) ws) n .answer ≡ Events a b →
       (e : ℕ) → HappenedBefore (eventGraph ((madeBy f (cs ++ push (wantedParents (view g) ws) n ∷ [])) .1)) e (a .0) ↔ (mem e (eventsIn ws) ≡ true)
+  -- it stands in the list's first words, and what lies behind it keeps its value
+  pub written : (g : CausalGraph) (ws lent : List ℕ) → ended g ws lent Done → let w = wantedParentsOf g ws lent in
+      (take (w .0 .count) (w .1) ≡ wantedParents (view g) ws) × (drop (w .0 .count) (w .1) ≡ drop (w .0 .count) lent)
   -- so many words as it tells are there, done or refused
   pub fits : (g : CausalGraph) (ws lent : List ℕ) → (wantedParentsOf g ws lent) .0 .count ≤ length lent
   -- "The empty mark gives the empty list"

@@ -25,7 +25,7 @@ use Rattle.model.proofs.FormedReads.{start-mono}
 use Rattle.model.proofs.Maximal.{closed-at, closed-of}
 use Rattle.model.proofs.Wanting.{events-rise}
 use Rattle.versions.specs.Flags.{flagAll}
-use Rattle.versions.specs.Ranges.{placeOf, clearAt, endAt, clearIn, endIn, Ends, flagMarked, wholeIn, isTop, tops}
+use Rattle.versions.specs.Ranges.{placeOf, clearAt, endAt, clearIn, endIn, Ends, flagMarked, markedWhole, isTop, tops}
 use Rattle.versions.proofs.Flagging.{flag-length, flag-get, flag-in, flag-stays}
 use Rattle.versions.proofs.RangeWords.{ranges-even, marked-part, part-most, part-above, not-clear}
 use Rattle.versions.proofs.FirstParts.{below, run-step, Met, Whole, Childless, later-has, closed-whole, whole-closed, maximal-top, top-maximal}
@@ -137,22 +137,22 @@ module _ (g : Graph) (formed : WellFormed g) (starts : List ℕ) (same : (r : �
         eq-eqb (getD flags r 0) 0 (flagged-none rows ends (runs g) r (omega arith) (λ q k n m. h q k (met q k n) (rw (agree q k) at m)))
 
     -- So that 17 is told by flags and ends
-    pub closed-runs : closed G es ≡ all (wholeIn flags ends starts) (upto (runs g))
-    unfolding wholeIn upto
-    closed-runs = bool-iff (closed G es) (all (wholeIn flags ends starts) (from 0 (runs g))) there back
+    pub closed-runs : closed G es ≡ all (markedWhole flags ends starts) (upto (runs g))
+    unfolding markedWhole upto
+    closed-runs = bool-iff (closed G es) (all (markedWhole flags ends starts) (from 0 (runs g))) there back
       where
-        there : closed G es ≡ true → all (wholeIn flags ends starts) (from 0 (runs g)) ≡ true
-        there k = all-of (wholeIn flags ends starts) (from 0 (runs g)) (λ r m. go r (omega (arith, (mem-from r 0 (runs g) m) .1)) (eq-or-not (E r) (getD starts (suc r) 0)))
+        there : closed G es ≡ true → all (markedWhole flags ends starts) (from 0 (runs g)) ≡ true
+        there k = all-of (markedWhole flags ends starts) (from 0 (runs g)) (λ r m. go r (omega (arith, (mem-from r 0 (runs g) m) .1)) (eq-or-not (E r) (getD starts (suc r) 0)))
           where
             go : (r : ℕ) → r < runs g → (E r ≡ getD starts (suc r) 0) ⊎ (E r ≡ getD starts (suc r) 0 → ⊥) → eqb (getD flags r 0) 0 || eqb (E r) (getD starts (suc r) 0) ≡ true
             go r lt (inl e) = or-right (eqb (getD flags r 0) 0) (eq-eqb (E r) (getD starts (suc r) 0) e)
             go r lt (inr n) = or-left (eqb (E r) (getD starts (suc r) 0)) (childless-flag r lt (λ q few h m.
                 n (closed-whole g formed es held E most parts (closed-at G es k) q r few h m ∙ sym (same (suc r) lt))))
 
-        back : all (wholeIn flags ends starts) (from 0 (runs g)) ≡ true → closed G es ≡ true
+        back : all (markedWhole flags ends starts) (from 0 (runs g)) ≡ true → closed G es ≡ true
         back k = closed-of G es (whole-closed g formed es held E most parts (λ r j lt h m.
             let b : j < runs g = omega (arith, below g formed r j m) in
-            let test : wholeIn flags ends starts j ≡ true = all-at (wholeIn flags ends starts) (from 0 (runs g)) k j (upto-mem j (runs g) b) in
+            let test : markedWhole flags ends starts j ≡ true = all-at (markedWhole flags ends starts) (from 0 (runs g)) k j (upto-mem j (runs g) b) in
             cases r j lt h m b (or-cases (eqb (getD flags j 0) 0) (eqb (E j) (getD starts (suc j) 0)) test)))
           where
             cases : (r j : ℕ) → r < runs g → MetRun r → mem j (at (g .parents) r) ≡ true → j < runs g →

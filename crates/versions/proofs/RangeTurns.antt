@@ -1,7 +1,7 @@
 -- The loops behind the wanted parents, turn by turn, and the ways out of the tests. Assumes nothing.
 use mathlib.Core.Path.{_≡_, refl, sym, ap, _∙_}
 use mathlib.Core.Logic.{_⊎_, inl, inr}
-use mathlib.Core.Bool.{Bool, true, false, cond, _&&_}
+use mathlib.Core.Bool.{Bool, true, false, cond}
 use mathlib.Core.List.{List, [], _∷_, _++_, map}
 use Prim.Native.Nat.{ℕ, zero, suc, _+_, _-_, _%_, _≤_, _<_, min}
 use native.Mathlib.Numerals.{add-one}
@@ -13,13 +13,13 @@ use borrow.Author.Tests.{le-leb, lt-leb, eq-eqb, ne-eqb}
 use Rattle.lists.specs.declared.Kept.{Kept}
 use Rattle.lists.specs.Lists.{all, filter, from, upto, rising}
 use Rattle.lists.specs.Scans.{keptIn, kept, addIf}
-use Rattle.lists.proofs.Truth.{lt-or-le, false-true, not-so, and-false}
+use Rattle.lists.proofs.Truth.{lt-or-le, false-true, not-so, and-false, and-true}
 use Rattle.lists.proofs.Members.{all-at, all-both}
 use Rattle.lists.proofs.Counts.{upto-mem, upto-snoc}
 use Rattle.lists.proofs.Keeping.{add-if-kept, filter-snoc}
 use Rattle.model.specs.Wanted.{ranges}
 use Rattle.versions.specs.Flags.{flagAll}
-use Rattle.versions.specs.Ranges.{isOdd, placeOf, within, clearAt, endAt, clearIn, endIn, flagMarked, isTop, tops, Starts}
+use Rattle.versions.specs.Ranges.{isOdd, placeOf, wordsWithin, clearAt, endAt, clearIn, endIn, flagMarked, isTop, tops, Starts}
 use Rattle.versions.proofs.RangeWords.{paired-even, word-le, le-word, place-most, place-mono}
 
 -- The words' place, one word on
@@ -61,23 +61,19 @@ module _ (ws : List ℕ) where
 
   pub ranges-is : isOdd (length ws) ≡ false → (b : Bool) → b ≡ rising (take (length ws) ws) → b ≡ ranges ws
   unfolding ranges
-  ranges-is h b e = e ∙ rw (take-length, paired-even ws, h) (go (rising ws))
-    where
-      go : (t : Bool) → t ≡ t && true
-      go true = refl
-      go false = refl
+  ranges-is h b e = e ∙ rw (take-length, paired-even ws, h) (sym (and-true (rising ws)))
 
   module _ (first end : ℕ) where
-    pub within-none : length ws ≡ 0 → true ≡ within first end ws
-    unfolding within
+    pub within-none : length ws ≡ 0 → true ≡ wordsWithin first end ws
+    unfolding wordsWithin
     within-none h = rw (eq-eqb (length ws) 0 h)
 
-    pub within-low : (length ws ≡ 0 → ⊥) → getD ws 0 0 < first → false ≡ within first end ws
-    unfolding within
+    pub within-low : (length ws ≡ 0 → ⊥) → getD ws 0 0 < first → false ≡ wordsWithin first end ws
+    unfolding wordsWithin
     within-low h k = rw (ne-eqb (length ws) 0 h, lt-leb first (getD ws 0 0) k)
 
-    pub within-is : (length ws ≡ 0 → ⊥) → first ≤ getD ws 0 0 → leb (getD ws (length ws - 1) 0) end ≡ within first end ws
-    unfolding within
+    pub within-is : (length ws ≡ 0 → ⊥) → first ≤ getD ws 0 0 → leb (getD ws (length ws - 1) 0) end ≡ wordsWithin first end ws
+    unfolding wordsWithin
     within-is h k = rw (ne-eqb (length ws) 0 h, le-leb first (getD ws 0 0) k)
 
   module _ (k end : ℕ) where

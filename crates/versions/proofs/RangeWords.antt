@@ -17,7 +17,7 @@ use Rattle.model.specs.Graph.{Graph, firstHeld, len, side, isHeld, allHeld}
 use Rattle.model.specs.Wanted.{eventsIn, paired, ranges}
 use Rattle.model.proofs.Siding.{between-held, held-between}
 use Rattle.model.proofs.Wanting.{events-above}
-use Rattle.versions.specs.Ranges.{isOdd, placeOf, within, clearAt, endAt}
+use Rattle.versions.specs.Ranges.{isOdd, placeOf, wordsWithin, clearAt, endAt}
 
 -- A number is odd or even
 pub odd-or-even : (k : ℕ) → ((k % 2 ≡ 1) × (isOdd k ≡ true)) ⊎ ((k % 2 ≡ 0) × (isOdd k ≡ false))
@@ -164,9 +164,9 @@ module _ (ws : List ℕ) (h : ranges ws ≡ true) where
       let o : placeOf ws e % 2 ≡ 1 = odd-is (placeOf ws e) (sym (marked-is e) ∙ m) in
       (o, omega (arith, even, place-most ws rises e))
 
-  pub held-within : (g : Graph) → allHeld g (eventsIn ws) ≡ within (firstHeld g) (len g) ws
-  unfolding allHeld within
-  held-within g = bool-iff (allHeld g (eventsIn ws)) (within (firstHeld g) (len g) ws) there back
+  pub held-within : (g : Graph) → allHeld g (eventsIn ws) ≡ wordsWithin (firstHeld g) (len g) ws
+  unfolding allHeld wordsWithin
+  held-within g = bool-iff (allHeld g (eventsIn ws)) (wordsWithin (firstHeld g) (len g) ws) there back
     where
       n : ℕ
       n = length ws
@@ -174,7 +174,7 @@ module _ (ws : List ℕ) (h : ranges ws ≡ true) where
       bounds : Bool
       bounds = leb (firstHeld g) (getD ws 0 0) && leb (getD ws (n - 1) 0) (len g)
 
-      there : allHeld g (eventsIn ws) ≡ true → within (firstHeld g) (len g) ws ≡ true
+      there : allHeld g (eventsIn ws) ≡ true → wordsWithin (firstHeld g) (len g) ws ≡ true
       there k = go (eq-or-not n 0)
         where
           held : (e : ℕ) → placeOf ws e % 2 ≡ 1 → (firstHeld g ≤ e) × (e < len g)
@@ -189,7 +189,7 @@ module _ (ws : List ℕ) (h : ranges ws ≡ true) where
               let b = held (getD ws (n - 1) 0 - 1) (omega (arith, even, place-before ws rises (n - 1) (omega arith) last)) in
               rw (ne-eqb n 0 z, le-leb (firstHeld g) (getD ws 0 0) (a .0), le-leb (getD ws (n - 1) 0) (len g) (omega (arith, b .1)))
 
-      back : within (firstHeld g) (len g) ws ≡ true → allHeld g (eventsIn ws) ≡ true
+      back : wordsWithin (firstHeld g) (len g) ws ≡ true → allHeld g (eventsIn ws) ≡ true
       back k = all-of (λ x. isHeld (side g x)) (eventsIn ws) (λ e m. go e (marked-place e m) (or-cases (eqb n 0) bounds k))
         where
           go : (e : ℕ) → (placeOf ws e % 2 ≡ 1) × (placeOf ws e < n) → (eqb n 0 ≡ true) ⊎ (bounds ≡ true) → isHeld (side g e) ≡ true

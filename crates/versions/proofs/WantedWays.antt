@@ -32,7 +32,7 @@ use Rattle.graph.specs.Rows.{row}
 use Rattle.graph.proofs.Views.{facts, runs-view, start-view, first-view, len-view}
 use Rattle.graph.proofs.Writing.{words-fit}
 use Rattle.graph.proofs.Entries.{row-view}
-use Rattle.versions.specs.Ranges.{within, clearIn, Ends, flagMarked, wholeIn, tops, Starts}
+use Rattle.versions.specs.Ranges.{wordsWithin, clearIn, Ends, flagMarked, markedWhole, tops, Starts}
 use Rattle.versions.proofs.RangeWords.{held-within}
 use Rattle.versions.proofs.MarkedRuns.{closed-clear, closed-runs, tops-are}
 
@@ -72,10 +72,10 @@ module _ (g : CausalGraph) (ws lent : List ℕ) where
 
     module _ (words : ranges ws ≡ true) where
       -- Whether the marked events are held, by the record's first held event and `len`
-      pub held-is : allHeld G (eventsIn ws) ≡ within (getD (g .starts) 0 0) (getD (g .starts) n 0) ws
+      pub held-is : allHeld G (eventsIn ws) ≡ wordsWithin (getD (g .starts) 0 0) (getD (g .starts) n 0) ws
       held-is = held-within ws words G ∙ rw (first-view g held, len-view g held)
 
-      pub wanted-unknown : within (getD (g .starts) 0 0) (getD (g .starts) n 0) ws ≡ false →
+      pub wanted-unknown : wordsWithin (getD (g .starts) 0 0) (getD (g .starts) n 0) ws ≡ false →
           (record { count = 0; outcome = Refused UnknownEvent }, lent) ≡ wantedParentsOf g ws lent
       unfolding wantedOutcome firstOf
       wanted-unknown e = wanted-refused UnknownEvent (rw (not-broken g held, words, held-is, e))
@@ -112,19 +112,19 @@ module _ (g : CausalGraph) (ws lent : List ℕ) where
           filled-all : Ends (g .starts) ws (runs G) ends
           filled-all r lt = filled r (omega (arith, runs-view g held))
 
-          whole-is : closed (heldEvents G) (eventsIn ws) ≡ all (wholeIn flags ends (g .starts)) (upto n)
+          whole-is : closed (heldEvents G) (eventsIn ws) ≡ all (markedWhole flags ends (g .starts)) (upto n)
           unfolding rows
           whole-is =
               closed-runs G (held .formed) (g .starts) same ws words marked clear-all few rows agree ends filled-all ∙
-              ap (λ (m : ℕ). all (wholeIn (flagMarked rows ends m) ends (g .starts)) (upto m)) (runs-view g held) ∙
-              ap (λ (fs : List ℕ). all (wholeIn fs ends (g .starts)) (upto n)) (sym flagged)
+              ap (λ (m : ℕ). all (markedWhole (flagMarked rows ends m) ends (g .starts)) (upto m)) (runs-view g held) ∙
+              ap (λ (fs : List ℕ). all (markedWhole fs ends (g .starts)) (upto n)) (sym flagged)
 
           -- 17, a parent run of a run with marked events is not marked whole
-          pub wanted-parted : all (wholeIn flags ends (g .starts)) (upto n) ≡ false →
+          pub wanted-parted : all (markedWhole flags ends (g .starts)) (upto n) ≡ false →
               (record { count = 0; outcome = Refused NoSuchParents }, lent) ≡ wantedParentsOf g ws lent
           wanted-parted e = no-parents (whole-is ∙ e)
 
-          module _ (whole : all (wholeIn flags ends (g .starts)) (upto n) ≡ true) (k : Kept) (found : k ≡ keptIn (tops flags ends n)) where
+          module _ (whole : all (markedWhole flags ends (g .starts)) (upto n) ≡ true) (k : Kept) (found : k ≡ keptIn (tops flags ends n)) where
             are : tops flags ends n ≡ wantedParents G ws
             unfolding rows
             are =

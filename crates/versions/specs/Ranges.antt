@@ -11,6 +11,7 @@ use Rattle.lists.specs.Areas.{pad}
 use Rattle.model.specs.Limits.{maxRuns}
 use Rattle.versions.specs.Flags.{flagAll}
 
+-- k is odd
 unfoldable pub isOdd : ℕ → Bool
 isOdd k = eqb (k % 2) 1
 
@@ -19,8 +20,8 @@ unfoldable pub placeOf : List ℕ → ℕ → ℕ
 placeOf ws e = count (λ w. leb w e) ws
 
 -- the words lie between two events: the first is not below the one, nor the last above the other
-unfoldable pub within : ℕ → ℕ → List ℕ → Bool
-within first end ws = eqb (length ws) 0 || leb first (getD ws 0 0) && leb (getD ws (length ws - 1) 0) end
+unfoldable pub wordsWithin : ℕ → ℕ → List ℕ → Bool
+wordsWithin first end ws = eqb (length ws) 0 || leb first (getD ws 0 0) && leb (getD ws (length ws - 1) 0) end
 
 -- no range begins at place k or behind it and before event `end`
 unfoldable pub clearAt : List ℕ → ℕ → ℕ → Bool
@@ -47,8 +48,8 @@ flagMarked rows ends zero = pad maxRuns []
 flagMarked rows ends (suc r) = cond (eqb (getD ends r 0) 0) (flagMarked rows ends r) (flagAll (flagMarked rows ends r) (rows r))
 
 -- run r is not flagged, or all of it is marked
-unfoldable pub wholeIn : (flags ends starts : List ℕ) → ℕ → Bool
-wholeIn flags ends starts r = eqb (getD flags r 0) 0 || eqb (getD ends r 0) (getD starts (suc r) 0)
+unfoldable pub markedWhole : (flags ends starts : List ℕ) → ℕ → Bool
+markedWhole flags ends starts r = eqb (getD flags r 0) 0 || eqb (getD ends r 0) (getD starts (suc r) 0)
 
 -- something is marked of run r, and it is not flagged
 unfoldable pub isTop : (flags ends : List ℕ) → ℕ → Bool

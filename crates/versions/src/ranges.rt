@@ -5,7 +5,7 @@ ghost use mathlib.Core.Bool.{true};
 ghost use Prim.Native.Nat.{_≤_};
 ghost use Rattle.lists.specs.Lists.{all, upto, rising};
 ghost use Rattle.model.specs.Wanted.{ranges as Wanted·ranges};
-ghost use Rattle.versions.specs.Ranges.{isOdd, placeOf, within, clearAt, endAt, clearIn, Ends, Starts};
+ghost use Rattle.versions.specs.Ranges.{isOdd, placeOf, wordsWithin, clearAt, endAt, clearIn, Ends, Starts};
 use model::EventIndex;
 use model::MAX_RUNS;
 
@@ -28,7 +28,7 @@ pub(crate) fn are_ranges(words: &[u32]) -> bool
 
 // Whether no word is below `first` or above `end`, of words that rise.
 pub(crate) fn are_within(words: &[u32], first: EventIndex, end: EventIndex) -> bool
-    ensures { λ r. ⌜ r ≡ within (first .0) (end .0) (now (words .entry)) ⌝ }
+    ensures { λ r. ⌜ r ≡ wordsWithin (first .0) (end .0) (now (words .entry)) ⌝ }
 {
     let n = words.len();
     if n == 0 {

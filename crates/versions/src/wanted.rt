@@ -15,7 +15,7 @@ ghost use Rattle.model.specs.Broken.{Held};
 ghost use Rattle.model.specs.Wanted.{eventsIn, ranges as Wanted·ranges, wantedParentsOf};
 ghost use Rattle.graph.specs.Rows.{row, Rows};
 ghost use Rattle.versions.specs.Flags.{flagAll};
-ghost use Rattle.versions.specs.Ranges.{flagMarked, wholeIn, tops};
+ghost use Rattle.versions.specs.Ranges.{flagMarked, markedWhole, tops};
 use crate::concurrent::flag_part;
 use crate::ranges::all_clear;
 use crate::ranges::are_ranges;
@@ -79,7 +79,7 @@ fn all_whole(flags: &[u32], ends: &[u32], starts: &[u32], n: usize) -> bool
     requires { ⌜ n ≤ length (now flags) ⌝ }
     requires { ⌜ n ≤ length (now ends) ⌝ }
     requires { ⌜ n < length (now starts) ⌝ }
-    ensures { λ r. ⌜ r ≡ all (wholeIn (now (flags .entry)) (now (ends .entry)) (now (starts .entry))) (upto n) ⌝ }
+    ensures { λ r. ⌜ r ≡ all (markedWhole (now (flags .entry)) (now (ends .entry)) (now (starts .entry))) (upto n) ⌝ }
 {
     let mut r = 0;
     while r < n {
