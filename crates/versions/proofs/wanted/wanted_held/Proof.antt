@@ -48,8 +48,10 @@ slice-aggregate-all-whole-2 c = search needs
 all-whole-requires : tie.Need-all-whole-requires
 all-whole-requires c κs =
     let k =
-    facts (c .before .before .before .before .before .before .before .before .before .before .before .before
-    .before .before .before .before .before .before .before .before .before .before .before .args .t1) (c .before .before .before .before .before .before .before .before .before .before .before .before
+    facts
+    (c .before .before .before .before .before .before .before .before .before .before .before .before
+    .before .before .before .before .before .before .before .before .before .before .before .args .t1)
+    (c .before .before .before .before .before .before .before .before .before .before .before .before
     .before .before .before .before .before .before .before .before .before .before .before .pre .0) in
     (omega (arith, k .runs), (omega (arith, k .runs), omega (arith, k .runs, k .sized .starts)))
 

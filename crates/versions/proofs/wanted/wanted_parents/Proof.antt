@@ -55,7 +55,8 @@ returns-3 c =
 wanted-held-requires : tie.Need-wanted-held-requires
 wanted-held-requires c κs =
     let a = c .before .before .before .before .before .before .before .before .before .before .before .args in
-    let held = held-of (a .t1) (search needs) (sym (c .before .before .before .before .before .before .before .before .is-broken .ensures) ∙ c .before .before .before .before .before .before .before .if1 .left) in
+    let sound = sym (c .before .before .before .before .before .before .before .before .is-broken .ensures) ∙ c .before .before .before .before .before .before .before .if1 .left in
+    let held = held-of (a .t1) (search needs) sound in
     let words = sym (c .before .before .before .before .before .before .are-ranges .ensures) ∙ not-false _ (c .before .before .before .before .before .if2 .left) in
     (held, (words, held-is (a .t1) (a .ranges .now) (a .list .now) held words ∙ (sym (c .before .before .are-within .ensures) ∙ not-false _ (c .before .if3 .left))))
 
