@@ -25,18 +25,18 @@ drop-words (suc a) n bs =
     let e : suc a + n ≡ suc (a + n) = omega arith in
     ap (λ m. drop (suc a) (words_of m bs)) e ∙ drop-words a n (drop 4 bs) ∙ ap (words_of n) (after_one a bs)
 
-take_words : (m n : ℕ) (bs : List ℕ) → take m (words_of (m + n) bs) ≡ words_of m bs
+take_words_lem : (m n : ℕ) (bs : List ℕ) → take m (words_of (m + n) bs) ≡ words_of m bs
 unfolding words_of
-take_words zero n bs = refl
-take_words (suc m) n bs =
+take_words_lem zero n bs = refl
+take_words_lem (suc m) n bs =
     let e : suc m + n ≡ suc (m + n) = omega arith in
-    ap (λ k. take (suc m) (words_of k bs)) e ∙ ap (λ ws. word bs ∷ ws) (take_words m n (drop 4 bs))
+    ap (λ k. take (suc m) (words_of k bs)) e ∙ ap (λ ws. word bs ∷ ws) (take_words_lem m n (drop 4 bs))
 
 -- m words from the place a on
 pub words-part : (bs : List ℕ) (n a m : ℕ) → a + m ≤ n → take m (drop a (words_of n bs)) ≡ words_of m (drop (4 * a) bs)
 words-part bs n a m h =
     let e : n ≡ a + (m + (n - (a + m))) = omega arith in
-    ap (λ k. take m (drop a (words_of k bs))) e ∙ ap (take m) (drop-words a (m + (n - (a + m))) bs) ∙ take_words m (n - (a + m)) (drop (4 * a) bs)
+    ap (λ k. take m (drop a (words_of k bs))) e ∙ ap (take m) (drop-words a (m + (n - (a + m))) bs) ∙ take_words_lem m (n - (a + m)) (drop (4 * a) bs)
 
 -- the word at a place
 pub words-at : (bs : List ℕ) (n i : ℕ) → i < n → get_or (words_of n bs) i 0 ≡ word (drop (4 * i) bs)

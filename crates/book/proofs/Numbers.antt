@@ -190,15 +190,15 @@ turn_in N room this later rows false true o h k = smalls_take N room this.1 h
 turn_in N room this later rows false false Done h k = smalls_append N this.1 later.1 h k
 turn_in N room this later rows false false (Refused r) h k = h
 
-ranges_in : (g : Graph) (N : ℕ) (cs : List HistoryRange) (lo end room : ℕ) (rows : List ℕ) → Laid lo cs end → end ≤ N →
+ranges_in_lem : (g : Graph) (N : ℕ) (cs : List HistoryRange) (lo end room : ℕ) (rows : List ℕ) → Laid lo cs end → end ≤ N →
     Smalls N (replay_ranges g cs room rows).1
 unfolding replay_ranges
-ranges_in g N [] lo end room rows h k = tt
-ranges_in g N (c ∷ cs) lo end room rows h k =
+ranges_in_lem g N [] lo end room rows h k = tt
+ranges_in_lem g N (c ∷ cs) lo end room rows h k =
     let this : Replayed = replay_range g c rows in
     turn_in N room this (replay_ranges g cs (room - length this.1) this.2) rows (eqb room 0) (ltb room (length this.1)) this.0
     (range_in_lem g N c rows lo end cs h k)
-    (ranges_in g N cs (laid_next lo c cs end h).0 end (room - length this.1) this.2 (laid_next lo c cs end h).1 k)
+    (ranges_in_lem g N cs (laid_next lo c cs end h).0 end (room - length this.1) this.2 (laid_next lo c cs end h).1 k)
 
 pub replay_numbers : (g : Graph) (N room : ℕ) (rows : List ℕ) → runs g ≤ N → Smalls N (replay_ranges g (cut_from g 0) room rows).1
-replay_numbers g N room rows h = ranges_in g N (cut_from g 0) 0 (runs g) room rows (cut_laid g 0) h
+replay_numbers g N room rows h = ranges_in_lem g N (cut_from g 0) 0 (runs g) room rows (cut_laid g 0) h

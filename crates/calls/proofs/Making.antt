@@ -107,9 +107,9 @@ unfolding after_calls graph_after
 log_free g l [] = refl
 log_free g l (c ∷ cs) = log_free (answer g c).1 (note l c (answer g c).0) cs
 
-pub made_by : (f : Fresh) (cs : List Call) → (made_by f cs).0 ≡ graph_after (begin f).1 cs
+pub made_by_lem : (f : Fresh) (cs : List Call) → (made_by f cs).0 ≡ graph_after (begin f).1 cs
 unfolding made_by
-made_by f cs = log_free (begin f).1 (begin_log f (begin f).0) cs
+made_by_lem f cs = log_free (begin f).1 (begin_log f (begin f).0) cs
 
 -- Words with no start, and words with one
 module _ (ws : List ℕ) where
@@ -130,4 +130,4 @@ module _ (ws : List ℕ) where
           graph_after (begin (start_of ws)).1 (calls_after s ws) ≡
           (made_by (elim s [ zero ↦ new | suc n ↦ start_of ws ]) (elim s [ zero ↦ [] | suc n ↦ calls_after (suc n) ws ])).0
       go zero h = absurd (omega arith)
-      go (suc n) h = sym (made_by (start_of ws) (calls_after (suc n) ws))
+      go (suc n) h = sym (made_by_lem (start_of ws) (calls_after (suc n) ws))

@@ -20,9 +20,9 @@ pub whole_cut : (n : ℕ) (ws : List ℕ) → length ws < n → 0 ≡ whole n ws
 unfolding whole
 whole_cut n ws h = rw (lt-leb n (length ws) h)
 
-whole_in : (n : ℕ) (ws : List ℕ) → whole n ws ≤ length ws
+whole_in_lem : (n : ℕ) (ws : List ℕ) → whole n ws ≤ length ws
 unfolding whole
-whole_in n ws = go (leb n (length ws)) refl
+whole_in_lem n ws = go (leb n (length ws)) refl
   where
     go : (b : Bool) → leb n (length ws) ≡ b → cond b n 0 ≤ length ws
     go true e = leb-true n (length ws) e
@@ -126,8 +126,8 @@ unfolding start_size listed
 start_in ws = go (eqb (operation ws) 0) (eqb (operation ws) 1)
   where
     go : (a b : Bool) → cond a (whole 1 ws) (cond b (whole (3 + get_or ws 2 0) ws) 0) ≤ length ws
-    go true b = whole_in 1 ws
-    go false true = whole_in (3 + get_or ws 2 0) ws
+    go true b = whole_in_lem 1 ws
+    go false true = whole_in_lem (3 + get_or ws 2 0) ws
     go false false = omega arith
 
 pub call_in : (ws : List ℕ) → call_size ws ≤ length ws
@@ -135,7 +135,7 @@ unfolding call_size listed
 call_in ws = go (eqb (call_operation ws) 2) (eqb (call_operation ws) 3) (eqb (call_operation ws) 4)
   where
     go : (a b c : Bool) → cond a (whole (3 + get_or ws 2 0) ws) (cond b (whole 2 ws) (cond c (whole 1 ws) 0)) ≤ length ws
-    go true b c = whole_in (3 + get_or ws 2 0) ws
-    go false true c = whole_in 2 ws
-    go false false true = whole_in 1 ws
+    go true b c = whole_in_lem (3 + get_or ws 2 0) ws
+    go false true c = whole_in_lem 2 ws
+    go false false true = whole_in_lem 1 ws
     go false false false = omega arith

@@ -94,9 +94,9 @@ module _ (g : CausalGraph) (ps : List ℕ) (n : ℕ) where
     too_many_events z r b f = refused_way TooManyEvents (unfold push_outcome first_of in rw (ne_eqb n 0 z, r, b, ← at_end, f))
 
     -- A push that is taken
-    taken_out : (h : CausalGraph) → h ≡ store (push (view g) ps n) → push_outcome (view g) ps n ≡ Done → taken_by h start n ≡ push_held_of g ps n
+    taken_out_lem : (h : CausalGraph) → h ≡ store (push (view g) ps n) → push_outcome (view g) ps n ≡ Done → taken_by h start n ≡ push_held_of g ps n
     unfolding pushed
-    taken_out h q e = (λ i. taken_by (q i) (at_end i) n) ∙ done_way e
+    taken_out_lem h q e = (λ i. taken_by (q i) (at_end i) n) ∙ done_way e
 
 -- The parents counted that are not yet known
 module _ (g : CausalGraph) (good : Held g) (ps : List ℕ) {c : ParentCounts} (e : c ≡ count_parents g.starts g.run_count ps) where
@@ -108,8 +108,8 @@ module _ (g : CausalGraph) (good : Held g) (ps : List ℕ) {c : ParentCounts} (e
       count_same (λ p. not (is_known (side (view g) p))) (λ p. not (is_known (side_in g.starts g.run_count p))) ps
       (λ p m. ap (λ (s : Side). not (is_known s)) (sym (side-view g good p))) ∙ sym (ap (λ (x : ParentCounts). x.unknown) e))
 
-  pub all_known : c.unknown ≤ 0 → all_known (view g) ps ≡ true
-  all_known h = known-counted ∙ eq-eqb c.unknown 0 (omega arith)
+  pub all_known_lem : c.unknown ≤ 0 → all_known (view g) ps ≡ true
+  all_known_lem h = known-counted ∙ eq-eqb c.unknown 0 (omega arith)
 
   pub one_unknown : 0 < c.unknown → all_known (view g) ps ≡ false
   one_unknown h = known-counted ∙ ne_eqb c.unknown 0 (λ z. omega arith)
@@ -171,7 +171,7 @@ module _ {g : CausalGraph} {ps : List ℕ} {n start : ℕ} {c : ParentCounts} (k
       let x : extends (view g) ps ≡ true = sym e ∙ t in
       let q : h ≡ store (push (view g) ps n) =
       f ∙ ap (λ (qs : List ℕ). store (grown (view g) qs n)) (sym (extends-parents (view g) ps x)) ∙ ap store (sym (push_grows (view g) ps n x)) in
-      taken_out g ps n start k.at_end h q (grown_outcome x)
+      taken_out_lem g ps n start k.at_end h q (grown_outcome x)
 
   -- The tests of the code for refusals 6 to 8, as the definition has them
   runs_test : {b : Bool} → b ≡ ltb 512 (g.run_count + 1 + c.splits) → ltb 512 (runs (view g) + splits (view g) ps + 1) ≡ b
@@ -308,4 +308,4 @@ module _ {g : CausalGraph} {ps : List ℕ} {n start : ℕ} {c : ParentCounts} (r
     joined-out j e =
         let q : j ≡ store (push (view g) ps n) =
         e ∙ ap (λ (a : Graph). store (lowered a (joined a ps n))) parted_view ∙ ap store (sym (push_joins (view g) ps n r.new)) in
-        taken_out g ps n start r.known.at_end j q new_outcome
+        taken_out_lem g ps n start r.known.at_end j q new_outcome

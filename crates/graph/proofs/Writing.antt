@@ -32,10 +32,10 @@ module _ (size k : ℕ) (l ws : List ℕ) where
   put-none s e h = rw (eq-eqb s 0 e, le-ltb k (length l / size) h)
 
   -- it fits
-  pub put_one : (s : ℕ) → s ≡ 0 → k < length l / size →
+  pub put_one_lem : (s : ℕ) → s ≡ 0 → k < length l / size →
       put size (record { count = k; short = s }, l) ws ≡ (record { count = k + 1; short = 0 }, take (k * size) l ++ ws ++ drop (k * size + size) l)
   unfolding put
-  put_one s e h = rw (eq-eqb s 0 e, lt-ltb k (length l / size) h)
+  put_one_lem s e h = rw (eq-eqb s 0 e, lt-ltb k (length l / size) h)
 
 -- Three words, one after the other, are a record
 pub three_words : (l : List ℕ) (at a b c : ℕ) → at + 3 ≤ length l →
@@ -83,14 +83,14 @@ module _ {A : Type 0} (size : ℕ) (f : A → List ℕ) (same : (x : A) → leng
       ap (λ (w : Put × List ℕ). put_all size w (map f xs)) (put-none size k (front ++ rest) (f x) 0 refl (omega arith)) ∙
       (short-stays size k (front ++ rest) (map f xs) ∙ put_eq (omega arith) (ap bit (sym (lt-ltb 0 (suc (length (map f xs))) (omega arith)))) refl)
   put-room (x ∷ xs) (suc j) k front rest e h r =
-      ap (λ (w : Put × List ℕ). put_all size w (map f xs)) (put_one size k (front ++ rest) (f x) 0 refl (omega arith)) ∙
+      ap (λ (w : Put × List ℕ). put_all size w (map f xs)) (put_one_lem size k (front ++ rest) (f x) 0 refl (omega arith)) ∙
       (ap (λ (l : List ℕ). put_all size (record { count = k + 1; short = 0 }, l) (map f xs)) moved ∙
       (put-room xs j (k + 1) (front ++ f x) (drop (length (f x)) rest) longer left whole ∙
       put_eq (omega arith) (ap bit (sym (leb-suc-suc (suc j) (length (map f xs)))))
       (append_assoc front (f x) (over (concat (take j (map f xs))) (drop (length (f x)) rest)) ∙ ap (λ (l : List ℕ). front ++ l) (over_more (f x) (concat (take j (map f xs))) rest))))
     where
-      size_in : size + j * size ≤ length rest
-      size_in = omega (arith, h, suc-mul j size)
+      size_in_lem : size + j * size ≤ length rest
+      size_in_lem = omega (arith, h, suc-mul j size)
 
       longer : length (front ++ f x) ≡ (k + 1) * size
       longer = rw (add-one k) (omega (arith, length-append front (f x), same x, suc-mul k size))

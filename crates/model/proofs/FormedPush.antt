@@ -63,7 +63,7 @@ accepted g le ps n e =
     positive (suc n) h = omega arith
 
 abbrev push_by : Graph → List ℕ → ℕ → Bool → Graph
-push_by g ps n goes_on = elim goes_on as (λ _. Graph) [
+push_by g ps n goes_on_lem = elim goes_on_lem as (λ _. Graph) [
   | true ↦ grown g ps n
   | false ↦ lowered (split_after g (held g ps)) (joined (split_after g (held g ps)) ps n)
 ]

@@ -108,7 +108,7 @@ replay_next : (g : Graph) (c : HistoryRange) (cs : List HistoryRange) (room : �
     (replay_ranges g (c ∷ cs) room rows).0 ≡ (replay_ranges g cs (room - length (replay_range g c rows).1) (replay_range g c rows).2).0
 unfolding replay_ranges
 replay_next g c cs room rows left done fits =
-    goes_on (eqb room 0) (ne_eqb room 0 (λ e. omega arith)) (ltb room (length this.1)) (le-ltb room (length this.1) fits) this.0 done
+    goes_on_lem (eqb room 0) (ne_eqb room 0 (λ e. omega arith)) (ltb room (length this.1)) (le-ltb room (length this.1) fits) this.0 done
   where
     this : Replayed
     this = replay_range g c rows
@@ -116,7 +116,7 @@ replay_next g c cs room rows left done fits =
     later : Replayed
     later = replay_ranges g cs (room - length this.1) this.2
 
-    goes_on : (s : Bool) → s ≡ false → (t : Bool) → t ≡ false → (o : Outcome) → o ≡ Done →
+    goes_on_lem : (s : Bool) → s ≡ false → (t : Bool) → t ≡ false → (o : Outcome) → o ≡ Done →
         (elim s as (λ _. Replayed) [
           | true ↦ (Refused ListTooShort, [], rows)
           | false ↦ elim t as (λ _. Replayed) [
@@ -124,7 +124,7 @@ replay_next g c cs room rows left done fits =
             | false ↦ elim o as (λ _. Replayed) [ Done ↦ (later.0, this.1 ++ later.1, later.2) | Refused r ↦ this ]
           ]
         ]).0 ≡ later.0
-    goes_on s e t f o k = rw (e, f, k)
+    goes_on_lem s e t f o k = rw (e, f, k)
 
 -- Ranges one after another, in a list of 1,026 steps for each run
 ranges-done : (g : Graph) → runs g ≤ 512 → (lo : ℕ) (cs : List HistoryRange) (end room : ℕ) (rows : List ℕ) → Laid lo cs end → (end - lo) * 1026 ≤ room →

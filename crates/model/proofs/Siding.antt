@@ -77,9 +77,9 @@ module _ (g : Graph) (e : ℕ) where
       (leb-true (first_held g) e (and_left _ _ q), ltb-true e (len g) (and_right (leb (first_held g) e) (ltb e (len g)) q))
 
   -- and a known one is any before `len`
-  pub is_known : first_held g ≤ len g → is_known (side g e) ≡ ltb e (len g)
+  pub is_known_lem : first_held g ≤ len g → is_known (side g e) ≡ ltb e (len g)
   unfolding is_known
-  is_known le = go (lt_or_le e (first_held g)) (lt_or_le e (len g))
+  is_known_lem le = go (lt_or_le e (first_held g)) (lt_or_le e (len g))
     where
       go : (e < first_held g) ⊎ (first_held g ≤ e) → (e < len g) ⊎ (len g ≤ e) → is_known (side g e) ≡ ltb e (len g)
       go (inl h) k = rw (side_before h, lt-ltb e (len g) (omega arith))
@@ -112,4 +112,4 @@ held_agree g h f l es = filter_agree (λ e. is_held (side h e)) (λ e. is_held (
 -- The events of a list are known exactly if they are below `len`
 pub known-below : (g : Graph) → first_held g ≤ len g → (es : List ℕ) → all_known g es ≡ below (len g) es
 unfolding all_known below
-known-below g le es = all_same (λ e. is_known (side g e)) (λ e. ltb e (len g)) es (λ e m. is_known g e le)
+known-below g le es = all_same (λ e. is_known (side g e)) (λ e. ltb e (len g)) es (λ e m. is_known_lem g e le)

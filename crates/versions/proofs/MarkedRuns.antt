@@ -81,9 +81,9 @@ module _ (g : Graph) (formed : WellFormed g) (starts : List ℕ) (same : (r : �
   G = held_events g
 
   -- the tests at a run's start and end
-  clear_at : (r : ℕ) → r < runs g → clear_in starts ws r ≡ clear_at ws (place_of ws (start g r)) (start g (suc r))
+  clear_at_lem : (r : ℕ) → r < runs g → clear_in starts ws r ≡ clear_at ws (place_of ws (start g r)) (start g (suc r))
   unfolding clear_in
-  clear_at r lt = rw (same r (omega arith), same (suc r) lt)
+  clear_at_lem r lt = rw (same r (omega arith), same (suc r) lt)
 
   end_at_lem : (r : ℕ) → r < runs g → end_in starts ws r ≡ end_at ws (place_of ws (start g r)) (start g (suc r))
   unfolding end_in
@@ -94,7 +94,7 @@ module _ (g : Graph) (formed : WellFormed g) (starts : List ℕ) (same : (r : �
   unfolding upto
   closed_clear k = all_of (clear_in starts ws) (from 0 (runs g)) (λ r m.
       let lt : r < runs g = omega (arith, (mem-from r 0 (runs g) m).1) in
-      clear_at r lt ∙ go r lt (clear_at ws (place_of ws (start g r)) (start g (suc r))) refl)
+      clear_at_lem r lt ∙ go r lt (clear_at ws (place_of ws (start g r)) (start g (suc r))) refl)
     where
       go : (r : ℕ) → r < runs g → (t : Bool) → clear_at ws (place_of ws (start g r)) (start g (suc r)) ≡ t → t ≡ true
       go r lt true e = refl
@@ -119,7 +119,7 @@ module _ (g : Graph) (formed : WellFormed g) (starts : List ℕ) (same : (r : �
 
     parts : (r e : ℕ) → r < runs g → start g r ≤ e → e < start g (suc r) → (mem e es ≡ true) ↔ (e < E r)
     parts r e lt low high =
-        rw (is r lt) (marked-part ws words (start g r) (start g (suc r)) (sym (clear_at r lt) ∙ all-at (clear_in starts ws) (upto (runs g)) clear r (upto-mem r (runs g) lt)) e low high)
+        rw (is r lt) (marked-part ws words (start g r) (start g (suc r)) (sym (clear_at_lem r lt) ∙ all-at (clear_in starts ws) (upto (runs g)) clear r (upto-mem r (runs g) lt)) e low high)
 
     abbrev MetRun : ℕ → Type 0
     MetRun = Met g formed es held E most parts

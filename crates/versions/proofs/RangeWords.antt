@@ -32,9 +32,9 @@ pub odd_is : (k : ℕ) → is_odd k ≡ true → k % 2 ≡ 1
 unfolding is_odd
 odd_is k h = eqb-true (k % 2) 1 h
 
-pub is_odd : (k : ℕ) → k % 2 ≡ 1 → is_odd k ≡ true
+pub is_odd_lem : (k : ℕ) → k % 2 ≡ 1 → is_odd k ≡ true
 unfolding is_odd
-is_odd k h = eq-eqb (k % 2) 1 h
+is_odd_lem k h = eq-eqb (k % 2) 1 h
 
 odd_same : (j k : ℕ) → j % 2 ≡ k % 2 → is_odd j ≡ is_odd k
 unfolding is_odd
@@ -178,7 +178,7 @@ module _ (ws : List ℕ) (h : ranges ws ≡ true) where
       there k = go (eq_or-not n 0)
         where
           held : (e : ℕ) → place_of ws e % 2 ≡ 1 → (first_held g ≤ e) × (e < len g)
-          held e o = held-between g e (all-at (λ x. is_held (side g x)) (events_in ws) k e (marked-is e ∙ is_odd (place_of ws e) o))
+          held e o = held-between g e (all-at (λ x. is_held (side g x)) (events_in ws) k e (marked-is e ∙ is_odd_lem (place_of ws e) o))
 
           go : (n ≡ 0) ⊎ (n ≡ 0 → ⊥) → eqb n 0 || bounds ≡ true
           go (inl z) = rw (eq-eqb n 0 z)
@@ -233,7 +233,7 @@ module _ (ws : List ℕ) (h : ranges ws ≡ true) where
         )
         go (inl o) = rw o.1 (
           (λ m. let p = marked-place e m in omega (arith, word_above ws rises k e (omega (arith, least, p.1)) (omega (arith, o.0, least, most, p.0)))),
-          (λ q. marked-is e ∙ is_odd (place_of ws e) (inside (lt_or_le k (place_of ws e)) q)),
+          (λ q. marked-is e ∙ is_odd_lem (place_of ws e) (inside (lt_or_le k (place_of ws e)) q)),
         )
           where
             inside : (k < place_of ws e) ⊎ (place_of ws e ≤ k) → e < min (get_or ws k 0) end → place_of ws e % 2 ≡ 1
@@ -268,6 +268,6 @@ module _ (ws : List ℕ) (h : ranges ws ≡ true) where
           get_or ws i 0,
           p,
           q,
-          marked-is (get_or ws i 0) ∙ is_odd (place_of ws (get_or ws i 0)) (omega (arith, place_at ws rises i lt)),
+          marked-is (get_or ws i 0) ∙ is_odd_lem (place_of ws (get_or ws i 0)) (omega (arith, place_at ws rises i lt)),
           marked-is (get_or ws i 0 - 1) ∙ even_is (place_of ws (get_or ws i 0 - 1)) (omega (arith, place-before ws rises i lt (omega arith))),
         )

@@ -57,10 +57,10 @@ out-all r (x ∷ xs) e = go (eqb r x) refl e (λ d. out-all r xs d)
     go true q d rec = false_true (sym d)
     go false q d rec = rw (ne_eqb x r (λ p. eqb-false r x q (sym p))) (ap (λ (l : List ℕ). x ∷ l) (rec d))
 
-pub taken_out : (r : ℕ) (xs ys : List ℕ) → Once (xs ++ r ∷ ys) → filter (λ x. not (eqb x r)) (xs ++ r ∷ ys) ≡ xs ++ ys
+pub taken_out_lem : (r : ℕ) (xs ys : List ℕ) → Once (xs ++ r ∷ ys) → filter (λ x. not (eqb x r)) (xs ++ r ∷ ys) ≡ xs ++ ys
 unfolding filter
-taken_out r [] ys o = rw (eq-eqb r r refl) (out-all r ys o.0)
-taken_out r (x ∷ xs) ys o = rw (ne_eqb x r ne) (ap (λ (l : List ℕ). x ∷ l) (taken_out r xs ys o.1))
+taken_out_lem r [] ys o = rw (eq-eqb r r refl) (out-all r ys o.0)
+taken_out_lem r (x ∷ xs) ys o = rw (ne_eqb x r ne) (ap (λ (l : List ℕ). x ∷ l) (taken_out_lem r xs ys o.1))
   where
     here : x ≡ r → mem x (xs ++ r ∷ ys) ≡ true
     here e = mem-append x xs (r ∷ ys) ∙ or_right (mem x xs) (ap (λ (k : ℕ). mem x (k ∷ ys)) (sym e) ∙ mem-first x ys)

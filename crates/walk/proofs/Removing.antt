@@ -12,7 +12,7 @@ use Rattle.model.specs.Choice.{Range, is_ready}
 use Rattle.model.proofs.Choosing.{ready_after}
 use Rattle.tables.specs.Tables.{children_of}
 use Rattle.walk.specs.Readiness.{Wakes, taken_out, woken_of}
-use Rattle.walk.proofs.Distinct.{Once, taken_out}
+use Rattle.walk.proofs.Distinct.{Once, taken_out_lem}
 use Rattle.walk.proofs.Waiting.{Going, left_of}
 use Rattle.walk.proofs.Telling.{Tells, visit_tells}
 
@@ -81,7 +81,7 @@ module _ (l : List ℕ) (at : ℕ) where
   taken-filter n h le o =
       taken-first n h le ∙
       sym (ap (filter (λ x. not (eqb x (get_or l at 0)))) (parts n h le) ∙
-      taken_out (get_or l at 0) (take at l) (take (n - 1 - at) tail) (subst Once (parts n h le) o))
+      taken_out_lem (get_or l at 0) (take at l) (take (n - 1 - at) tail) (subst Once (parts n h le) o))
 
   pub taken-length : (n : ℕ) → at < n → n ≤ length l → length (taken_out l n at) ≡ length l
   unfolding taken_out

@@ -6,7 +6,7 @@ use Prim.Native.Nat.{ℕ, ◌+◌, ◌*◌}
 use native.Mathlib.Omega.{arith}
 use lib.ListN.{length-set}
 use Rattle.graph.specs.declared.cut.Put.{Put}
-use Rattle.graph.proofs.Writing.{put-after, put-none, put_one, three_words}
+use Rattle.graph.proofs.Writing.{put-after, put-none, put_one_lem, three_words}
 use Rattle.graph.proofs.cut.put_three.Statement.{statement}
 use Rattle.graph.proofs.cut.put_three.Tie as tie
 
@@ -56,7 +56,7 @@ same_length c = search rules
 returns-3 : tie.Need-returns-3
 returns-3 c =
     let a = c.before.before.before.args in
-    ap {B = Put × List ℕ} (λ (l : List ℕ). (record { count = a.p.count + 1; short = 0 }, l)) (three_words a.list.now (a.p.count * 3) a.a a.b a.c (omega arith)) ∙ sym (put_one 3 a.p.count a.list.now (a.a ∷ a.b ∷ a.c ∷ []) a.p.short c.before.if1.false (omega arith))
+    ap {B = Put × List ℕ} (λ (l : List ℕ). (record { count = a.p.count + 1; short = 0 }, l)) (three_words a.list.now (a.p.count * 3) a.a a.b a.c (omega arith)) ∙ sym (put_one_lem 3 a.p.count a.list.now (a.a ∷ a.b ∷ a.c ∷ []) a.p.short c.before.if1.false (omega arith))
 
 pub put-three-spec : {M : Type 1} → statement M
 put-three-spec =

@@ -7,7 +7,7 @@ use lib.Seq.{take-length}
 use borrow.Author.Tests.{not-true, not-false}
 use Rattle.lists.specs.Lists.{rising}
 use Rattle.graph.proofs.Views.{facts, len-view}
-use Rattle.graph.proofs.PushWays.{no_events_lem, not-rising, one_unknown, all_known, unknown-event, too_many_events, far_passed}
+use Rattle.graph.proofs.PushWays.{no_events_lem, not-rising, one_unknown, all_known_lem, unknown-event, too_many_events, far_passed}
 use borrow.Author.Rules.{rules}
 use Rattle.graph.proofs.pushing.push_held.Statement.{statement}
 use Rattle.graph.proofs.pushing.push_held.Tie as tie
@@ -70,7 +70,7 @@ returns-4 c =
     let a = c₇.args in
     let ps = a.parents.now in
     let rises : rising ps ≡ true = ap rising (sym (take-length ps)) ∙ sym c₅.is-rising.ensures ∙ not-false _ c₄.if2.false in
-    let known = all_known a.t1 c₇.requires ps c₃.count-parents.ensures c₂.if3.false in
+    let known = all_known_lem a.t1 c₇.requires ps c₃.count-parents.ensures c₂.if3.false in
     too_many_events a.t1 ps a.len _ (sym (len-view a.t1 c₇.requires)) c₆.if1.false rises known (sym c₁.is-too-far.ensures ∙ c.if4.true)
 
 push-known-requires : tie.Need-push-known-requires
@@ -85,7 +85,7 @@ push-known-requires c κs =
     let a = c₇.args in
     let ps = a.parents.now in
     let rises : rising ps ≡ true = ap rising (sym (take-length ps)) ∙ sym c₅.is-rising.ensures ∙ not-false _ c₄.if2.false in
-    let known = all_known a.t1 c₇.requires ps c₃.count-parents.ensures c₂.if3.false in
+    let known = all_known_lem a.t1 c₇.requires ps c₃.count-parents.ensures c₂.if3.false in
     let some : 0 < a.len = omega (arith, c₆.if1.false) in
     (c₇.requires, (sym (len-view a.t1 c₇.requires), (rises, (known, (some, (far_passed _ _ (sym c₁.is-too-far.ensures ∙ c.if4.false), c₃.count-parents.ensures))))))
 

@@ -1,7 +1,7 @@
 -- `versions::concurrent::put_free` meets its contract: by its flag. Assumes nothing.
 use borrow.Author.Rules.{rules}
 use borrow.Author.Tests.{eq-eqb, ne_eqb}
-use Rattle.graph.proofs.Writing.{put_one}
+use Rattle.graph.proofs.Writing.{put_one_lem}
 use Rattle.versions.proofs.concurrent.put_free.Statement.{statement}
 use Rattle.versions.proofs.concurrent.put_free.Tie as tie
 

@@ -5,7 +5,7 @@ use mathlib.Core.List.{List, [], ◌∷◌}
 use Prim.Native.Nat.{ℕ, ◌+◌}
 use native.Mathlib.Omega.{arith}
 use Rattle.graph.specs.declared.cut.Put.{Put}
-use Rattle.graph.proofs.Writing.{put-after, put-none, put_one, one_word}
+use Rattle.graph.proofs.Writing.{put-after, put-none, put_one_lem, one_word}
 use Rattle.versions.proofs.words.put_one.Statement.{statement}
 use Rattle.versions.proofs.words.put_one.Tie as tie
 
@@ -35,7 +35,7 @@ returns-3 : tie.Need-returns-3
 returns-3 c =
     let a = c.before.before.before.args in
     ap {B = Put × List ℕ} (λ (l : List ℕ). (record { count = a.p.count + 1; short = 0 }, l)) (one_word a.list.now a.p.count a.a (omega arith)) ∙
-    sym (put_one 1 a.p.count a.list.now (a.a ∷ []) a.p.short c.before.if1.false (omega arith))
+    sym (put_one_lem 1 a.p.count a.list.now (a.a ∷ []) a.p.short c.before.if1.false (omega arith))
 
 pub put-one-spec : {M : Type 1} → statement M
 put-one-spec =
