@@ -94,11 +94,18 @@ for new, old in sorted(by_new.items()):
                 while table[n] in taken or [o for o in table if o != n and table[o] == table[n] and n not in specs]:
                     table[n] += "_2"
 
+kept = set()  # behind a dot these are fields or goals
+# A lemma that port.py has given the name that a definition gets here.
+for n, new in sorted(table.items()):
+    if n in specs and new in lemmas and new not in specs and new not in table:
+        table[new] = new + "_lem"
+        kept.add(new)
+
 BEHIND = re.compile(rf"(?:«)?({WORD})(?:»)?")
 
 
 def turn(text):
-    return BEHIND.sub(lambda m: table.get(m[1], m[1]) if m[1] in table else m[0], text)
+    return BEHIND.sub(lambda m: table[m[1]] if m[1] in table and not (m[1] in kept and text[m.start() - 1 : m.start()] == ".") else m[0], text)
 
 
 def turn_antt(text):

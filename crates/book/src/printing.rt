@@ -11,21 +11,21 @@ use model::{EventRunIndex, Outcome, Refusal};
 pub(crate) const MAX_LINE: usize = 64;
 
 // A line: `count` of its bytes are used.
-#[derive(Drop)]
+#[derive(Clone, Copy)]
 pub(crate) struct Line {
     pub(crate) bytes: [u8; MAX_LINE],
     pub(crate) count: usize,
 }
 
 // A number's digits, from place `at` on.
-#[derive(Drop)]
+#[derive(Clone, Copy)]
 pub(crate) struct Digits {
     pub(crate) bytes: [u8; 20],
     pub(crate) at: usize,
 }
 
 // How many bytes of a lent buffer are used, and whether a line did not fit.
-#[derive(Drop)]
+#[derive(Clone, Copy)]
 pub struct Printed {
     pub used: usize,
     pub short: bool,

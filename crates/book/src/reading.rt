@@ -13,7 +13,7 @@ use model::{
 };
 
 // How far the pushes were taken: the graph made so far, and the place of the next push, in words. Once one is refused, `answer` says why.
-#[derive(Drop)]
+#[derive(Clone, Copy)]
 pub(crate) struct Turn {
     pub(crate) graph: CausalGraph,
     pub(crate) at: usize,

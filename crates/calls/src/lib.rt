@@ -178,7 +178,7 @@ pub fn every_list()
 {}
 
 // What two run starts at one event answered, the graph that the later one was given, and the one that it left.
-#[derive(Drop)]
+#[derive(Clone, Copy)]
 pub struct StartedAgain {
     pub first: BoolAnswer,
     pub given: CausalGraph,

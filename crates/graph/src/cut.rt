@@ -7,7 +7,7 @@ ghost use Rattle.graph.specs.Cutting.{blank, put as Cutting·put, written_of, pe
 use model::{CausalGraph, EventRunIndex, Outcome, Refusal, Written};
 
 // How many records were written, and 1 once one did not fit.
-#[derive(Drop)]
+#[derive(Clone, Copy)]
 pub struct Put {
     pub count: usize,
     pub short: usize,
@@ -71,7 +71,7 @@ fn put_linear(list: &mut [u32], p: Put, first: EventRunIndex, end: EventRunIndex
 }
 
 // What was written, and where the Linear begins that is not written yet.
-#[derive(Drop)]
+#[derive(Clone, Copy)]
 pub(crate) struct Cutting {
     pub(crate) put: Put,
     pub(crate) first: EventRunIndex,

@@ -16,7 +16,7 @@ use model::{
 
 // Of a new run's parents so far, in one width: how many entries there are with theirs, and the largest of the first held event and what
 // their runs have seen.
-#[derive(Drop)]
+#[derive(Clone, Copy)]
 pub(crate) struct Own {
     pub(crate) count: u32,
     pub(crate) seen: EventIndex,
@@ -75,7 +75,7 @@ fn one(b: bool) -> usize
 }
 
 // Of some parents: how many are not yet known, how many are held, and how many of these split their run.
-#[derive(Drop)]
+#[derive(Clone, Copy)]
 pub(crate) struct ParentCounts {
     pub(crate) unknown: usize,
     pub(crate) held: usize,

@@ -19,7 +19,7 @@ fn seen_from(s: EventIndex, start: EventIndex, at: EventIndex) -> EventIndex
 }
 
 // What splits change of a record beside its arrays, in one width: the counts of runs and entries, and the first run that may have changed.
-#[derive(Drop)]
+#[derive(Clone, Copy)]
 pub(crate) struct Counts {
     pub(crate) runs: usize,
     pub(crate) entries: usize,

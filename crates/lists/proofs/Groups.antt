@@ -1,5 +1,5 @@
 -- Groups beside their flat form with starts: from the one to the other and back. Assumes nothing.
-use mathlib.Core.Path.{◌≡◌, refl, sym, ap, ◌∙◌}
+use mathlib.Core.Path.{subst, ◌≡◌, refl, sym, ap, ◌∙◌}
 use mathlib.Core.Bool.{true}
 use mathlib.Core.List.{List, [], ◌∷◌, ◌++◌, append_assoc}
 use Prim.Native.Nat.{ℕ, zero, suc, ◌+◌, ◌-◌, ◌≤◌, ◌<◌}
@@ -166,5 +166,5 @@ pub grouped_of : (ss items : List ℕ) → get_or ss 0 0 ≡ 0 → climbs (lengt
 unfolding climbs
 grouped_of [] items z e = false_true e
 grouped_of (s ∷ ts) items z e =
-    let e' : climbs (length items) (0 ∷ ts) ≡ true = rw z at e in
+    let e' : climbs (length items) (0 ∷ ts) ≡ true = subst (λ (x : ℕ). climbs (length items) (x ∷ ts) ≡ true) z e in
     rw z (record { starts = starts-groups items 0 ts e'; items = concat-groups items 0 ts e'; count = ap suc (length-groups 0 ts items) })

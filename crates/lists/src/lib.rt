@@ -194,7 +194,7 @@ pub fn larger(a: u32, b: u32) -> u32
 pub const MAX_KEPT: usize = 512;
 
 // At most MAX_KEPT numbers: `count` of them, then zeros.
-#[derive(Drop)]
+#[derive(Clone, Copy)]
 pub struct Kept {
     pub items: [u32; MAX_KEPT],
     pub count: usize,

@@ -6,7 +6,7 @@ use crate::limits::{MAX_FRONTIER, MAX_RUNS};
 use crate::record::{CausalGraph, EventIndex, EventRunIndex};
 
 // 01, "What a refused call gives": a variant for each row of the table, named by its case.
-#[derive(Drop)]
+#[derive(Clone, Copy)]
 pub enum Refusal {
     Broken,
     NoEvents,
@@ -53,33 +53,33 @@ pub fn number(r: Refusal) -> u32
 }
 
 // Done, or refused.
-#[derive(Drop)]
+#[derive(Clone, Copy)]
 pub enum Outcome {
     Done,
     Refused(Refusal),
 }
 
 // An event; a range of events, first and end, exclusive; a run; where an event lies; a truth.
-#[derive(Drop)]
+#[derive(Clone, Copy)]
 pub enum EventAnswer {
     Event(EventIndex),
     Refused(Refusal),
 }
 
-#[derive(Drop)]
+#[derive(Clone, Copy)]
 pub enum EventsAnswer {
     Events(EventIndex, EventIndex),
     Refused(Refusal),
 }
 
-#[derive(Drop)]
+#[derive(Clone, Copy)]
 pub enum RunAnswer {
     Run(EventRunIndex),
     Refused(Refusal),
 }
 
 // In a run; before the graph; or not yet known.
-#[derive(Drop)]
+#[derive(Clone, Copy)]
 pub enum ContainingAnswer {
     Run(EventRunIndex),
     Before,
@@ -87,42 +87,42 @@ pub enum ContainingAnswer {
     Refused(Refusal),
 }
 
-#[derive(Drop)]
+#[derive(Clone, Copy)]
 pub enum BoolAnswer {
     Told(bool),
     Refused(Refusal),
 }
 
 // The graph that `after` makes; refused, that of `new`.
-#[derive(Drop)]
+#[derive(Clone, Copy)]
 pub struct Made {
     pub graph: CausalGraph,
     pub outcome: Outcome,
 }
 
 // The graph after a push, and the new events.
-#[derive(Drop)]
+#[derive(Clone, Copy)]
 pub struct Pushed {
     pub graph: CausalGraph,
     pub answer: EventsAnswer,
 }
 
 // The graph after a run start, and what was told.
-#[derive(Drop)]
+#[derive(Clone, Copy)]
 pub struct Started {
     pub graph: CausalGraph,
     pub answer: BoolAnswer,
 }
 
 // The graph after a take, and the run taken.
-#[derive(Drop)]
+#[derive(Clone, Copy)]
 pub struct Taken {
     pub graph: CausalGraph,
     pub answer: RunAnswer,
 }
 
 // A run's parents, which are runs: `count` of them, then zeros.
-#[derive(Drop)]
+#[derive(Clone, Copy)]
 pub struct ParentRuns {
     pub runs: [u32; MAX_RUNS],
     pub count: usize,
@@ -130,7 +130,7 @@ pub struct ParentRuns {
 }
 
 // The frontier, which is events: `count` of them, then zeros.
-#[derive(Drop)]
+#[derive(Clone, Copy)]
 pub struct FrontierEvents {
     pub events: [u32; MAX_FRONTIER],
     pub count: usize,
@@ -138,14 +138,14 @@ pub struct FrontierEvents {
 }
 
 // How many whole records were written into a lent list.
-#[derive(Drop)]
+#[derive(Clone, Copy)]
 pub struct Written {
     pub count: usize,
     pub outcome: Outcome,
 }
 
 // How many steps a walk or a full replay wrote, and how many events its written retreats and advances hold.
-#[derive(Drop)]
+#[derive(Clone, Copy)]
 pub struct Walked {
     pub count: u64,
     pub moved: u64,
@@ -153,7 +153,7 @@ pub struct Walked {
 }
 
 // What became of a book: all of it taken; refused; or its push `k` refused.
-#[derive(Drop)]
+#[derive(Clone, Copy)]
 pub enum BookAnswer {
     Whole,
     Refused(Refusal),
@@ -161,7 +161,7 @@ pub enum BookAnswer {
 }
 
 // The graph that a book gives, as far as it was taken.
-#[derive(Drop)]
+#[derive(Clone, Copy)]
 pub struct BookRead {
     pub graph: CausalGraph,
     pub answer: BookAnswer,

@@ -2,15 +2,15 @@
 use crate::limits::{MAX_ENTRIES, MAX_FRONTIER, MAX_RUNS, MAX_STARTS};
 
 // An event's number, in the order in which this replica learned of it.
-#[derive(Drop)]
+#[derive(Clone, Copy)]
 pub struct EventIndex(pub u32);
 
 // A run's position among the graph's runs, which shifts when an earlier run splits.
-#[derive(Drop)]
+#[derive(Clone, Copy)]
 pub struct EventRunIndex(pub u32);
 
 // An event graph: each event's parents, without its operation. Arrays hold bare numbers; every place past a count is 0.
-#[derive(Drop)]
+#[derive(Clone, Copy)]
 pub struct CausalGraph {
     // Events: run i is events starts[i] up to, not including, starts[i + 1].
     pub starts: [u32; MAX_STARTS],

@@ -4,7 +4,7 @@ use crate::record::EventRunIndex;
 
 // A step of a walk or a full replay: the paper's retreat, advance and apply, over runs (first run and end run,
 // exclusive), and 01's Open.
-#[derive(Drop)]
+#[derive(Clone, Copy)]
 pub enum WalkStep {
     Retreat(EventRunIndex, EventRunIndex),
     Advance(EventRunIndex, EventRunIndex),
@@ -13,7 +13,7 @@ pub enum WalkStep {
 }
 
 // What a step reader hands out next.
-#[derive(Drop)]
+#[derive(Clone, Copy)]
 pub enum NextStep {
     Step(WalkStep),
     End,

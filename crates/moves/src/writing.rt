@@ -7,7 +7,7 @@ ghost use Rattle.moves.specs.Stretches.{Below, span_of, stretch_on, stretches};
 use tables::words::get;
 
 // How many steps are written, the events that they move, and 1 once one found no room.
-#[derive(Drop)]
+#[derive(Clone, Copy)]
 pub struct Out {
     pub count: u64,
     pub moved: u64,
@@ -86,7 +86,7 @@ fn put_span(
 }
 
 // A stretch of consecutive runs that is still open, and what is written before it.
-#[derive(Drop)]
+#[derive(Clone, Copy)]
 pub struct Stretch {
     pub out: Out,
     pub first: u64,

@@ -9,7 +9,7 @@ ghost use Rattle.reader.specs.RoundTrip.{RoundTrip};
 use model::{EventRunIndex, NextStep, Refusal, WalkStep};
 
 // What a reader at a place of a written list hands out, and the place where it then stands.
-#[derive(Drop)]
+#[derive(Clone, Copy)]
 pub struct StepAt {
     pub step: NextStep,
     pub at: usize,
@@ -46,7 +46,7 @@ pub fn step_at(words: &[u32], at: usize) -> StepAt
 }
 
 // A reader over a written list, and where it stands in it.
-#[derive(Drop)]
+#[derive(Clone, Copy)]
 pub struct StepReader<'a> {
     pub words: &'a [u32],
     pub at: usize,

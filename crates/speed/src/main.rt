@@ -11,7 +11,7 @@ use model::{CausalGraph, EventsAnswer, MAX_RUNS, MAX_STARTS, Outcome, Written};
 use script::{WORDS, Words};
 
 // Where the pushes stand: the graph, the place of the next word, and 1 if the last push was refused.
-#[derive(Drop)]
+#[derive(Clone, Copy)]
 struct Built {
     graph: CausalGraph,
     at: usize,
@@ -19,7 +19,7 @@ struct Built {
 }
 
 // What is printed: how many steps, pushes, points or parents, the events moved, and 1 if the last call was refused.
-#[derive(Drop)]
+#[derive(Clone, Copy)]
 struct Told {
     count: u64,
     moved: u64,

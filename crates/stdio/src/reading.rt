@@ -6,7 +6,7 @@ ghost use Rattle.stdio.specs.Reads.{got_of, Room, after_read, left_of, filled_of
 use libc::STDIN_FILENO;
 
 // What one read gave: so many bytes, at least one; the end of the input; a failure.
-#[derive(Drop)]
+#[derive(Clone, Copy)]
 pub enum Got {
     Bytes(usize),
     End,
@@ -14,14 +14,14 @@ pub enum Got {
 }
 
 // What filling a buffer gave: so many bytes at its start, all of it or all that the input had; a failure.
-#[derive(Drop)]
+#[derive(Clone, Copy)]
 pub enum Filled {
     Bytes(usize),
     Failed,
 }
 
 // So many bytes came; whether the input ended, whether a read failed.
-#[derive(Drop)]
+#[derive(Clone, Copy)]
 pub struct Reading {
     count: usize,
     ended: bool,

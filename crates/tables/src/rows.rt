@@ -86,7 +86,7 @@ fn wider(n: usize, k: usize) -> usize
 }
 
 // How many chains there are, how much of the row area is used, and 1 once a row found no room.
-#[derive(Drop)]
+#[derive(Clone, Copy)]
 pub struct Area {
     pub chains: usize,
     pub used: usize,

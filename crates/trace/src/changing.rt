@@ -7,7 +7,7 @@ use model::{
 };
 
 // The current graph after a call, and what the line says.
-#[derive(Drop)]
+#[derive(Clone, Copy)]
 pub struct Called {
     pub graph: CausalGraph,
     pub said: Said,

@@ -9,7 +9,7 @@ pub const BYTES: usize = 65536;
 pub type Bytes = [u8; BYTES];
 
 // Where the reading stands: the buffer's bytes from `at` to `end` are still to be read.
-#[derive(Drop)]
+#[derive(Clone, Copy)]
 pub struct Input {
     pub at: usize,
     pub end: usize,

@@ -4,7 +4,7 @@ use crate::words::least;
 use crate::{output, words};
 
 // What a line says: which pattern it has, and the values that the pattern names.
-#[derive(Drop)]
+#[derive(Clone, Copy)]
 pub struct Said {
     pub pattern: u32,
     pub a: u64,

@@ -7,7 +7,7 @@ use crate::{changing, lent, lines, looking, output, reading, script, whole};
 use model::CausalGraph;
 
 // The current graph, and how many bytes of the output buffer are used.
-#[derive(Drop)]
+#[derive(Clone, Copy)]
 pub struct Made {
     pub graph: CausalGraph,
     pub used: usize,

@@ -27,7 +27,7 @@ pub type Rows = [u32; MAX_ROWS];
 pub type Steps = [u32; MAX_STEPS];
 
 // A call's operation, its first argument, and all of its first HEAD words.
-#[derive(Drop)]
+#[derive(Clone, Copy)]
 pub struct Head {
     pub operation: u32,
     pub first: u32,

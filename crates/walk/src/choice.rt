@@ -9,7 +9,7 @@ use tables::distance::{apart, distance, events_of, get_sum};
 use tables::words::{get, long, wide};
 
 // The best so far: its cost, weight and place in the ready list; `found` is 1 once there is one.
-#[derive(Drop)]
+#[derive(Clone, Copy)]
 pub(crate) struct Best {
     pub(crate) cost: u64,
     pub(crate) weight: u64,

@@ -147,7 +147,7 @@ fn wake_range(waiting: &mut [u32], ready: &mut [u32], n: usize, a: u32, e: u32) 
 }
 
 // How many runs are ready after a visit, and how many of the first are left.
-#[derive(Drop)]
+#[derive(Clone, Copy)]
 pub(crate) struct Woken {
     pub(crate) ready: usize,
     pub(crate) left: usize,

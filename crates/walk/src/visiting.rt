@@ -22,7 +22,7 @@ use tables::versions;
 use tables::words::{get, wide};
 
 // How far a walk is: what is written, how many runs are ready, how many of the first are left, and the last run visited plus 1.
-#[derive(Drop)]
+#[derive(Clone, Copy)]
 pub(crate) struct Progress {
     pub(crate) count: u64,
     pub(crate) moved: u64,

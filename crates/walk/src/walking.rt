@@ -19,7 +19,7 @@ use tables::tabling;
 use tables::words::wide;
 
 // What a range came to: what is written, and 1 in `rows` if its rows were too long.
-#[derive(Drop)]
+#[derive(Clone, Copy)]
 pub(crate) struct Ranged {
     pub(crate) count: u64,
     pub(crate) moved: u64,

@@ -2,12 +2,8 @@
 use mathlib.Core.Path.{refl}
 use Rattle.lists.specs.Areas.{pad}
 use Rattle.lists.specs.Scans.{kept_in}
-use Rattle.lists.proofs.nothing.Statement.{statement}
-use Rattle.lists.proofs.nothing.Tie as tie
+use Rattle.lists.proofs.nothing.Goals as goal
 
-returns : tie.Need-returns
+pub returns : goal.returns
 unfolding kept_in pad
 returns c = refl
-
-pub nothing-spec : {M : Type 1} → statement M
-nothing-spec = tie.close (tie.spec returns)
