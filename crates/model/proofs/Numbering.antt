@@ -199,12 +199,12 @@ next-again (Given s) = given-again s
 next-again End = refl
 next-again (RefusedStep r) = ap (λ (o : Outcome). elim o as (λ _. NextStep) [ Done ↦ End | Refused x ↦ RefusedStep x ]) (refused_again r)
 
-step_words : (s : Step) → step_numbers (as_step s) ≡ step_words s
+step_words_lem : (s : Step) → step_numbers (as_step s) ≡ step_words s
 unfolding step_numbers as_step step_words
-step_words (retreat a b) = refl
-step_words (advance a b) = refl
-step_words (opened a b) = refl
-step_words (apply r) = refl
+step_words_lem (retreat a b) = refl
+step_words_lem (advance a b) = refl
+step_words_lem (opened a b) = refl
+step_words_lem (apply r) = refl
 
 pub numbered : Numbered
 numbered = record {
@@ -219,5 +219,5 @@ numbered = record {
   book = apart book_numbers book_again book-again;
   step = apart step_numbers step_again step-again;
   next = apart next_numbers next_again next-again;
-  step_words = step_words;
+  step_words = step_words_lem;
 }
