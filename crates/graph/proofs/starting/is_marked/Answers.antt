@@ -1,0 +1,17 @@
+-- `graph::starting::is_marked` meets its contract: a run is among the marks exactly if it is marked. Assumes nothing.
+use mathlib.Core.Path.{◌∙◌}
+use native.Mathlib.Omega.{arith}
+use Rattle.graph.proofs.Views.{facts}
+use Rattle.graph.proofs.StartWays.{marked-mem}
+use Rattle.graph.proofs.starting.is_marked.Goals as goal
+
+pub is_among-requires : goal.is_among-requires
+is_among-requires c =
+    let f = facts c.args.g c.requires.held in
+    omega (arith, f.marked, f.sized.critical_versions)
+
+pub returns : goal.returns
+returns c =
+    let p = c.requires in
+    let a = c.args in
+    c.is_among.ensures ∙ marked-mem a.g p.held a.run.0 p.run_bound
