@@ -1,8 +1,7 @@
 -- What ran is what demand 3's claim speaks of. Assumes nothing.
 use mathlib.Core.Path.{◌≡◌, refl, sym, ap, ◌∙◌, subst}
-use mathlib.Core.Bool.{false}
 use mathlib.Core.List.{List}
-use Prim.Native.Nat.{ℕ, ◌≤◌}
+use Prim.Native.Nat.{ℕ}
 use lib.ListN.{length, take}
 use Rattle.lists.proofs.Pads.{take-over}
 use Rattle.model.specs.declared.record.CausalGraph.{CausalGraph}

@@ -23,7 +23,7 @@ use Rattle.lists.proofs.Groups.{length_group_starts, group_start-low}
 use Rattle.lists.proofs.Inserts.{insert-length}
 use Rattle.lists.proofs.Inserting.{insert_keep, insert_area, starts-insert, items-insert}
 use Rattle.model.specs.declared.record.CausalGraph.{CausalGraph}
-use Rattle.model.specs.Graph.{runs, start, entries, marks}
+use Rattle.model.specs.Graph.{runs, entries, marks}
 use Rattle.model.specs.Record.{view, store}
 use Rattle.model.specs.Broken.{Held}
 use Rattle.model.specs.Split.{renumber, second_seen, split}

@@ -14,7 +14,7 @@ use Rattle.lists.proofs.Truth.{false_true, and_left, and_right}
 use Rattle.lists.proofs.Rising.{rising_tail, rising_above}
 use Rattle.lists.proofs.Counts.{count_same}
 use Rattle.model.specs.declared.record.CausalGraph.{CausalGraph}
-use Rattle.model.specs.Graph.{Graph, runs, start, first_held, len, entries, containing, side, is_held, held}
+use Rattle.model.specs.Graph.{Graph, runs, start, first_held, len, containing, side, is_held, held}
 use Rattle.model.specs.Record.{view, store}
 use Rattle.model.specs.Broken.{WellFormed, WithinLimits, Held}
 use Rattle.model.specs.Split.{split, ends, split_after, splits}

@@ -14,7 +14,7 @@ use Rattle.lists.specs.Scans.{last_at_most}
 use Rattle.lists.proofs.Pads.{take-pad}
 use Rattle.lists.proofs.Scanning.{last_step, last-count}
 use Rattle.model.specs.declared.record.CausalGraph.{CausalGraph}
-use Rattle.model.specs.Graph.{runs, start, first_held, len, entries, containing, marked, marks}
+use Rattle.model.specs.Graph.{runs, start, first_held, len, entries, containing, marks}
 use Rattle.model.specs.Record.{view, store, Sized}
 use Rattle.model.specs.Broken.{Held}
 use Rattle.model.proofs.Stored.{sized_held, marks-length}

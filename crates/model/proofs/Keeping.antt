@@ -9,7 +9,7 @@ use native.Mathlib.Omega.{arith}
 use lib.ListN.{length, get_or, get_or-eq_default}
 use lib.Dec.{leb, ltb, eqb}
 use borrow.Author.Tests.{ltb-true, leb-true, eqb-true, lt-ltb, le-ltb, le-leb, eq-eqb, ne_eqb}
-use Rattle.lists.specs.Lists.{mem, count, below}
+use Rattle.lists.specs.Lists.{mem, count}
 use Rattle.lists.proofs.Truth.{lt_or_le, false_true, bool_iff}
 use Rattle.lists.proofs.Members.{mem_index, get_d_mem, mem-filter}
 use Rattle.lists.proofs.Counts.{count_le}

@@ -1,14 +1,13 @@
 -- What a range's steps come to is what the definitions answer of a walk. Assumes nothing.
-use mathlib.Core.Path.{◌≡◌, refl, sym, ap, ap₂, ◌∙◌}
+use mathlib.Core.Path.{◌≡◌, refl, sym, ap, ◌∙◌}
 use mathlib.Core.Bool.{Bool, true, false, cond}
-use mathlib.Core.List.{List, [], ◌∷◌, ◌++◌}
-use Prim.Native.Nat.{ℕ, ◌+◌, ◌-◌, ◌*◌, ◌/◌}
+use mathlib.Core.List.{List}
+use Prim.Native.Nat.{ℕ, ◌/◌}
 use lib.ListN.{length, take}
-use lib.Dec.{ltb, eqb}
+use lib.Dec.{ltb}
 use Rattle.lists.specs.Lists.{bit}
 use Rattle.lists.specs.Areas.{over}
 use Rattle.lists.proofs.Truth.{false_true}
-use Rattle.model.specs.declared.answers.Walked.{Walked}
 use Rattle.model.specs.declared.answers.Refusal.TheVariants.{RowsTooLong, ListTooShort}
 use Rattle.model.specs.declared.answers.Outcome.{Outcome}
 use Rattle.model.specs.declared.answers.Outcome.TheVariants.{Done, Refused}
@@ -21,7 +20,6 @@ use Rattle.moves.specs.Emit.{Writing, emit}
 use Rattle.moves.specs.Moves.{recs}
 use Rattle.moves.proofs.Closing.{going}
 use Rattle.moves.proofs.Written.{written_is}
-use Rattle.walk.specs.declared.walking.Ranged.{Ranged}
 use Rattle.walk.specs.Walked.{State, ranged, walked_in, outcome_of, walked_of, result_of}
 
 -- What is written of some steps: the list, how many, the events moved, whether all

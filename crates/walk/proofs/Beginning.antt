@@ -1,15 +1,14 @@
 -- What a walk's start needs of its tables, and that it then begins. Assumes nothing.
-use mathlib.Core.Path.{◌≡◌, refl, sym, ap, ◌∙◌}
+use mathlib.Core.Path.{◌≡◌, refl, ap, ◌∙◌}
 use mathlib.Core.List.{List}
 use Prim.Native.Nat.{ℕ, ◌+◌, ◌-◌, ◌*◌, ◌≤◌, ◌<◌, ◌^◌}
 use native.Mathlib.Omega.{arith}
-use lib.ListN.{length, get_or, take, drop, length-drop, length-take}
+use lib.ListN.{length, get_or, take, drop, length-take}
 use Rattle.model.specs.History.{histories}
-use Rattle.tables.specs.Laid.{heads_in, items_in, grouped, Sound}
-use Rattle.tables.specs.Reached.{started, Holds, Standing}
+use Rattle.tables.specs.Laid.{grouped, Sound}
+use Rattle.tables.specs.Reached.{started, Standing}
 use Rattle.tables.proofs.Chaining.{chs-few}
 use Rattle.tables.proofs.Reaching.{chain_fits, place-fits}
-use Rattle.walk.specs.declared.visiting.Progress.{Progress}
 use Rattle.walk.specs.Readiness.{start_all}
 use Rattle.walk.specs.Turns.{Given, chains_in, places_in, parents_for, chains_for, Prepared, Begun}
 use Rattle.walk.proofs.Looping.{size, below}

@@ -1,28 +1,28 @@
 -- The walk's loop over the tables of its range: what a visit needs, and what it leaves. Assumes nothing.
 use mathlib.Core.Path.{◌≡◌, refl, sym, ap, ap₂, ◌∙◌, subst}
 use mathlib.Core.Logic.{◌⊎◌, inl, inr}
-use mathlib.Core.Bool.{Bool, true, false, not}
+use mathlib.Core.Bool.{true, not}
 use mathlib.Core.List.{List, [], ◌∷◌, ◌++◌}
 use mathlib.Core.Option.{Option, none, some}
-use Prim.Native.Nat.{ℕ, zero, suc, ◌+◌, ◌-◌, ◌*◌, ◌≤◌, ◌<◌, ◌^◌, min, max}
+use Prim.Native.Nat.{ℕ, suc, ◌+◌, ◌-◌, ◌*◌, ◌≤◌, ◌<◌, ◌^◌, min, max}
 use native.Mathlib.Nat.{suc-mul}
 use native.Mathlib.Omega.{arith}
 use lib.ListN.{length, get_or, take}
 use lib.Seq.{get_or-take}
 use lib.Dec.{eqb}
 use borrow.Author.Tests.{eq-eqb, ne_eqb, eqb-true}
-use Rattle.lists.specs.Lists.{mem, rising, filter, upto, reverse}
+use Rattle.lists.specs.Lists.{mem, filter, upto, reverse}
 use Rattle.lists.specs.Areas.{part}
 use Rattle.lists.proofs.Truth.{false_true, or_cases}
 use Rattle.lists.proofs.Each.{All, members, all_map, all_take, all-reverse}
 use Rattle.lists.proofs.Members.{get_d_mem}
 use Rattle.model.specs.History.{at, histories}
 use Rattle.model.specs.Choice.{Range, is_ready, is_last, newly_ready, apart, choice}
-use Rattle.model.specs.Steps.{Step, visit, visits, steps_of}
+use Rattle.model.specs.Steps.{Step, visit, steps_of}
 use Rattle.model.proofs.Histories.{Below, history-length}
 use Rattle.model.proofs.Choosing.{ready_after}
-use Rattle.tables.specs.Laid.{heads_in, items_in, grouped, Sound, chs, chain_of, place_of, row_at}
-use Rattle.tables.specs.Tables.{Listed, Sums, Children, Reaches, children_of}
+use Rattle.tables.specs.Laid.{heads_in, items_in, chs}
+use Rattle.tables.specs.Tables.{Reaches, children_of}
 use Rattle.tables.specs.Gaps.{gaps_from}
 use Rattle.tables.specs.Sizes.{row_in}
 use Rattle.tables.specs.Reached.{started, arrived, Holds}
@@ -32,23 +32,21 @@ use Rattle.tables.proofs.RowsIn.{row-reaches}
 use Rattle.tables.proofs.Reaching.{arrive_reaches, chain_fits, place-fits, start-reaches}
 use Rattle.tables.proofs.ClosedSets.{Closed, closed_falls, history-closed, visited_closed, first-closed}
 use Rattle.tables.proofs.Distances.{distance_is}
-use Rattle.moves.specs.declared.writing.Out.{Out}
 use Rattle.moves.specs.Emit.{Writing, emit}
-use Rattle.moves.specs.Moves.{recs, visit_of, Inside}
+use Rattle.moves.specs.Moves.{recs, visit_of}
 use Rattle.moves.proofs.Written.{emit_then}
 use Rattle.moves.proofs.Defined.{inside, visit-is}
-use Rattle.walk.specs.declared.visiting.Progress.{Progress}
-use Rattle.walk.specs.Ranges.{range_by, offsets}
-use Rattle.walk.specs.Choose.{only_c, cost_c, weight_c, scan_c, start, Tabled, AllTabled}
+use Rattle.walk.specs.Ranges.{range_by}
+use Rattle.walk.specs.Choose.{only_c, cost_c, weight_c, Tabled}
 use Rattle.walk.specs.Readiness.{start_all, woken_of, taken_out}
-use Rattle.walk.specs.Turns.{Given, row_starts, chains_in, places_in, begins_in, members_in, child_starts, weights_in, sums_in, row_for, children_for, Turn}
+use Rattle.walk.specs.Turns.{Given, row_starts, chains_in, places_in, begins_in, members_in, weights_in, sums_in, row_for, children_for, Turn}
 use Rattle.walk.specs.Turns.{out_in, best_by, best_in, run_at, Turned, Fit, parents_for, range_for, chains_for, Prepared, Begun}
 use Rattle.walk.proofs.OnlyParent.{only-some, only_none}
 use Rattle.walk.proofs.Newest.{newest}
 use Rattle.walk.proofs.Chosen.{found_some, choice_found}
 use Rattle.walk.proofs.Distinct.{Once, rising-once}
 use Rattle.walk.proofs.Waiting.{left_of, left-start}
-use Rattle.walk.proofs.Telling.{Tells, told_list, told-few, told_none, left-told}
+use Rattle.walk.proofs.Telling.{Tells, told_list, told_none, left-told}
 use Rattle.walk.proofs.Removing.{taken_tells, turn_tells}
 use Rattle.walk.proofs.Starting.{length-grouped, group_of, start_tells}
 use Rattle.walk.proofs.Turning.{Walking, walk_start, walk_end, walk_next, is-ready, fewer_due}

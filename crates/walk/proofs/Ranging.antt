@@ -2,17 +2,16 @@
 use mathlib.Core.Path.{◌≡◌, refl, sym, ap, ap₂, ◌∙◌, subst}
 use mathlib.Core.Logic.{◌⊎◌, inl, inr}
 use mathlib.Core.Bool.{Bool, true, false, cond}
-use mathlib.Core.List.{List, [], ◌∷◌, ◌++◌, map, append_assoc, append-nil, map-append}
-use Prim.Native.Nat.{ℕ, zero, suc, ◌+◌, ◌-◌, ◌/◌, ◌≤◌, ◌<◌}
-use native.Mathlib.Numerals.{add-one}
+use mathlib.Core.List.{List, [], ◌∷◌, ◌++◌, map, append_assoc, append-nil}
+use Prim.Native.Nat.{ℕ, zero, suc, ◌-◌, ◌/◌, ◌≤◌, ◌<◌}
 use native.Mathlib.Omega.{arith}
-use lib.ListN.{length, take, drop, length-append, length-take}
+use lib.ListN.{length, take, length-append}
 use lib.Seq.{take-nil}
 use lib.Dec.{ltb, eqb}
-use borrow.Author.Tests.{lt-ltb, le-ltb, eq-eqb, ne_eqb, eqb-true, eqb-false, ltb-true, ltb-false}
+use borrow.Author.Tests.{lt-ltb, le-ltb, eq-eqb, ne_eqb}
 use Rattle.lists.specs.Lists.{bit, from}
 use Rattle.lists.specs.Areas.{over}
-use Rattle.lists.proofs.Truth.{lt_or_le, eq_or-not, false_true}
+use Rattle.lists.proofs.Truth.{lt_or_le, eq_or-not}
 use Rattle.model.specs.declared.answers.Refusal.{Refusal}
 use Rattle.model.specs.declared.answers.Refusal.TheVariants.{RowsTooLong, ListTooShort}
 use Rattle.model.specs.declared.answers.Outcome.{Outcome}
@@ -23,13 +22,11 @@ use Rattle.model.specs.Choice.{Range, range_of}
 use Rattle.model.specs.Steps.{Step, opened, apply, steps_of, words, moved_in}
 use Rattle.model.specs.Walk.{rows_into, rows_too_long}
 use Rattle.model.specs.Replay.{Replayed, replay_range, replay_ranges}
-use Rattle.moves.specs.declared.writing.Out.{Out}
-use Rattle.moves.specs.Emit.{Writing, Rec, step_of, emit, emit_one, applies}
-use Rattle.moves.specs.Moves.{rec_of, recs}
+use Rattle.moves.specs.Emit.{Writing, step_of, emit, emit_one, applies}
+use Rattle.moves.specs.Moves.{recs}
 use Rattle.moves.proofs.Closing.{going}
 use Rattle.moves.proofs.Written.{emit_then, open_is, applies_are}
-use Rattle.walk.specs.declared.walking.Ranged.{Ranged}
-use Rattle.walk.specs.Walked.{State, ranged, out_of, walked_in, outcome_of, opening, open_of, replay_on, replay_all}
+use Rattle.walk.specs.Walked.{State, ranged, out_of, outcome_of, opening, open_of, replay_on, replay_all}
 use Rattle.walk.proofs.Answering.{written-parts, walked-rows, walked-steps, outcome_rows, outcome_list}
 
 -- The cases of the definition

@@ -1,5 +1,5 @@
 -- One visit by its parts: what each asks, and what they leave together. Assumes nothing.
-use mathlib.Core.Path.{◌≡◌, refl, sym, ap, ◌∙◌, subst}
+use mathlib.Core.Path.{◌≡◌, sym, ap, ◌∙◌, subst}
 use mathlib.Core.List.{List}
 use Prim.Native.Nat.{ℕ, ◌+◌, ◌-◌, ◌*◌, ◌≤◌, ◌<◌, ◌^◌}
 use native.Mathlib.Omega.{arith}
@@ -10,9 +10,8 @@ use Rattle.tables.specs.Laid.{heads_in, items_in}
 use Rattle.tables.specs.Sizes.{Bounded, row_in}
 use Rattle.tables.specs.Reached.{arrived, Holds}
 use Rattle.moves.specs.declared.writing.Out.{Out}
-use Rattle.moves.specs.Emit.{Writing, emit}
+use Rattle.moves.specs.Emit.{emit}
 use Rattle.moves.specs.Moves.{visit_of}
-use Rattle.walk.specs.declared.visiting.Progress.{Progress}
 use Rattle.walk.specs.Choose.{AllTabled}
 use Rattle.walk.specs.Readiness.{woken_of, left_after, taken_out}
 use Rattle.walk.specs.Turns.{Given, row_starts, chains_in, places_in, begins_in, members_in, child_starts, sums_in, row_for, children_for, Turn}

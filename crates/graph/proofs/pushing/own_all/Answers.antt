@@ -4,7 +4,6 @@ use mathlib.Core.Path.{refl, sym, ◌∙◌, ap}
 use Prim.Native.Nat.{◌+◌}
 use native.Mathlib.Omega.{arith}
 use lib.ListN.{length, drop, get_or}
-use Rattle.lists.specs.Lists.{count}
 use Rattle.lists.proofs.Counts.{count_next}
 use Rattle.model.specs.Graph.{is_held}
 use Rattle.graph.specs.Loops.{side_in, own_all}

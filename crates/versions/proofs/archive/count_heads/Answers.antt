@@ -1,5 +1,4 @@
 -- `versions::archive::count_heads` meets its contract. The loop's invariant: the count with those left is the whole. The measure is what is left of the part. Assumes nothing.
-use mathlib.Core.Bool.{true}
 use native.Mathlib.Omega.{arith}
 use lib.ListN.{length}
 use Rattle.versions.specs.Heads.{is_head}

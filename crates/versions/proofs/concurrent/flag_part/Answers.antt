@@ -1,6 +1,5 @@
 -- `versions::concurrent::flag_part` meets its contract. The loop's invariant: what is left, flagged from here, is the whole. The measure is what is left of the part. Assumes nothing.
 use mathlib.Core.Path.{refl, ◌∙◌}
-use mathlib.Core.Bool.{true}
 use native.Mathlib.Omega.{arith}
 use lib.ListN.{length, length-set}
 use Rattle.versions.proofs.Passes.{part_here, part-later, flag_next, flag_none}

@@ -1,6 +1,5 @@
 -- `versions::ranges::all_clear` meets its contract. The loop's invariant: the runs so far are clear, and the place is not past the next start's. The measure is what is left of `n`. Assumes nothing.
 use mathlib.Core.Path.{◌≡◌, sym, ◌∙◌, ap}
-use mathlib.Core.Bool.{true}
 use Prim.Native.Nat.{ℕ}
 use native.Mathlib.Omega.{arith}
 use borrow.Author.Tests.{not-true, not-false}

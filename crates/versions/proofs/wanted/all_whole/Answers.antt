@@ -1,6 +1,5 @@
 -- `versions::wanted::all_whole` meets its contract. The loop's invariant: the runs so far pass. The measure is what is left of `n`. Assumes nothing.
 use mathlib.Core.Path.{◌≡◌, sym, ◌∙◌, ap}
-use mathlib.Core.Bool.{true}
 use Prim.Native.Nat.{ℕ}
 use native.Mathlib.Numerals.{add-one}
 use native.Mathlib.Omega.{arith}
