@@ -3,4 +3,3 @@ pub mod Reading
 pub mod Making
 pub mod Covering
 pub mod Again
-pub mod Local

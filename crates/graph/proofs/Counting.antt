@@ -1,4 +1,5 @@
 -- A push's parents counted by where they lie: one more, and the loop over all. Assumes nothing.
+use mathlib.Core.Logic.{◌⊎◌}
 use mathlib.Core.Path.{◌≡◌, sym, ap, ◌∙◌}
 use mathlib.Core.Bool.{Bool, false, not}
 use mathlib.Core.List.{List, [], ◌∷◌}
@@ -7,14 +8,12 @@ use native.Mathlib.Nat.{zero-add}
 use native.Mathlib.Omega.{arith}
 use lib.ListN.{length, drop, get_or}
 use lib.Dec.{eqb}
-use denote.Enum.Declared.{tag_of}
-use types.Run.{OneOf}
 use Rattle.lists.specs.Lists.{bit, count}
 use Rattle.lists.proofs.Truth.{bit_le}
 use Rattle.lists.proofs.Counts.{count_next, count_end}
 use Rattle.model.specs.declared.answers.ContainingAnswer.{ContainingAnswer}
-use Rattle.model.specs.declared.answers.ContainingAnswer.TheVariants.{Unknown}
-use Rattle.model.specs.contracts.answers.ContainingAnswer.{the_type}
+use Rattle.model.specs.declared.answers.ContainingAnswer.TheVariants.{Before, Unknown, Refused as RefusedContaining}
+use Rattle.model.specs.declared.answers.Refusal.{Refusal}
 use Rattle.model.specs.declared.answers.Outcome.TheVariants.{Done}
 use Rattle.model.specs.Answers.{containing_or}
 use Rattle.model.specs.Graph.{Side, in_run, before, unknown, is_held, is_known}
@@ -54,7 +53,7 @@ module _ (xs : List ℕ) (n : ℕ) (t : ParentCounts) (p : ℕ) where
       ∙ is-counted unknown false s (needs_not xs n p (ap is_held s))
 
   -- before the graph
-  pub count-before : {a : ContainingAnswer} → a ≡ containing_or Done (side_in xs n p) → OneOf (1 ∷ 3 ∷ []) (tag_of the_type a) → t ≡ count_parent xs n t p
+  pub count-before : {a : ContainingAnswer} → a ≡ containing_or Done (side_in xs n p) → (a ≡ Before) ⊎ ((x : Refusal) × (a ≡ RefusedContaining x)) → t ≡ count_parent xs n t p
   unfolding is_held is_known
   count-before e o =
       let s = told-before (side_in xs n p) e o in

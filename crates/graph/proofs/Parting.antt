@@ -56,7 +56,7 @@ unfolding insert_at
 rows_split k i r [] h q e = absurd (omega arith)
 rows_split k zero r (ps ∷ pss) h q e =
     let w = parents-first k ps pss e in
-    rw (row_stays r k ps (omega arith) w.1, renumber-is r)
+    rw (row_stays r k ps (omega arith) w.1) (ap (λ (f : ℕ → ℕ). ps ∷ (r ∷ []) ∷ map (map f) pss) (renumber-is r))
 rows_split k (suc i) r (ps ∷ pss) h q e =
     let w = parents-first k ps pss e in
     rw (row_stays r k ps (omega arith) w.1) (ap (λ (l : List (List ℕ)). ps ∷ l) (rows_split (suc k) i r pss (omega arith) (omega arith) w.2))

@@ -7,14 +7,12 @@ use Prim.Native.Nat.{ℕ, zero, suc, ◌-◌, ◌≤◌, ◌<◌}
 use native.Mathlib.Omega.{arith}
 use lib.ListN.{get_or}
 use lib.Dec.{leb}
-use denote.Enum.Declared.{tag_of}
-use types.Run.{OneOf}
 use Rattle.lists.specs.Scans.{last_at_most}
 use Rattle.lists.proofs.Truth.{lt_or_le}
 use Rattle.model.specs.declared.record.CausalGraph.{CausalGraph}
 use Rattle.model.specs.declared.record.EventRunIndex.{EventRunIndex}
 use Rattle.model.specs.declared.answers.ContainingAnswer.{ContainingAnswer}
-use Rattle.model.specs.contracts.answers.ContainingAnswer.{the_type}
+use Rattle.model.specs.declared.answers.Refusal.{Refusal}
 use Rattle.model.specs.declared.answers.ContainingAnswer.TheVariants.{Run, Before, Unknown, Refused as RefusedContaining}
 use Rattle.model.specs.declared.answers.Outcome.TheVariants.{Done}
 use Rattle.model.specs.Answers.{containing_or}
@@ -90,26 +88,18 @@ told-unknown unknown q = refl
 pub found : (xs : List ℕ) (n e : ℕ) {a : ContainingAnswer} (r : EventRunIndex) → a ≡ containing_or Done (side_in xs n e) → a ≡ Run r → Found xs n e r.0
 found xs n e r q t = found_in xs n e r.0 (told-run (side_in xs n e) r (sym q ∙ t))
 
-pub told-out : (s : Side) {a : ContainingAnswer} → a ≡ containing_or Done s → OneOf (1 ∷ 2 ∷ 3 ∷ []) (tag_of the_type a) → is_held s ≡ false
+pub told-out : (s : Side) {a : ContainingAnswer} → a ≡ containing_or Done s → ((x : EventRunIndex) → a ≡ Run x → ⊥) → is_held s ≡ false
 unfolding is_held
-told-out s {a} q o = go s (subst (λ (x : ContainingAnswer). OneOf (1 ∷ 2 ∷ 3 ∷ []) (tag_of the_type x)) q o)
-  where
-    go : (s : Side) → OneOf (1 ∷ 2 ∷ 3 ∷ []) (tag_of the_type (containing_or Done s)) → is_held s ≡ false
-    go (in_run r) (inl z) = absurd (omega arith)
-    go (in_run r) (inr (inl z)) = absurd (omega arith)
-    go (in_run r) (inr (inr z)) = absurd (omega arith)
-    go before z = refl
-    go unknown z = refl
+told-out (in_run r) q o = absurd (o (record { 0 = r }) q)
+told-out before q o = refl
+told-out unknown q o = refl
 
-pub told-before : (s : Side) {a : ContainingAnswer} → a ≡ containing_or Done s → OneOf (1 ∷ 3 ∷ []) (tag_of the_type a) → s ≡ before
-told-before s {a} q o = go s (subst (λ (x : ContainingAnswer). OneOf (1 ∷ 3 ∷ []) (tag_of the_type x)) q o)
-  where
-    go : (s : Side) → OneOf (1 ∷ 3 ∷ []) (tag_of the_type (containing_or Done s)) → s ≡ before
-    go (in_run r) (inl z) = absurd (omega arith)
-    go (in_run r) (inr z) = absurd (omega arith)
-    go before z = refl
-    go unknown (inl z) = absurd (omega arith)
-    go unknown (inr z) = absurd (omega arith)
+pub told-before : (s : Side) {a : ContainingAnswer} → a ≡ containing_or Done s → (a ≡ Before) ⊎ ((x : Refusal) × (a ≡ RefusedContaining x)) → s ≡ before
+told-before (in_run r) q (inl z) = absurd (let w : ◌≡◌ {A = ℕ} 0 1 = cc in omega arith)
+told-before (in_run r) q (inr z) = absurd (let e = z.1 in let w : ◌≡◌ {A = ℕ} 0 1 = cc in omega arith)
+told-before before q o = refl
+told-before unknown q (inl z) = absurd (let w : ◌≡◌ {A = ℕ} 0 1 = cc in omega arith)
+told-before unknown q (inr z) = absurd (let e = z.1 in let w : ◌≡◌ {A = ℕ} 0 1 = cc in omega arith)
 
 -- The side by the arrays of a record that is held is the graph's
 pub side-view : (g : CausalGraph) → Held g → (e : ℕ) → side_in g.starts g.run_count e ≡ side (view g) e

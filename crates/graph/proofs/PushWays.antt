@@ -125,17 +125,24 @@ pub record Known (g : CausalGraph) (ps : List ℕ) (n start : ℕ) (c : ParentCo
   pub counted : c ≡ count_parents g.starts g.run_count ps
 
 pub known_of : (g : CausalGraph) (ps : List ℕ) (n start : ℕ) (c : ParentCounts) →
-    Held g × ((start ≡ len (view g)) × ((rising ps ≡ true) × ((all_known (view g) ps ≡ true) × ((0 < n) × ((start + n < 2 ^ 32) ×
-    (c ≡ count_parents g.starts g.run_count ps)))))) →
+    record {
+      held : Held g;
+      start_value : start ≡ len (view g);
+      ps_value : rising ps ≡ true;
+      ps_value_2 : all_known (view g) ps ≡ true;
+      n_nonzero : 0 < n;
+      n_bound : start + n < 2 ^ 32;
+      counts_value : c ≡ count_parents g.starts g.run_count ps;
+    } →
     Known g ps n start c
 known_of g ps n start c p = record {
-  holds = p.0;
-  at_end = p.1.0;
-  rises = p.1.1.0;
-  known = p.1.1.1.0;
-  some = p.1.1.1.1.0;
-  events = p.1.1.1.1.1.0;
-  counted = p.1.1.1.1.1.1;
+  holds = p.held;
+  at_end = p.start_value;
+  rises = p.ps_value;
+  known = p.ps_value_2;
+  some = p.n_nonzero;
+  events = p.n_bound;
+  counted = p.counts_value;
 }
 
 module _ {g : CausalGraph} {ps : List ℕ} {n start : ℕ} {c : ParentCounts} (k : Known g ps n start c) where

@@ -2,13 +2,12 @@
 use mathlib.Core.Path.{◌≡◌, refl, sym, ap, ◌∙◌}
 use mathlib.Core.Bool.{Bool, true, false, not, cond, ◌&&◌}
 use mathlib.Core.List.{List, [], ◌∷◌}
-use Prim.Native.Nat.{ℕ, zero, suc, ◌+◌, ◌-◌, ◌≤◌, ◌<◌}
+use Prim.Native.Nat.{ℕ, suc, ◌+◌, ◌-◌, ◌≤◌, ◌<◌}
 use native.Mathlib.Omega.{arith}
 use lib.ListN.{length, get_or, take, drop, length-take, length-drop}
 use lib.Seq.{get_or-take, get_or-drop, ext_get_or, drop-nil}
 use Rattle.lists.specs.Lists.{bit, filter, count}
 use Rattle.lists.specs.Areas.{part}
-use Rattle.lists.proofs.Truth.{false_true}
 use Rattle.tables.proofs.Prefixes.{Falls, none_after, tail}
 
 -- Two prefixes: what the longer has more

@@ -1,11 +1,11 @@
 -- The round trip: every list of steps, walk and full replay reads back, and 16 leaves the reader where it stands. Assumes nothing.
 use mathlib.Core.Path.{◌≡◌, refl, sym, ap, ◌∙◌}
 use mathlib.Core.Bool.{Bool, true, false}
-use mathlib.Core.List.{List, [], ◌∷◌, map}
-use mathlib.Core.Option.{Option, none, some}
-use Prim.Native.Nat.{ℕ, ◌+◌, ◌*◌, ◌/◌}
+use mathlib.Core.List.{List, [], map}
+use mathlib.Core.Option.{none, some}
+use Prim.Native.Nat.{ℕ, ◌*◌, ◌/◌}
 use native.Mathlib.Omega.{arith}
-use lib.ListN.{length, take, drop}
+use lib.ListN.{length, take}
 use Rattle.lists.specs.Lists.{concat}
 use Rattle.lists.specs.Areas.{over}
 use Rattle.lists.proofs.Pads.{take-over}
@@ -14,8 +14,7 @@ use Rattle.model.specs.declared.answers.Outcome.{Outcome}
 use Rattle.model.specs.declared.answers.Outcome.TheVariants.{Done, Refused as Not}
 use Rattle.model.specs.declared.answers.Refusal.{Refusal}
 use Rattle.model.specs.declared.answers.Refusal.TheVariants.{Broken, RowsTooLong, UnknownKind}
-use Rattle.model.specs.declared.steps.NextStep.{NextStep}
-use Rattle.model.specs.declared.steps.NextStep.TheVariants.{Step as Given, End, Refused}
+use Rattle.model.specs.declared.steps.NextStep.TheVariants.{End, Refused}
 use Rattle.model.specs.Graph.{Graph}
 use Rattle.model.specs.Record.{view}
 use Rattle.model.specs.Broken.{broken}
@@ -24,7 +23,7 @@ use Rattle.model.specs.Steps.{Step, steps_of, words}
 use Rattle.model.specs.Walk.{WalkResult, wrote, unwalked, rows_into, rows_too_long, list_outcome, range_outcome, walk_range, walk_of}
 use Rattle.model.specs.Cut.{cut_from}
 use Rattle.model.specs.Replay.{Replayed, replay_ranges, replay_of}
-use Rattle.model.specs.Reader.{decoded, said, as_step, next_of}
+use Rattle.model.specs.Reader.{said, as_step}
 use Rattle.model.proofs.Reading.{words-length, said-words, reads_back}
 use Rattle.reader.specs.declared.StepReader.{StepReader}
 use Rattle.reader.specs.Reading.{next_from, handed, read_all}

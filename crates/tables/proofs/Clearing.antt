@@ -1,10 +1,10 @@
 -- A list cleared place by place. Assumes nothing.
 use mathlib.Core.Path.{◌≡◌, refl, sym, ap, ◌∙◌}
-use mathlib.Core.List.{List, [], ◌∷◌, ◌++◌, append-nil}
+use mathlib.Core.List.{List, [], ◌∷◌}
 use Prim.Native.Nat.{ℕ, zero, suc, ◌+◌, ◌≤◌, ◌<◌}
 use native.Mathlib.Omega.{arith}
 use native.Mathlib.Numerals.{add-one}
-use lib.ListN.{length, drop, set, replicate, drop_of_length-le}
+use lib.ListN.{length, set, replicate}
 
 -- The first i places are 0
 unfoldable pub cleared : ℕ → List ℕ → List ℕ

@@ -9,7 +9,6 @@ use lib.ListN.{length, get_or, take, drop, set, drop_of_length-le, take-append-d
 use lib.Seq.{paste, drop-cons, take-suc-set, drop-set-lt, append_snoc}
 use lib.Dec.{ltb}
 use borrow.Author.Tests.{lt-ltb, le-ltb, eq-eqb, ne_eqb}
-use Rattle.lists.specs.Lists.{count}
 use Rattle.model.specs.Range.{row}
 use Rattle.tables.specs.Laid.{Chains}
 use Rattle.tables.specs.Lay.{join_of, join_parent, join_all, spot_from, short_of, placed_of, Laying, row_of, spot_of, width_of, lay_of}

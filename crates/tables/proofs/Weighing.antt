@@ -10,7 +10,7 @@ use lib.Seq.{paste, length-paste, drop-paste, drop-drop, get_or-take}
 use lib.Ieee.Nearest.{div_mono}
 use Rattle.lists.specs.Lists.{mem, ceil}
 use Rattle.lists.specs.Areas.{part}
-use Rattle.model.specs.Cover.{per_bit, weights}
+use Rattle.model.specs.Cover.{per_bit}
 use Rattle.tables.specs.Lanes.{lane}
 use Rattle.tables.specs.Covers.{word_bits, cover_room, cover_words, bits_in, cover_at, range_bits, join_of, offset, offsets, run_bits, Inside, Covered, Weighable}
 use Rattle.tables.proofs.Laning.{lane-before, lane-stored}

@@ -162,7 +162,7 @@ module _ (w : Range) (known first : ℕ) (visited ready : List ℕ) (r : ℕ) (G
 
   told : (left : ℕ) → left ≡ left_of w known first visited → first ≤ n →
       Says (waits w known first seen) (rest ++ new) (woken_of s kids r known first n left)
-  unfolding woken_of
+  unfolding woken_of last
   told left e le = rw known-not (go (lt_or_le r first) (lt_or_le 1 left))
     where
       l₀ : ℕ
@@ -172,8 +172,8 @@ module _ (w : Range) (known first : ℕ) (visited ready : List ℕ) (r : ℕ) (G
       l₁ = left_of w known first seen
 
       not_last : (0 < l₁) ⊎ (l₁ ≡ l₀) → last w known first visited ready r G rr ≡ false
-      not_last (inl p) = unfold last in rw (ne_eqb l₁ 0 (λ z. omega arith)) (and_false (ltb 0 l₀))
-      not_last (inr q) = unfold last in rw q (none l₀)
+      not_last (inl p) = rw (ne_eqb l₁ 0 (λ z. omega arith)) (and_false (ltb 0 l₀))
+      not_last (inr q) = rw q (none l₀)
         where
           none : (k : ℕ) → ltb 0 k && eqb k 0 ≡ false
           none k = cases (lt_or_le 0 k)
@@ -183,7 +183,7 @@ module _ (w : Range) (known first : ℕ) (visited ready : List ℕ) (r : ℕ) (G
               cases (inr p) = rw (le-ltb 0 k p)
 
       is_last : l₁ ≡ 0 → l₀ ≡ 1 → last w known first visited ready r G rr ≡ true
-      is_last p q = unfold last in rw (eq-eqb l₁ 0 p, lt-ltb 0 l₀ (omega arith))
+      is_last p q = rw (eq-eqb l₁ 0 p, lt-ltb 0 l₀ (omega arith))
 
       one_less : r < first → l₀ ≡ l₁ + 1
       one_less l = left-first w known first visited r (ready-unvisited w known first visited r rr) (ready-unknown w known first visited r rr) l

@@ -1,4 +1,4 @@
-
+-- `reader::step_at` meets its contract: at each place where the code answers, the answer is what the model says of the words there. Assumes nothing.
 use native.Mathlib.Omega.{arith}
 use Rattle.model.specs.Reader.{next_in, decoded, as_step}
 use Rattle.reader.proofs.Decoding.{told, next_end, next-kind, next-unknown}
@@ -27,5 +27,5 @@ unfolding next_in decoded as_step
 returns-in-3 c = let p = c.args in told c.answer-in-3.ensures (next-kind p.words.now p.at 3 (omega arith) c.in-3.is)
 
 pub returns-in_default : goal.returns-in_default
-returns-in_default c = let p = c.args in let others = c.in_default.rest in
-    told c.answer-in_default.ensures (next-unknown p.words.now p.at (omega arith) others.0.0.0.1 others.0.0.1 others.0.1 others.1)
+returns-in_default c = let p = c.args in
+    told c.answer-in_default.ensures (next-unknown p.words.now p.at (omega arith) (λ e. omega arith) (λ e. omega arith) (λ e. omega arith) (λ e. omega arith))

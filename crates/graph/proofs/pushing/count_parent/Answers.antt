@@ -31,4 +31,4 @@ returns-in-Unknown c =
 pub returns-in-Before : goal.returns-in-Before
 returns-in-Before c =
     let a = c.args in
-    count-before a.starts.now a.runs a.t a.p.0 c.containing_in.ensures c.in-Before.keys3
+    count-before a.starts.now a.runs a.t a.p.0 c.containing_in.ensures c.in-Before.is

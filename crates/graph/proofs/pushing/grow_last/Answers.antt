@@ -1,4 +1,3 @@
-
 use native.Mathlib.Omega.{arith}
 use Rattle.graph.proofs.Views.{facts}
 use Rattle.graph.proofs.Extending.{some_tip, grown-stored}

@@ -1,4 +1,3 @@
-
 use Rattle.graph.proofs.Extending.{last-zero}
 use Rattle.graph.proofs.pushing.is_last.Goals as goal
 

@@ -1,4 +1,3 @@
-
 use Rattle.graph.proofs.pushing.lower.Goals as goal
 
 pub returns-then-lost : goal.returns-then-lost

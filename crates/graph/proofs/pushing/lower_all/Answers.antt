@@ -1,4 +1,3 @@
-
 use mathlib.Core.Path.{refl, sym, ◌∙◌}
 use native.Mathlib.Omega.{arith}
 use Rattle.graph.proofs.Views.{facts}

@@ -1,4 +1,3 @@
-
 use Rattle.graph.proofs.Extending.{over_yes, over_no}
 use Rattle.graph.proofs.pushing.over.Goals as goal
 

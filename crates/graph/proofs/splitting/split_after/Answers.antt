@@ -27,7 +27,7 @@ returns-then-is_next c =
 pub overflow_add-p : goal.overflow_add-p
 overflow_add-p c =
     let a = c.args in
-    omega (arith, (found a.starts.now a.c.runs a.p.0 c.in-Run.run' c.containing_in.ensures c.in-Run.is).under, c.type_inv.starts a.c.runs)
+    omega (arith, (found a.starts.now a.c.runs a.p.0 c.in-Run.run' c.containing_in.ensures c.in-Run.is).under, c.slice_known-1.given a.c.runs)
 
 pub split_in-requires : goal.split_in-requires
 split_in-requires c =

@@ -51,7 +51,7 @@ loop-r-preserved c = let a = c.args in
     let pss : List (List ℕ) = grouped heads items a.n in
     let lt : l.r < a.n = omega arith in
     let g : take (c.wide-e.result - c.wide-s.result) (drop c.wide-s.result items) ≡ at pss l.r = group_lent heads items a.n l.r c.wide-s.result c.wide-e.result p.0 lt (c.wide-s.ensures ∙ c.get.ensures) (c.wide-e.ensures ∙ c.get-in-loop-r.ensures) in
-    let whole : ◌≡◌ {A = Placing} (put.new.next.0, put.new.children) (put_all l.r (l.next, l.children) (at pss l.r)) = put.ensures ∙ ap (put_all l.r (l.next, l.children)) g in (
+    let whole : ◌≡◌ {A = Placing} (put.new.next, put.new.children) (put_all l.r (l.next, l.children) (at pss l.r)) = put.ensures ∙ ap (put_all l.r (l.next, l.children)) g in (
       omega arith,
       ap (λ (x : Placing). length x.0) whole ∙ ((put-sizes l.r (at pss l.r) (l.next, l.children)).0 ∙ l.invariant.1),
       ap (λ (x : Placing). length x.1) whole ∙ ((put-sizes l.r (at pss l.r) (l.next, l.children)).1 ∙ l.invariant.2),

@@ -34,9 +34,9 @@ loop-r-preserved c = let a = c.args in
     let o = c.offset_of in
     let e : b.result ≡ per_bit (offset a.starts.now a.n) = b.ensures ∙ ap per_bit o.ensures.0 in
     let q : l.r ≡ suc (l.r - 1) = omega (arith, c.loop-r-test.true) in
-    let next = weighed_turn a.starts.now a.begins.now a.children.now a.n l.r (l.r - 1) b.result l.weights l.covers t.new.weights t.new.covers.0
+    let next = weighed_turn a.starts.now a.begins.now a.children.now a.n l.r (l.r - 1) b.result l.weights l.covers t.new.weights t.new.covers
     p.2 q (omega (arith, l.invariant.0, q)) (omega (arith, l.invariant.1.0, p.0)) e l.invariant.1.1.1 t.ensures.weights_after t.ensures.covered in
-    (omega (arith, l.invariant.0), (t.auto.weights ∙ l.invariant.1.0, (t.auto.covers.0 ∙ l.invariant.1.1.0, next)))
+    (omega (arith, l.invariant.0), (t.auto.weights ∙ l.invariant.1.0, (t.auto.covers ∙ l.invariant.1.1.0, next)))
 
 pub shape_of-weights : goal.shape_of-weights
 shape_of-weights c = c.loop-r.invariant.1.0

@@ -74,7 +74,7 @@ put_group-at-requires c =
     let e-is = c.get-in-loop-j.ensures in
     let t = turn_gather a.heads.now a.parents.now a.a a.n p.sound _ (omega (arith, p.parents_in_bounds, length-set a.groups.now 0 0)) l.j lt (l.at, l.groups) l.invariant.1.1.0 l.invariant.1.1.1.0 in
     let high = rw f at e-is in
-    rw (s, s-is, e, e-is, f) (lt, t.0, omega (arith, t.1, l.invariant.1.0), omega (arith, t.2, high, c.get-in-loop-j.type-inv))
+    rw (s, s-is, e, e-is, f) (lt, t.0, omega (arith, t.1, l.invariant.1.0), omega (arith, t.2, high, c.get-in-loop-j.type_inv))
 
 pub loop-j-preserved : goal.loop-j-preserved
 unfolding part

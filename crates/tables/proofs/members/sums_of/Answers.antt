@@ -36,7 +36,7 @@ loop-j-preserved c = let p = c in
     let l = loop in
     let v = get_or l.before l.j 0 + c.long.result in
     let lt : l.j + 1 < length l.before = omega (arith, l.invariant.1.0, loop-test.true) in
-    let size : c.long.result ≡ size_in p.args.starts.now (get_or p.args.members.now l.j 0) = c.long.ensures ∙ (c.type_size.ensures ∙ ap (size_in p.args.starts.now) (c.wide.ensures ∙ c.get.ensures)) in
+    let size : c.long.result ≡ size_in p.args.starts.now (get_or p.args.members.now l.j 0) = c.long.ensures ∙ (c.size_of.ensures ∙ ap (size_in p.args.starts.now) (c.wide.ensures ∙ c.get.ensures)) in
     let small : c.long.result ≤ 2 ^ 32 = omega (arith, c.long.ensures) in (
       search rules,
       (

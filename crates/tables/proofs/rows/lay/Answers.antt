@@ -69,7 +69,7 @@ shape_of-tables-then-area-ne0 c =
     c.lay_run-area.auto.tables ∙ (c.loop-r.invariant.1.1.0 ∙ k.1)
 
 pub shape_of-row-then-area-ne0 : goal.shape_of-row-then-area-ne0
-shape_of-row-then-area-ne0 c = c.lay_run-area.auto.row.0 ∙ c.loop-r.invariant.1.1.1.0
+shape_of-row-then-area-ne0 c = c.lay_run-area.auto.row ∙ c.loop-r.invariant.1.1.1.0
 
 pub returns-then-area-ne0 : goal.returns-then-area-ne0
 unfolding part chains_of
@@ -85,7 +85,7 @@ returns-then-area-ne0 c =
     let e-is = c.get-in-loop-r.ensures in
     let lt = c.loop-r-test.true in
     let v = c.lay_run-area in
-    record { laid_out = (turn a.starts.now a.items.now a.n c.requires.sound a.rows.now l.r lt (chains_of l.area (a.n + 1) l.tables) l.rows l.invariant.1.1.1.1 (chains_of v.result (a.n + 1) v.new.tables, v.new.rows) (rw (s, s-is, e, e-is) at v.ensures)).0 c.if-area-ne0.true; tables_len_unchanged = v.auto.tables ∙ (l.invariant.1.1.0 ∙ k.1); row_len_unchanged = v.auto.row.0 ∙ l.invariant.1.1.1.0; rows_len_unchanged = v.auto.rows ∙ l.invariant.1.0 }
+    record { laid_out = (turn a.starts.now a.items.now a.n c.requires.sound a.rows.now l.r lt (chains_of l.area (a.n + 1) l.tables) l.rows l.invariant.1.1.1.1 (chains_of v.result (a.n + 1) v.new.tables, v.new.rows) (rw (s, s-is, e, e-is) at v.ensures)).0 c.if-area-ne0.true; tables_len_unchanged = v.auto.tables ∙ (l.invariant.1.1.0 ∙ k.1); row_len_unchanged = v.auto.row ∙ l.invariant.1.1.1.0; rows_len_unchanged = v.auto.rows ∙ l.invariant.1.0 }
 
 pub overflow_add-r-in-loop-r : goal.overflow_add-r-in-loop-r
 overflow_add-r-in-loop-r c = omega (arith, c.loop-r-test.true, c.requires.sound.few)
@@ -107,7 +107,7 @@ loop-r-preserved c =
         (
           v.auto.tables ∙ l.invariant.1.1.0,
           (
-            v.auto.row.0 ∙ l.invariant.1.1.1.0,
+            v.auto.row ∙ l.invariant.1.1.1.0,
             (turn a.starts.now a.items.now a.n c.requires.sound a.rows.now l.r lt (chains_of l.area (a.n + 1) l.tables) l.rows l.invariant.1.1.1.1 (chains_of v.result (a.n + 1) v.new.tables, v.new.rows) (rw (s, s-is, e, e-is) at v.ensures)).1 c.if-area-ne0.false,
           ),
         ),

@@ -45,7 +45,7 @@ unfolding part
 shape_of-scratch c = let a = c.args in
     let starts = c.starts_of in
     let kids = c.children_of in
-    front_back (a.n + 1) (starts.new.starts ++ drop (a.n + 1 - 0) a.scratch.now) kids.new.next.0 kids.ensures.children_len_unchanged.1 ∙ front_back (a.n + 1) a.scratch.now starts.new.starts starts.ensures.1
+    front_back (a.n + 1) (starts.new.starts ++ drop (a.n + 1 - 0) a.scratch.now) kids.new.next kids.ensures.children_len_unchanged.1 ∙ front_back (a.n + 1) a.scratch.now starts.new.starts starts.ensures.1
 
 pub returns : goal.returns
 unfolding part
@@ -57,7 +57,11 @@ returns c = let a = c.args in
     let again : part 0 (a.n + 1) (starts.new.starts ++ drop (a.n + 1 - 0) a.scratch.now) ≡ starts.new.starts = front_again (a.n + 1) a.scratch.now starts.new.starts p.2 starts.ensures.1 in
     let both = kids-tabled a.n a.groups.now a.tables.now stored.new.to (part 0 (a.n + 1) (starts.new.starts ++ drop (a.n + 1 - 0) a.scratch.now)) starts.new.starts a.children.now kids.new.children
     p.0 p.3 p.1 stored.ensures again (starts.ensures.1 ∙ front_long (a.n + 1) a.scratch.now p.2) starts.ensures.0 kids.ensures.kids kids.ensures.children_len_unchanged.0 in
-    record { kids_tabled = both.0; kept = both.1; children_len_unchanged = (
-          kids.ensures.children_len_unchanged.0,
-          front_back (a.n + 1) (starts.new.starts ++ drop (a.n + 1 - 0) a.scratch.now) kids.new.next.0 kids.ensures.children_len_unchanged.1 ∙ front_back (a.n + 1) a.scratch.now starts.new.starts starts.ensures.1,
-        ) }
+    record {
+      kids_tabled = both.0;
+      kept = both.1;
+      children_len_unchanged = (
+        kids.ensures.children_len_unchanged.0,
+        front_back (a.n + 1) (starts.new.starts ++ drop (a.n + 1 - 0) a.scratch.now) kids.new.next kids.ensures.children_len_unchanged.1 ∙ front_back (a.n + 1) a.scratch.now starts.new.starts starts.ensures.1,
+      );
+    }

@@ -9,7 +9,7 @@ pub list_members-requires : goal.list_members-requires
 list_members-requires c = let p = c in
     let list-begins = c.list_begins in
     let a = p.args in
-    let t = list-begins.new.scratch.1.0 in
+    let t = list-begins.new.tables in
     let h = list-begins.ensures in (
       p.requires.0.few,
       omega (arith, p.requires.1, h.2.size),
@@ -23,12 +23,12 @@ returns c = let p = c in
     let list-members = c.list_members in
     let sum-events = c.sum_events in
     let a = p.args in
-    let t = list-begins.new.scratch.1.0 in
-    let u = list-members.new.scratch.0 in
+    let t = list-begins.new.tables in
+    let u = list-members.new.tables in
     let h = list-begins.ensures in
     let m = list-members.ensures in
     let s = sum-events.ensures in
-    let r = index-left (a.n + 1) a.n a.chains a.starts.now a.tables.now t u sum-events.new.1.1.1.0 h.2 m.2 h.0 h.1 m.0 m.1 s.0 s.1 in (
+    let r = index-left (a.n + 1) a.n a.chains a.starts.now a.tables.now t u sum-events.new.before h.2 m.2 h.0 h.1 m.0 m.1 s.0 s.1 in (
       r.0,
       r.1,
       s.2,

@@ -21,4 +21,4 @@ returns c =
     let g = c.gather in
     let l = c.lay in
     let e = l.ensures in
-    record { range_laid = range_laid (shares a.heads.now a.parents.now a.a a.n) a.n g.new.groups a.rows.now l.new.rows l.new.tables l.result g.ensures.n_after g.ensures.sound_2 e.laid_out; groups_len_unchanged = g.ensures.groups_len_unchanged; tables_len_unchanged = e.tables_len_unchanged; scratch_len_unchanged = first_back (a.n + 1) a.scratch.now l.new.row.0 e.row_len_unchanged; rows_len_unchanged = e.rows_len_unchanged }
+    record { range_laid = range_laid (shares a.heads.now a.parents.now a.a a.n) a.n g.new.groups a.rows.now l.new.rows l.new.tables l.result g.ensures.n_after g.ensures.sound_2 e.laid_out; groups_len_unchanged = g.ensures.groups_len_unchanged; tables_len_unchanged = e.tables_len_unchanged; scratch_len_unchanged = first_back (a.n + 1) a.scratch.now l.new.row e.row_len_unchanged; rows_len_unchanged = e.rows_len_unchanged }

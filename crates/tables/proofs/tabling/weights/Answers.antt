@@ -30,5 +30,8 @@ returns c = let a = c.args in
     let made = m.new.weights in
     let e : lane 6 w T ≡ take (7 * w - 6 * w) (drop (6 * w) T) = sym (lane_lent 6 w (6 * w) (7 * w) T refl (omega arith)) in
     let s = scratch-stored 7 w T a.scratch.now made c.store.new.to (omega (arith, p.0)) p.1 m.auto.weights c.store.ensures in
-    record { weighted = subst (λ (l : List ℕ). Weighted a.starts.now (lane 6 w T) a.children.now a.n l) (sym s.0)
-          (subst (λ (b : List ℕ). Weighted a.starts.now b a.children.now a.n made) (sym e) m.ensures); kept = s.1 }
+    record {
+      weighted = subst (λ (l : List ℕ). Weighted a.starts.now (lane 6 w T) a.children.now a.n l) (sym s.0)
+          (subst (λ (b : List ℕ). Weighted a.starts.now b a.children.now a.n made) (sym e) m.ensures);
+      kept = s.1;
+    }

@@ -1,0 +1,24 @@
+-- `walk::walking::walk` meets its contract: refused before anything is written, or the walk of a held record. Assumes nothing.
+use borrow.Author.Rules.{rules}
+use mathlib.Core.Path.{◌∙◌}
+use Rattle.walk.proofs.WholeWalk.{walk_inside, walk_refused, walk_done}
+use Rattle.walk.proofs.walking.walk.Goals as goal
+
+pub walk_held-requires : goal.walk_held-requires
+walk_held-requires c =
+    let a = c.args in
+    let o = c.range_outcome-o in
+    let h = walk_inside a.g a.first_run.0 a.end_run.0 a.known a.first a.rows.now a.steps.now (search rules) o.result o.ensures c.in-Done.is in
+    record { held = h.0; a_le_b = (h.1, h.2, h.3) }
+
+pub returns-in-Refused : goal.returns-in-Refused
+returns-in-Refused c =
+    let a = c.args in
+    let o = c.range_outcome-o in
+    walk_refused a.g a.first_run.0 a.end_run.0 a.known a.first a.rows.now a.steps.now o.result o.ensures _ c.in-Refused.is
+
+pub returns-in-Done : goal.returns-in-Done
+returns-in-Done c =
+    let a = c.args in
+    let o = c.range_outcome-o in
+    c.walk_held.ensures ∙ walk_done a.g a.first_run.0 a.end_run.0 a.known a.first a.rows.now a.steps.now o.result o.ensures c.in-Done.is
