@@ -1,8 +1,11 @@
 -- What a read's answer says, and how a reading goes on. Assumes nothing.
 use Rattle.std.proofs.Common.{◌≡◌, ℕ, zero, suc, ◌+◌, ◌-◌, ◌<◌, ◌≤◌, min, Bool, true, false, List, ◌++◌, length, take, refl, sym, ◌∙◌, ap, subst, arith}
 use Rattle.std.specs.Prelude.{Result, Ok, Err, Option, Some, None}
-use Rattle.std.proofs.Math.Seq.{take-append_seam}
-use Rattle.std.proofs.lemmas.List.{length-take-le}
+use Rattle.std.proofs.Math.Seq.{take-append_seam, take-append-add}
+use Rattle.std.proofs.lemmas.List.{length-take-le, take-append-le}
+use Rattle.std.specs.Io.{ReadsAtMost}
+use Rattle.std.specs.Io.KnownBytes.{Consumes, ReadConsumes, IsAtEnd}
+use Rattle.std.proofs.KnownBytes.{Consumes-trans, Consumes-kept}
 use Rattle.std.specs.declared.io.Error.{Error}
 use Rattle.stdio.specs.declared.reading.Got.{Got}
 use Rattle.stdio.specs.declared.reading.Got.TheVariants.{Bytes, End, Failed}
@@ -57,6 +60,56 @@ pub on_read : (r : Reading) (xs zs : List ℕ) (got : Got) (s : Reading) → r.c
 on_read r xs zs got s c p h e =
     let w = subst (Within r (length xs)) (sym e) (within_got r (length xs) got c p h) in
     record { kept = before-kept r.count xs zs c; within = w.0; less = w.1 }
+
+-- What came are the input's next bytes
+count-counted : (r : Reading) (k : ℕ) → (after_read r (counted k)).count ≡ r.count + k
+unfolding after_read counted
+count-counted r zero = omega arith
+count-counted r (suc k) = refl
+
+ended-counted : (r : Reading) (k : ℕ) → r.ended ≡ false → (after_read r (counted k)).ended ≡ true → k ≡ 0
+unfolding after_read counted
+ended-counted r zero f e = refl
+ended-counted r (suc k) f e = cc
+
+pub bytes_read : (a b c : Option (List ℕ)) (r : Reading) (xs part rest : List ℕ) (got : Result ℕ Error) → r.count ≤ length xs → ReadsAtMost got part →
+    ReadConsumes b c got part → Consumes a b (take r.count xs) →
+    Consumes a c (take (after_read r (got_of got (length part))).count (take r.count xs ++ (part ++ rest)))
+unfolding got_of
+bytes_read a b c r xs part rest (Ok n) h fits read before =
+    let m : min n (length part) ≡ n = omega (arith, fits.0) in
+    let count : (after_read r (counted (min n (length part)))).count ≡ r.count + n = rw m (count-counted r n) in
+    let long = length-take-le r.count xs h in
+    let seam : take (r.count + n) (take r.count xs ++ (part ++ rest)) ≡ take r.count xs ++ take n part =
+    ap (λ k. take (k + n) (take r.count xs ++ (part ++ rest))) (sym long) ∙ take-append-add (take r.count xs) (part ++ rest) n ∙
+    ap (λ zs. take r.count xs ++ zs) (take-append-le n part rest fits.0) in
+    subst (λ k. Consumes a c (take k (take r.count xs ++ (part ++ rest)))) (sym count)
+    (subst (Consumes a c) (sym seam) (Consumes-trans a b c _ _ before read.0))
+bytes_read a b c r xs part rest (Err e) h fits read before =
+    let count : (after_read r (Failed e)).count ≡ r.count = unfold after_read in refl in
+    subst (λ k. Consumes a c (take k (take r.count xs ++ (part ++ rest)))) (sym count)
+    (subst (Consumes a c) (sym (before-kept r.count xs (part ++ rest) h)) (Consumes-kept a b c _ before read))
+
+pub end_read : (b c : Option (List ℕ)) (r : Reading) (part : List ℕ) (got : Result ℕ Error) → r.ended ≡ false → 0 < length part → ReadsAtMost got part →
+    ReadConsumes b c got part → (after_read r (got_of got (length part))).ended ≡ true → IsAtEnd c
+unfolding got_of
+end_read b c r part (Ok n) f h fits read e =
+    let z = ended-counted r (min n (length part)) f e in
+    read.1 (omega (arith, z, fits.0)) h
+end_read b c r part (Err x) f h fits read e =
+    let same : (after_read r (Failed x)).ended ≡ r.ended = unfold after_read in refl in
+    cc
+
+-- where more may come the input has not ended, and the buffer is not full
+open_by : (e : Bool) (f : Option Error) (m : ℕ) → 0 < left_by e f m → (e ≡ false) × (0 < m)
+unfolding left_by
+open_by true f m p = absurd (omega (arith, p))
+open_by false (Some e) m p = absurd (omega (arith, p))
+open_by false None m p = (refl, p)
+
+pub is_open : (r : Reading) (n : ℕ) → 0 < left_of r n → (r.ended ≡ false) × (0 < n - r.count)
+unfolding left_of left_by
+is_open r n p = open_by r.ended r.failed (n - r.count) p
 
 -- What a reading gave
 gave_by : Reading → Option Error → Filled

@@ -1,6 +1,7 @@
 // How far an input was read. A reading's fields are private, and `read_on` alone moves it on: no caller can take a failed read for
 // the end of the input.
-ghost use Rattle.std.specs.Prelude.{◌<◌, ◌≤◌, length, false, None, ◌≡◌};
+ghost use Rattle.std.specs.Prelude.{ℕ, ◌<◌, ◌≤◌, List, Option, length, take, false, None, ◌≡◌, IsTrue};
+ghost use Rattle.std.specs.Io.KnownBytes.{Consumes, IsAtEnd};
 ghost use Rattle.stdio.specs.Reads.{got_of, Room, after_read, left_of, filled_of, On};
 
 use std::io;
@@ -115,11 +116,14 @@ fn after(r: Reading, got: Got, len: usize) -> Reading
     }
 }
 
-// One read, into the buffer from where it stands on.
+// One read, into the buffer from where it stands on. If what came before are the bytes of an input from its start on, so is what then came.
 pub(crate) fn read_on<R: Read>(r: Reading, input: &mut R, buf: &mut [u8]) -> Reading
     requires count_in_bounds { r.count ≤ length buf.old }
     requires nonzero { 0 < left_of r (length buf.old) }
-    ensures { On r buf.old buf.new result }
+    ensures on { On r buf.old buf.new result }
+    ensures bytes { (start : Option (List ℕ)) → Consumes start (R.remaining input.old) (take r.count buf.old)
+        → Consumes start (R.remaining input.new) (take result.count buf.new) }
+    ensures end { IsTrue result.ended → IsAtEnd (R.remaining input.new) }
 {
     let len = buf.len();
     let at = r.count;
