@@ -19,6 +19,7 @@ use Rattle.model.specs.Graph.{Graph, start}
 use Rattle.model.specs.History.{at}
 use Rattle.model.specs.Split.{renumber, second_seen, split}
 use Rattle.model.specs.Log.{Log, run_start, held_of, held_before, event_graph, edge, log_start}
+use Rattle.model.proofs.SeenSecond.{second_own}
 use Rattle.model.proofs.SeenFrom.{second_has}
 use Rattle.model.proofs.FormedSplits.{renumber-below, renumber-from, renumber_le}
 use Rattle.model.proofs.Histories.{Below}
@@ -184,15 +185,15 @@ module _ (g : Graph) (l : Log) (t : Tied g l) (a r : ℕ) (lt : l.first_held < a
     ancestors-same x e = refl
 
     second_sound : (e : ℕ) → l.first_held ≤ e → e < second → ancestors l a e ≡ true
-    unfolding ancestors ancestor second_seen
+    unfolding ancestors ancestor
     second_sound e p q = down g l t (a - run_start l r) a r a e (omega (arith, inside-run.0)) inside-run.1 (omega arith) (go (lt_or_le e (run_start l r)))
       where
         before : e < run_start l r → e < own
-        before c = cases (eqb own (start g r)) refl q
+        before c = cases (second_own g r a)
           where
-            cases : (b : Bool) → eqb own (start g r) ≡ b → e < cond b a own → e < own
-            cases true z k = omega (arith, eqb-true own (start g r) z, start_is g l t r (omega (arith, inside-run.2)))
-            cases false z k = k
+            cases : ((second ≡ a) × (own ≡ start g r)) ⊎ (second ≡ own) → e < own
+            cases (inl w) = omega (arith, w.1, start_is g l t r (omega (arith, inside-run.2)))
+            cases (inr w) = omega (arith, w, q)
 
         go : (e < run_start l r) ⊎ (run_start l r ≤ e) → ((j : ℕ) → run_start l r ≤ j → reaches j (event_graph l) (run_start l r) e ≡ true) ⊎ ((run_start l r ≤ e) × (e < a))
         go (inl c) = inl (λ j k. reaches_more (run_start l r) j (event_graph l) (run_start l r) e k (S.sound r e inside-run.2 p (before c)))

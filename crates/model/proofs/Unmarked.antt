@@ -15,6 +15,7 @@ use Rattle.lists.proofs.Inserts.{insert-at, all_insert}
 use Rattle.model.specs.Graph.{Graph, runs, start, containing, marked}
 use Rattle.model.specs.Broken.{WellFormed}
 use Rattle.model.specs.Split.{second_seen, split}
+use Rattle.model.proofs.SeenSecond.{second_own}
 use Rattle.model.specs.Push.{grown, joined, lowered}
 use Rattle.model.specs.Start.{answers, splitting, alone, starting, taken}
 use Rattle.model.specs.StaysTrue.{UnmarkedAt, SeenStarts}
@@ -104,12 +105,11 @@ module _ (g : Graph) (w : WellFormed g) (S : SeenStarts g) (r at : ℕ) (b : r <
 
     -- the split run had seen up to its start, since else the second part has seen no more than it
     own-seen : start g r ≤ own
-    unfolding second_seen
-    own-seen = go (eqb own (start g r)) refl (leb-true at second (and_left (leb at second) _ both))
+    own-seen = go (second_own g r at)
       where
-        go : (t : Bool) → eqb own (start g r) ≡ t → at ≤ cond t at own → start g r ≤ own
-        go true e h = omega (arith, eqb-true own (start g r) e)
-        go false e h = omega arith
+        go : ((second ≡ at) × (own ≡ start g r)) ⊎ (second ≡ own) → start g r ≤ own
+        go (inl w) = omega (arith, w.1)
+        go (inr w) = omega (arith, w, leb-true at second (and_left (leb at second) _ both))
 
     run-marked : marked g r ≡ true
     run-marked = marked_of g w r (λ q le lt. go q (lt_or_le r q) le lt)

@@ -1,0 +1,18 @@
+-- `book::printing::last_line` meets its contract: the outcome decides. Assumes nothing.
+use mathlib.Core.Path.{sym, subst}
+use Rattle.model.specs.declared.answers.Outcome.{Outcome}
+use Rattle.model.specs.Print.{ascii, last_line, line_text, say}
+use Rattle.book.specs.Output.{Shows, ended}
+use Rattle.book.proofs.printing.last_line.Goals as goal
+
+pub returns-in-Done : goal.returns-in-Done
+unfolding ascii last_line ended line_text say
+returns-in-Done c =
+    let a = c.args in
+    subst (λ (o : Outcome). Shows c.one.result (ended (last_line o a.moved))) (sym c.in-Done.is) c.one.ensures
+
+pub returns-in-Refused : goal.returns-in-Refused
+unfolding last_line
+returns-in-Refused c =
+    let a = c.args in
+    subst (λ (o : Outcome). Shows c.refused_line.result (ended (last_line o a.moved))) (sym c.in-Refused.is) c.refused_line.ensures

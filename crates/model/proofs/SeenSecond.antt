@@ -1,0 +1,22 @@
+-- What the second part of a split has seen is its own start only where the run had seen up to its own start. Assumes nothing.
+use mathlib.Core.Path.{◌≡◌, refl}
+use mathlib.Core.Logic.{◌⊎◌, inl, inr}
+use mathlib.Core.Bool.{Bool, true, false, cond}
+use Prim.Native.Nat.{ℕ}
+use native.Mathlib.Omega.{arith}
+use lib.ListN.{get_or}
+use lib.Dec.{leb, eqb}
+use borrow.Author.Tests.{eqb-true, leb-true}
+use Rattle.model.specs.Graph.{Graph, start}
+use Rattle.model.specs.Split.{second_seen}
+
+pub second_own : (g : Graph) (r at : ℕ) → ((second_seen g r at ≡ at) × (get_or g.seen r 0 ≡ start g r)) ⊎ (second_seen g r at ≡ get_or g.seen r 0)
+unfolding second_seen
+second_own g r at = go (eqb own (start g r)) refl
+  where
+    own : ℕ
+    own = get_or g.seen r 0
+
+    go : (t : Bool) → eqb own (start g r) ≡ t → ((cond t at own ≡ at) × (own ≡ start g r)) ⊎ (cond t at own ≡ own)
+    go true e = inl (refl, omega (arith, eqb-true own (start g r) e))
+    go false e = inr refl
