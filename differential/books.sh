@@ -3,10 +3,10 @@
 # all small books, random ones, damaged ones, the longest. Then failed reads and writes and endless inputs, with tools/replay and
 # without. Status 1 and the book if two differ.
 # Arguments: how many random books (60,000 if there is none; each is damaged as well), a seed (1).
-# RUST_SRC: as in differences.sh. REPLAY: the replay program (target/bin/replay; proved and built by `rt check replay` if missing).
+# RUST_SRC: as in differences.sh. REPLAY: the replay program (crates/replay/out/replay; proved and built by `rt run` there if missing).
 set -eu
 . "$(dirname "$0")/rust.sh"
 over_rust books
-replay=${REPLAY:-$here/../target/bin/replay}
-[ -x "$replay" ] || (cd "$here/.." && rt check replay)
+replay=${REPLAY:-$here/../crates/replay/out/replay}
+[ -x "$replay" ] || (cd "$here/../crates/replay" && rt run <stdin >/dev/null)
 "$out/books" "$replay" "$@"

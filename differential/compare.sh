@@ -3,7 +3,7 @@
 # Arguments: how many random scripts (10,000 if there is none), a seed (1), words of a part's title, to run that part alone.
 # Or: --sample DIR, which writes DIR/stdin, a script of every kind of call, and DIR/stdout, the Rust's lines, and needs no
 # trace program.
-# RUST_SRC: as in differences.sh. TRACE: the trace program (target/bin/trace; proved and built by `rt check trace` if missing).
+# RUST_SRC: as in differences.sh. TRACE: the trace program (crates/trace/out/trace; proved and built by `rt run` there if missing).
 set -eu
 . "$(dirname "$0")/rust.sh"
 over_rust compare
@@ -11,6 +11,6 @@ if [ "${1:-}" = --sample ]; then
     "$out/compare" "$@"
     exit
 fi
-trace=${TRACE:-$here/../target/bin/trace}
-[ -x "$trace" ] || (cd "$here/.." && rt check trace)
+trace=${TRACE:-$here/../crates/trace/out/trace}
+[ -x "$trace" ] || (cd "$here/../crates/trace" && rt run <stdin >/dev/null)
 "$out/compare" "$trace" "$@"

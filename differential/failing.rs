@@ -1,10 +1,9 @@
 //! Failed reads and writes, of a program that is given some input: what it prints, what it tells on standard error, and the status with
-//! which tools/NAME, the script that stands in for a status, ends.
+//! which it and tools/NAME, the script that runs it, end.
 
 use std::io::Write;
 use std::os::fd::OwnedFd;
 use std::os::unix::net::UnixStream;
-use std::os::unix::process::ExitStatusExt;
 use std::path::Path;
 use std::process::{Command, ExitStatus, Stdio};
 
@@ -49,22 +48,22 @@ const fn trial(title: &'static str, line: &'static str, comes: Comes, prints: Pr
 const TRIALS: [Trial; 14] = [
     trial("no failure", r#"exec "$0""#, Comes::Whole, Prints::All, ""),
     trial("input in pieces", r#"exec "$0""#, Comes::InPieces, Prints::All, ""),
-    trial("standard input closed", r#"exec "$0" <&-"#, Comes::Whole, Prints::Nothing, "read: Bad file descriptor"),
-    trial("a directory as input", r#"exec "$0" </"#, Comes::Whole, Prints::Nothing, "read: Is a directory"),
-    trial("input that may not be read", r#"exec "$0" 0>/dev/null"#, Comes::Whole, Prints::Nothing, "read: Bad file descriptor"),
-    trial("a read that fails after others", r#"exec "$0""#, Comes::Waits, Prints::Nothing, "read: Resource temporarily unavailable"),
-    trial("a broken connection as input", r#"exec "$0""#, Comes::Breaks, Prints::Nothing, "read: Connection reset by peer"),
-    trial("a full device as output", r#"exec "$0" >/dev/full"#, Comes::Whole, Prints::Nothing, "write: No space left on device"),
-    trial("output that may not be written", r#"exec "$0" 1</dev/null"#, Comes::Whole, Prints::Nothing, "write: Bad file descriptor"),
+    trial("standard input closed", r#"exec "$0" <&-"#, Comes::Whole, Prints::Nothing, "read: Bad file descriptor (os error 9)"),
+    trial("a directory as input", r#"exec "$0" </"#, Comes::Whole, Prints::Nothing, "read: Is a directory (os error 21)"),
+    trial("input that may not be read", r#"exec "$0" 0>/dev/null"#, Comes::Whole, Prints::Nothing, "read: Bad file descriptor (os error 9)"),
+    trial("a read that fails after others", r#"exec "$0""#, Comes::Waits, Prints::Nothing, "read: Resource temporarily unavailable (os error 11)"),
+    trial("a broken connection as input", r#"exec "$0""#, Comes::Breaks, Prints::Nothing, "read: Connection reset by peer (os error 104)"),
+    trial("a full device as output", r#"exec "$0" >/dev/full"#, Comes::Whole, Prints::Nothing, "write: No space left on device (os error 28)"),
+    trial("output that may not be written", r#"exec "$0" 1</dev/null"#, Comes::Whole, Prints::Nothing, "write: Bad file descriptor (os error 9)"),
     trial(
         "a write cut short",
         r#"f=$(mktemp); (trap "" XFSZ; ulimit -f 1; exec "$0" >"$f"); s=$?; cat "$f"; rm "$f"; exit $s"#,
         Comes::Whole,
         Prints::Part,
-        "write: File too large",
+        "write: File too large (os error 27)",
     ),
-    trial("a pipe that nobody reads", r#"exec "$0""#, Comes::Whole, Prints::Unread, ""),
-    trial("such a pipe, the signal ignored", r#"trap "" PIPE; exec "$0""#, Comes::Whole, Prints::Unread, "write: Broken pipe"),
+    trial("a pipe that nobody reads", r#"exec "$0""#, Comes::Whole, Prints::Unread, "write: Broken pipe (os error 32)"),
+    trial("such a pipe, the signal ignored", r#"trap "" PIPE; exec "$0""#, Comes::Whole, Prints::Unread, "write: Broken pipe (os error 32)"),
     trial("an endless file", r#"exec timeout 60 "$0" </dev/zero"#, Comes::Whole, Prints::TooLong, ""),
     trial("an endless pipe", r#"yes | timeout 60 "$0""#, Comes::Whole, Prints::TooLong, ""),
 ];
@@ -111,17 +110,16 @@ fn run(trial: &Trial, command: &str, program: &str, input: &[u8]) -> std::io::Re
     Ok(Ran { status: ended.status, text: text(&ended.stdout), told: text(&ended.stderr) })
 }
 
-/// Runs every trial of the program called `name`, by itself and under its stand-in. `text` is what it prints of `input` (no write of a
+/// Runs every trial of the program called `name`, by itself and by its script. `text` is what it prints of `input` (no write of a
 /// short one is cut); `endless`: whether an endless input is refused. How many runs there were; if one is wrong, what it did.
 pub fn trials(name: &str, program: &str, input: &[u8], text: &str, endless: bool) -> Result<u64, String> {
-    let stand_in = Path::new(file!()).parent().unwrap().join("../tools").join(name);
-    let stand_in = stand_in.to_str().unwrap();
+    let script = Path::new(file!()).parent().unwrap().join("../tools").join(name);
+    let script = script.to_str().unwrap();
     let mut runs = 0;
     let applies = |trial: &&Trial| (endless || trial.prints != Prints::TooLong) && (text.len() > 1024 || trial.prints != Prints::Part);
     for trial in TRIALS.iter().filter(applies) {
         let told = if trial.told.is_empty() { String::new() } else { format!("{name}: {}\n", trial.told) };
-        let killed = trial.prints == Prints::Unread && told.is_empty();
-        for command in [program, stand_in] {
+        for command in [program, script] {
             let ran = run(trial, command, program, input).map_err(|e| format!("{}: {e}", trial.title))?;
             let printed = match trial.prints {
                 Prints::Nothing | Prints::Unread => ran.text.is_empty(),
@@ -129,12 +127,7 @@ pub fn trials(name: &str, program: &str, input: &[u8], text: &str, endless: bool
                 Prints::Part => !ran.text.is_empty() && ran.text.len() < text.len() && text.starts_with(&ran.text),
                 Prints::TooLong => ran.text == "refused 15\n",
             };
-            let status = match (command == program, killed) {
-                (true, true) => ran.status.signal() == Some(13),
-                (true, false) => ran.status.code() == Some(0),
-                (false, true) => ran.status.code() == Some(128 + 13),
-                (false, false) => ran.status.code() == Some(!told.is_empty() as i32),
-            };
+            let status = ran.status.code() == Some(!told.is_empty() as i32);
             if !printed || !status || ran.told != told {
                 return Err(format!("{command}, {}: {}\n-- printed:\n{}-- told, not {told:?}:\n{}", trial.title, ran.status, ran.text, ran.told));
             }

@@ -3,12 +3,13 @@
 // For differential/speed.sh to time: builds a graph by the public calls and then does one thing as often as it is told.
 // Standard input, in little-endian words: how often; what (0 nothing, 1 full replay, 2 the pushes again, from `new`, 3 archive
 // points, 4 wanted parents); how many pushes; for each its length, its parent count and its parents; for 4 then a 0, the count of the
-// ranges' words, and these. At most 16,384 words.
+// ranges' words, and these. At most 16,384 words. A failed read or write ends it with an error.
 mod script;
 
-use libc::{STDIN_FILENO, STDOUT_FILENO};
 use model::{CausalGraph, EventsAnswer, MAX_RUNS, MAX_STARTS, Outcome, Written};
-use script::{WORDS, Words};
+use script::{BYTES, Bytes, WORDS, Words};
+use std::io;
+use stdio::Filled;
 
 // Where the pushes stand: the graph, the place of the next word, and 1 if the last push was refused.
 #[derive(Clone, Copy)]
@@ -191,14 +192,11 @@ fn run(words: &Words, rows: &mut Rows, steps: &mut Steps) -> Told {
     }
 }
 
-// Prints a number and a byte.
-fn print(n: u64, after: u8) {
-    let end = [after];
-    io::print_decimal(STDOUT_FILENO, n);
-    io::write_all(STDOUT_FILENO, &end);
+// The rooms. A function hands an array out without what it holds, so that no proof looks at its elements.
+fn byte_room() -> Bytes {
+    [0; BYTES]
 }
 
-// The rooms. A function hands an array out without what it holds, so that no proof looks at its elements.
 fn word_room() -> Words {
     [0; WORDS]
 }
@@ -211,15 +209,24 @@ fn step_room() -> Steps {
     [0; MAX_STEPS]
 }
 
-fn main() {
-    let mut bytes = io::large_buffer();
+// Standard input, up to the buffer's end or its own.
+fn read(rt: &HostRuntime, bytes: &mut Bytes) -> io::Result<()> {
+    match stdio::gave(stdio::fill(&mut rt.stdin(), bytes)) {
+        Filled::Bytes(_) => Ok(()),
+        Filled::Failed(why) => Err(why),
+    }
+}
+
+fn main(rt: HostRuntime) -> io::Result<()> {
+    let mut bytes = byte_room();
     let mut words = word_room();
     let mut rows = row_room();
     let mut steps = step_room();
-    io::read_full(STDIN_FILENO, &mut bytes);
+    read(&rt, &mut bytes)?;
     script::decode(&bytes, &mut words);
     let told = run(&words, &mut rows, &mut steps);
-    print(told.count, b' ');
-    print(told.moved, b' ');
-    print(told.refused, b'\n');
+    let count = told.count;
+    let moved = told.moved;
+    let refused = told.refused;
+    println!(rt; "{count} {moved} {refused}")
 }

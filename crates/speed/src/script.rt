@@ -1,8 +1,8 @@
 // The words on standard input.
 ghost use Rattle.std.specs.Prelude.{◌<◌, ◌≤◌, ◌^◌};
 
-// As many bytes as the kit's large buffer, and their words.
-const BYTES: usize = 65536;
+// As many bytes as the buffer has, and their words.
+pub const BYTES: usize = 65536;
 
 pub const WORDS: usize = BYTES / 4;
 

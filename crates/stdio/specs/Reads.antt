@@ -1,5 +1,6 @@
--- What reads give. Of the bytes that came no contract can say which they are. Assumes nothing.
-use Rattle.std.specs.Prelude.{ℕ, zero, suc, ◌+◌, ◌-◌, ◌<◌, ◌≤◌, min, ℤ, pos, negsuc, true, false, ◌≡◌, List, length, take}
+-- What reads give. Assumes nothing.
+use Rattle.std.specs.Prelude.{ℕ, zero, suc, ◌+◌, ◌-◌, ◌<◌, ◌≤◌, min, Ok, Err, None, Some, Result, true, false, ◌≡◌, List, length, take}
+use Rattle.std.specs.declared.io.Error.{Error}
 use Rattle.stdio.specs.declared.reading.Got.{Got}
 use Rattle.stdio.specs.declared.reading.Got.TheVariants.{Bytes as GotBytes, End, Failed as GotFailed}
 use Rattle.stdio.specs.declared.reading.Filled.{Filled}
@@ -11,30 +12,30 @@ unfoldable pub counted : ℕ → Got
 counted zero = End
 counted (suc k) = GotBytes (suc k)
 
--- what a read's answer says of a buffer of n bytes: below 0 it failed
-unfoldable pub got_of : ℤ → ℕ → Got
-got_of (pos k) n = counted (min k n)
-got_of (negsuc k) n = GotFailed
+-- what a read's answer says of a buffer of n bytes: at an error it failed
+unfoldable pub got_of : Result ℕ Error → ℕ → Got
+got_of (Ok k) n = counted (min k n)
+got_of (Err e) n = GotFailed e
 
 -- bytes that came are at least one, and stand within a buffer of n
 abbrev pub Room : ℕ → ℕ → Got → Type 0
 Room at n (GotBytes k) = (0 < k) × (at + k ≤ n)
 Room at n End = Unit
-Room at n GotFailed = Unit
+Room at n (GotFailed e) = Unit
 
 -- a reading after one read more
 unfoldable pub after_read : Reading → Got → Reading
 after_read r (GotBytes k) = record { count = r.count + k; ended = r.ended; failed = r.failed }
 after_read r End = record { count = r.count; ended = true; failed = r.failed }
-after_read r GotFailed = record { count = r.count; ended = r.ended; failed = true }
+after_read r (GotFailed e) = record { count = r.count; ended = r.ended; failed = Some e }
 
 -- how many bytes of a buffer of n may still come: none after the end or a failure
 unfoldable pub left_of : Reading → ℕ → ℕ
-left_of r n = elim r.ended [ true ↦ 0 | false ↦ elim r.failed [ true ↦ 0 | false ↦ n - r.count ] ]
+left_of r n = elim r.ended [ true ↦ 0 | false ↦ elim r.failed [ Some e ↦ 0 | None ↦ n - r.count ] ]
 
 -- what a reading gave: so many bytes, or a failure, whatever came before it
 unfoldable pub filled_of : Reading → Filled
-filled_of r = elim r.failed [ true ↦ Failed | false ↦ Bytes r.count ]
+filled_of r = elim r.failed [ Some e ↦ Failed e | None ↦ Bytes r.count ]
 
 -- no read failed, and n bytes came
 abbrev pub Came : Reading → ℕ → Type 0

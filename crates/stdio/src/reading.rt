@@ -1,52 +1,55 @@
-// How far standard input was read. A reading's fields are private, and `read_on` alone moves it on: no caller can take a failed read for
+// How far an input was read. A reading's fields are private, and `read_on` alone moves it on: no caller can take a failed read for
 // the end of the input.
-ghost use Rattle.std.specs.Prelude.{◌<◌, ◌≤◌, length, false, ◌≡◌};
+ghost use Rattle.std.specs.Prelude.{ℕ, ◌<◌, ◌≤◌, List, Option, length, take, false, None, ◌≡◌, IsTrue};
+ghost use Rattle.std.specs.Io.KnownBytes.{Consumes, IsAtEnd};
 ghost use Rattle.stdio.specs.Reads.{got_of, Room, after_read, left_of, filled_of, On};
 
-use libc::STDIN_FILENO;
+use std::io;
+use std::io::Read;
 
-// What one read gave: so many bytes, at least one; the end of the input; a failure.
+// What one read gave: so many bytes, at least one; the end of the input; a failure, and why.
 #[derive(Clone, Copy)]
 pub enum Got {
     Bytes(usize),
     End,
-    Failed,
+    Failed(io::Error),
 }
 
-// What filling a buffer gave: so many bytes at its start, all of it or all that the input had; a failure.
+// What filling a buffer gave: so many bytes at its start, all of it or all that the input had; a failure, and why.
 #[derive(Clone, Copy)]
 pub enum Filled {
     Bytes(usize),
-    Failed,
+    Failed(io::Error),
 }
 
-// So many bytes came; whether the input ended, whether a read failed.
+// So many bytes came; whether the input ended, whether a read failed, and why.
 #[derive(Clone, Copy)]
 pub struct Reading {
     count: usize,
     ended: bool,
-    failed: bool,
+    failed: Option<io::Error>,
 }
 
 // Nothing is read yet.
 pub(crate) fn begin() -> Reading
-    ensures { result ≡ record { count = 0; ended = false; failed = false } }
+    ensures { result ≡ record { count = 0; ended = false; failed = None } }
 {
     Reading {
         count: 0,
         ended: false,
-        failed: false,
+        failed: None,
     }
 }
 
 // How many bytes of a buffer of `len` may still come: none after the end or a failure.
+#[tactic(auto, unfolding(crate::specs::Reads::left_of))]
 pub(crate) fn left(r: Reading, len: usize) -> usize
     ensures { result ≡ left_of r len }
 {
     if r.ended {
         return 0;
     }
-    if r.failed {
+    if r.failed.is_some() {
         return 0;
     }
     if len < r.count {
@@ -56,24 +59,26 @@ pub(crate) fn left(r: Reading, len: usize) -> usize
 }
 
 // What a reading gave.
+#[tactic(auto, unfolding(crate::specs::Reads::filled_of))]
 pub fn gave(r: Reading) -> Filled
     ensures { result ≡ filled_of r }
 {
-    if r.failed {
-        return Filled::Failed;
+    match r.failed {
+        Some(e) => Filled::Failed(e),
+        None => Filled::Bytes(r.count),
     }
-    Filled::Bytes(r.count)
 }
 
-// What a read's answer says: below 0 it failed, at 0 the input ended. A read that a signal interrupts counts as failed: a program with
-// no signal handler meets none.
-fn told(got: isize, part: &[u8]) -> Got
+// What a read's answer says: an error that it failed, 0 that the input ended. A read that a signal interrupts counts as failed: a
+// program with no signal handler meets none.
+#[tactic(auto, unfolding(crate::specs::Reads::got_of, crate::specs::Reads::counted))]
+fn told(got: io::Result<usize>, part: &[u8]) -> Got
     ensures { result ≡ got_of got (length part.now) }
 {
-    if got < 0 {
-        return Got::Failed;
-    }
-    let n = io::count(got, part);
+    let n = match got {
+        Err(e) => return Got::Failed(e),
+        Ok(k) => k.min(part.len()),
+    };
     if n == 0 {
         return Got::End;
     }
@@ -81,6 +86,7 @@ fn told(got: isize, part: &[u8]) -> Got
 }
 
 // A reading of a buffer of `len` bytes, after one read more.
+#[tactic(auto, unfolding(crate::specs::Reads::after_read))]
 fn after(r: Reading, got: Got, len: usize) -> Reading
     requires { Room r.count len got }
     ensures { result ≡ after_read r got }
@@ -102,24 +108,27 @@ fn after(r: Reading, got: Got, len: usize) -> Reading
             ended: true,
             failed: failed,
         },
-        Got::Failed => Reading {
+        Got::Failed(e) => Reading {
             count: count,
             ended: ended,
-            failed: true,
+            failed: Some(e),
         },
     }
 }
 
-// One read, into the buffer from where it stands on.
-pub(crate) fn read_on(r: Reading, buf: &mut [u8]) -> Reading
+// One read, into the buffer from where it stands on. If what came before are the bytes of an input from its start on, so is what then came.
+pub(crate) fn read_on<R: Read>(r: Reading, input: &mut R, buf: &mut [u8]) -> Reading
     requires count_in_bounds { r.count ≤ length buf.old }
     requires nonzero { 0 < left_of r (length buf.old) }
-    ensures { On r buf.old buf.new result }
+    ensures on { On r buf.old buf.new result }
+    ensures bytes { (start : Option (List ℕ)) → Consumes start (R.remaining input.old) (take r.count buf.old)
+        → Consumes start (R.remaining input.new) (take result.count buf.new) }
+    ensures end { IsTrue result.ended → IsAtEnd (R.remaining input.new) }
 {
     let len = buf.len();
     let at = r.count;
     let part = &mut buf[at..];
-    let got = libc::read(STDIN_FILENO, part);
+    let got = input.read(part);
     let said = told(got, part);
     after(r, said, len)
 }

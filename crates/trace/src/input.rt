@@ -1,12 +1,36 @@
 // The script's words, little-endian, from standard input by way of a buffer, whose length is a multiple of four: a word never
 // stands half in one filling of it and half in the next.
 use crate::script::{Call, HEAD, MAX_LIST};
+use std::io;
+use std::io::Stdin;
 use stdio::Filled;
 
-// As many as the kit's large buffer.
+// The buffer's size.
 pub const BYTES: usize = 65536;
 
 pub type Bytes = [u8; BYTES];
+
+// Standard input and the buffer, and why a read failed, if one did.
+#[derive(Drop)]
+pub struct Source {
+    pub stdin: Stdin,
+    pub bytes: Bytes,
+    pub failed: Option<io::Error>,
+}
+
+// The buffer's room. A function hands an array out without what it holds, so that no proof looks at its elements.
+pub fn room() -> Bytes {
+    [0; BYTES]
+}
+
+// Nothing is read yet.
+pub fn from_stdin(stdin: Stdin) -> Source {
+    Source {
+        stdin: stdin,
+        bytes: room(),
+        failed: None,
+    }
+}
 
 // Where the reading stands: the buffer's bytes from `at` to `end` are still to be read.
 #[derive(Clone, Copy)]
@@ -22,7 +46,7 @@ pub const READING: usize = 0;
 pub const ENDED: usize = 1;
 // The script is cut off, or holds what the program does not take.
 pub const BAD: usize = 2;
-// A read or a write failed, which a line on standard error tells.
+// A read or a write failed, which a line on standard error will tell.
 pub const STOPPED: usize = 3;
 
 // Nothing is read yet.
@@ -94,13 +118,13 @@ fn word_at(bytes: &Bytes, i: usize) -> u32 {
     low | wide(bytes[i + 2]) << 16 | wide(bytes[i + 3]) << 24
 }
 
-// Where the reading stands after the buffer was filled; STOPPED if a read failed.
-fn begun(f: Filled) -> Input {
+// Where the reading stands after the buffer was filled; STOPPED if a read failed, and why is kept.
+fn begun(f: Filled, failed: &mut Option<io::Error>) -> Input {
     let mut r = start();
     match f {
         Filled::Bytes(n) => r.end = n,
-        Filled::Failed => {
-            os::fail(b"trace: read");
+        Filled::Failed(why) => {
+            *failed = Some(why);
             r.state = STOPPED;
         }
     }
@@ -108,34 +132,35 @@ fn begun(f: Filled) -> Input {
 }
 
 // Fills the buffer again if nothing in it is left to read.
-fn filled(bytes: &mut Bytes, r: Input) -> Input {
+fn filled(source: &mut Source, r: Input) -> Input {
     if r.at < r.end {
         return r;
     }
-    begun(stdio::gave(stdio::fill(bytes)))
+    let reading = stdio::fill(&mut source.stdin, &mut source.bytes);
+    begun(stdio::gave(reading), &mut source.failed)
 }
 
 // Reads a word to place `i` of a call; BAD if the input has no whole word left.
-fn next(bytes: &mut Bytes, call: &mut Call, i: usize, r: Input) -> Input {
+fn next(source: &mut Source, call: &mut Call, i: usize, r: Input) -> Input {
     if r.state != READING {
         return r;
     }
-    let f = filled(bytes, r);
+    let f = filled(source, r);
     if f.state != READING {
         return f;
     }
     if i < HEAD + MAX_LIST {
-        call[i] = word_at(bytes, f.at);
+        call[i] = word_at(&source.bytes, f.at);
     }
     passed(f)
 }
 
 // Reads words to the places of a call from `from` up to, not including, `to`.
-pub fn read(bytes: &mut Bytes, call: &mut Call, from: usize, to: usize, r: Input) -> Input {
+pub fn read(source: &mut Source, call: &mut Call, from: usize, to: usize, r: Input) -> Input {
     let mut now = r;
     let mut i = from;
     while i < to {
-        now = next(bytes, call, i, now);
+        now = next(source, call, i, now);
         i += 1;
     }
     now

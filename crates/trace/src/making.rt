@@ -3,7 +3,7 @@ use crate::changing::Called;
 use crate::lines::Said;
 use crate::output::Out;
 use crate::script::{Call, Head, Rows, Steps};
-use crate::{changing, lent, lines, looking, output, reading, script, whole};
+use crate::{changing, lines, looking, output, reading, script, whole, writing};
 use model::CausalGraph;
 
 // The current graph, and how many bytes of the output buffer are used.
@@ -29,7 +29,7 @@ fn plain(g: CausalGraph, h: Head, call: &Call) -> Called {
 fn lists(g: CausalGraph, h: Head, call: &Call, rows: &mut Rows, steps: &mut Steps) -> Said {
     let end = script::end(h);
     let all = &call[..];
-    lent::write(g, h, &all[script::HEAD..end], rows, steps)
+    writing::write(g, h, &all[script::HEAD..end], rows, steps)
 }
 
 // Makes a call.
@@ -46,9 +46,9 @@ fn listed(list: &mut [u32], h: Head, column: usize, out: &mut Out, used: usize) 
     if script::entry(h.operation, column) == script::NOWHERE {
         return used;
     }
-    let n = lent::filled(list, script::room(h, column));
+    let n = writing::filled(list, script::room(h, column));
     let now = output::list(out, used, list, n);
-    lent::clear(list, n);
+    writing::clear(list, n);
     now
 }
 

@@ -1,37 +1,55 @@
 // Standard output, by way of a buffer: `used` of its bytes are still to be written. Each function puts something after
 // them and answers how many there are then; LOST if a write failed.
-use crate::input::BYTES;
-use crate::words;
-use libc::STDOUT_FILENO;
+use crate::input::{BYTES, Bytes};
+use crate::{input, words};
+use itoa::Buffer;
+use std::io;
+use std::io::Stdout;
 
-pub type Out = [u8; BYTES];
+// Standard output and the buffer, and why a write failed, if one did.
+#[derive(Drop)]
+pub struct Out {
+    pub stdout: Stdout,
+    pub bytes: Bytes,
+    pub failed: Option<io::Error>,
+}
+
+// Nothing is written yet.
+pub fn to_stdout(stdout: Stdout) -> Out {
+    Out {
+        stdout: stdout,
+        bytes: input::room(),
+        failed: None,
+    }
+}
 
 // In place of the number of used bytes: a write failed, and nothing is put or written any more.
 pub const LOST: usize = usize::MAX;
 
-// Writes the buffer's used bytes; whether all were written. A line on standard error tells of the write that failed.
-pub fn flush(out: &Out, used: usize) -> bool {
-    let all = &out[..];
-    if all.len() < used {
+// Writes the buffer's used bytes; whether all were written. Why a write failed is kept.
+pub fn flush(out: &mut Out, used: usize) -> bool {
+    if BYTES < used {
         return false;
     }
-    if io::write_all(STDOUT_FILENO, &all[0..used]) {
-        return true;
+    match out.stdout.write_all(&out.bytes[..used]) {
+        Ok(()) => true,
+        Err(why) => {
+            out.failed = Some(why);
+            false
+        }
     }
-    os::fail(b"trace: write");
-    false
 }
 
 // A byte. Where the buffer is full, it is written first.
 pub fn byte(out: &mut Out, used: usize, b: u8) -> usize {
     if used < BYTES {
-        out[used] = b;
+        out.bytes[used] = b;
         return used + 1;
     }
     if !flush(out, used) {
         return LOST;
     }
-    out[0] = b;
+    out.bytes[0] = b;
     1
 }
 
@@ -49,9 +67,8 @@ pub fn text(out: &mut Out, used: usize, s: &[u8]) -> usize {
 // A space and a number in decimal.
 pub fn number(out: &mut Out, used: usize, n: u64) -> usize {
     let now = byte(out, used, b' ');
-    let mut digits = [0u8; 20];
-    let k = io::decimal(n, &mut digits);
-    text(out, now, &digits[..k])
+    let mut digits = Buffer::new();
+    text(out, now, digits.format(n).as_bytes())
 }
 
 // A space and a mark.

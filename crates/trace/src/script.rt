@@ -2,7 +2,7 @@
 // them after those.
 ghost use Rattle.std.specs.Prelude.{◌≤◌};
 
-use crate::input::{Bytes, Input};
+use crate::input::{Input, Source};
 use crate::words::least;
 use crate::{input, words};
 use model::{MAX_ENTRIES, MAX_FRONTIER, MAX_RUNS, MAX_STARTS};
@@ -117,11 +117,11 @@ fn has_rooms(h: Head) -> bool {
 }
 
 // Reads an operation and its arguments. Where the first leaves another state than READING, the second reads nothing.
-fn read_head(bytes: &mut Bytes, call: &mut Call, r: Input) -> Input {
-    let named = input::ended(input::read(bytes, call, 0, 1, r));
+fn read_head(source: &mut Source, call: &mut Call, r: Input) -> Input {
+    let named = input::ended(input::read(source, call, 0, 1, r));
     let n = entry(call[0], LENGTH);
     input::read(
-        bytes,
+        source,
         call,
         1,
         least(n, HEAD),
@@ -130,16 +130,16 @@ fn read_head(bytes: &mut Bytes, call: &mut Call, r: Input) -> Input {
 }
 
 // Reads the words that follow, and the room if that comes after them.
-fn read_rest(bytes: &mut Bytes, call: &mut Call, h: Head, r: Input) -> Input {
-    let listed = input::read(bytes, call, HEAD, end(h), r);
+fn read_rest(source: &mut Source, call: &mut Call, h: Head, r: Input) -> Input {
+    let listed = input::read(source, call, HEAD, end(h), r);
     let to = if h.operation == 20 { 3 } else { 2 };
-    input::read(bytes, call, 2, to, listed)
+    input::read(source, call, 2, to, listed)
 }
 
 // Reads a call.
-pub fn read(bytes: &mut Bytes, call: &mut Call, r: Input) -> Input {
-    let named = read_head(bytes, call, r);
+pub fn read(source: &mut Source, call: &mut Call, r: Input) -> Input {
+    let named = read_head(source, call, r);
     let h = head_of(call);
-    let all = read_rest(bytes, call, h, input::checked(named, count(h) <= MAX_LIST));
+    let all = read_rest(source, call, h, input::checked(named, count(h) <= MAX_LIST));
     input::checked(all, has_rooms(head_of(call)))
 }
