@@ -1,9 +1,11 @@
 // What `replay` prints, line by line, into a lent buffer: the whole lines that fit.
 ghost use Rattle.std.specs.Prelude.{◌≡◌, false, [], ◌++◌, ◌+◌, ◌<◌, ◌≤◌, length, drop, take, replicate};
-ghost use Rattle.model.specs.Refusals.{number as Refusals·number};
-ghost use Rattle.model.specs.Print.{ascii, decimal as Print·decimal, last_line, refused_line, push_refused_line};
+ghost use Rattle.model.specs.Refusals;
+ghost use Rattle.model.specs.Print;
+ghost use Rattle.model.specs.Print.{ascii, last_line, refused_line, push_refused_line};
 ghost use Rattle.model.specs.Reader.{decoded};
-ghost use Rattle.book.specs.Output.{max_line, shown, Shows, Adds, ended as Output·ended, step_bytes, word_lines, put_line, put_lines};
+ghost use Rattle.book.specs.Output;
+ghost use Rattle.book.specs.Output.{max_line, shown, Shows, Adds, step_bytes, word_lines, put_line, put_lines};
 
 use model::{EventRunIndex, Outcome, Refusal};
 
@@ -46,7 +48,7 @@ fn digit(n: u64) -> u8
 
 // A number in decimal.
 fn decimal(n: u64) -> Digits
-    ensures { (drop result.at result.bytes ≡ Print·decimal n) × (result.at < 20) }
+    ensures { (drop result.at result.bytes ≡ Print.decimal n) × (result.at < 20) }
 {
     let mut bytes = no_digits();
     let mut at = 20;
@@ -108,7 +110,7 @@ fn text(l: Line, s: &[u8]) -> Line
 // The line with a number after it.
 fn number(l: Line, n: u64) -> Line
     requires { l.count + 20 ≤ max_line }
-    ensures { Adds l (Print·decimal n) result }
+    ensures { Adds l (Print.decimal n) result }
 {
     let d = decimal(n);
     let at = d.at;
@@ -125,7 +127,7 @@ fn wide(n: u32) -> u64
 // A name and a number, as a line.
 fn one(name: &[u8], n: u64) -> Line
     requires { length name.now ≤ 8 }
-    ensures { Shows result (name.now ++ Print·decimal n ++ ascii "\n") }
+    ensures { Shows result (name.now ++ Print.decimal n ++ ascii "\n") }
 {
     let named = text(empty(), name);
     text(number(named, n), b"\n")
@@ -134,7 +136,7 @@ fn one(name: &[u8], n: u64) -> Line
 // A name and two numbers, as a line.
 fn two(name: &[u8], a: u32, b: u32) -> Line
     requires { length name.now ≤ 8 }
-    ensures { Shows result (name.now ++ Print·decimal a ++ ascii " " ++ Print·decimal b ++ ascii "\n") }
+    ensures { Shows result (name.now ++ Print.decimal a ++ ascii " " ++ Print.decimal b ++ ascii "\n") }
 {
     let named = text(empty(), name);
     let first = number(named, wide(a));
@@ -157,19 +159,19 @@ fn step_line(kind: u32, a: EventRunIndex, b: EventRunIndex) -> Line
 
 // A refusal's number, as wide as a line takes it.
 fn number_of(r: Refusal) -> u64
-    ensures { result ≡ Refusals·number r }
+    ensures { result ≡ Refusals.number r }
 {
     wide(model::number(r))
 }
 
 pub(crate) fn refused_line(r: Refusal) -> Line
-    ensures { Shows result (Output·ended (refused_line (Refusals·number r))) }
+    ensures { Shows result (Output.ended (refused_line (Refusals.number r))) }
 {
     one(b"refused ", number_of(r))
 }
 
 pub(crate) fn push_refused_line(r: Refusal, k: u32) -> Line
-    ensures { Shows result (Output·ended (push_refused_line (Refusals·number r) k)) }
+    ensures { Shows result (Output.ended (push_refused_line (Refusals.number r) k)) }
 {
     let named = text(empty(), b"refused ");
     let told = text(number(named, number_of(r)), b" push ");
@@ -178,7 +180,7 @@ pub(crate) fn push_refused_line(r: Refusal, k: u32) -> Line
 
 // The line after a replay's steps.
 pub(crate) fn last_line(outcome: Outcome, moved: u64) -> Line
-    ensures { Shows result (Output·ended (last_line outcome moved)) }
+    ensures { Shows result (Output.ended (last_line outcome moved)) }
 {
     match outcome {
         Outcome::Done => one(b"moved ", moved),

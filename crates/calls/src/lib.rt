@@ -6,10 +6,12 @@ mod either;
 pub mod lending;
 
 ghost use Rattle.std.specs.Prelude.{◌≡◌, ◌+◌, ◌<◌, ◌≤◌, length, get_or};
-ghost use Rattle.model.specs.Log.{begin as Log·begin, answer};
+ghost use Rattle.model.specs.Log;
+ghost use Rattle.model.specs.Log.{answer};
 ghost use Rattle.model.specs.Push.{push_of};
 ghost use Rattle.model.specs.Start.{start_run_at_of, take_changed_from_of};
-ghost use Rattle.calls.specs.Words.{list_in, whole as Words·whole, listed as Words·listed, start_size, start_of};
+ghost use Rattle.calls.specs.Words;
+ghost use Rattle.calls.specs.Words.{list_in, start_size, start_of};
 ghost use Rattle.calls.specs.Words.{call_operation, call_size, call_of, calls_after, called_by, graph_after, EveryList};
 ghost use Rattle.calls.specs.Again.{StartsAgain};
 
@@ -27,7 +29,7 @@ fn get(words: &[u32], i: usize) -> u32
 
 // The size of a call, or 0 where the words end before it.
 fn whole(size: usize, words: &[u32]) -> usize
-    ensures { result ≡ Words·whole size words.now }
+    ensures { result ≡ Words.whole size words.now }
 {
     if size <= words.len() {
         return size;
@@ -37,7 +39,7 @@ fn whole(size: usize, words: &[u32]) -> usize
 
 // The same for a call that ends in a list.
 fn listed(words: &[u32]) -> usize
-    ensures { result ≡ Words·listed words.now }
+    ensures { result ≡ Words.listed words.now }
 {
     let count = get(words, 2) as usize;
     whole(3 + count, words)
@@ -86,7 +88,7 @@ fn call_size(words: &[u32]) -> usize
 // The graph of the start at the front.
 fn begin(words: &[u32]) -> CausalGraph
     requires { 0 < start_size words.now }
-    ensures { result ≡ (Log·begin (start_of words.now)).1 }
+    ensures { result ≡ (Log.begin (start_of words.now)).1 }
 {
     let op = get(words, 0);
     if op == 0 {

@@ -3,8 +3,9 @@ ghost use Rattle.std.specs.Prelude.{◌≡◌, not, ◌&&◌, ◌||◌, ◌+◌,
 ghost use Rattle.lists.specs.Lists.{same};
 ghost use Rattle.lists.specs.Areas.{zeros, climbs};
 ghost use Rattle.model.specs.Limits.{max_entries, max_frontier, max_runs};
+ghost use Rattle.model.specs.Broken;
 ghost use Rattle.model.specs.Broken.{frontier_fits};
-ghost use Rattle.model.specs.Broken.{broken as Broken·broken};
+ghost use Rattle.model.specs.Broken.{broken as Broken.broken};
 ghost use Rattle.graph.specs.Loops.{marks_of};
 
 use model::{CausalGraph, EventIndex, MAX_ENTRIES, MAX_FRONTIER, MAX_RUNS};
@@ -127,7 +128,7 @@ fn bad_padding<'a>(
 
 // Whether a graph is broken.
 pub fn is_broken(g: CausalGraph) -> bool
-    ensures { result ≡ Broken·broken g }
+    ensures { result ≡ Broken.broken g }
 {
     if over_limit(g.run_count, g.entry_count, g.frontier_count, g.mark_count) {
         return true;

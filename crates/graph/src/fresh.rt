@@ -4,7 +4,8 @@ ghost use Rattle.lists.specs.Scans.{max_kept};
 ghost use Rattle.lists.specs.Areas.{pad};
 ghost use Rattle.model.specs.Limits.{max_entries, max_frontier, max_runs, max_starts};
 ghost use Rattle.model.specs.Record.{store};
-ghost use Rattle.model.specs.Fresh.{fresh as Fresh·fresh, new_of, after_of};
+ghost use Rattle.model.specs.Fresh;
+ghost use Rattle.model.specs.Fresh.{new_of, after_of};
 
 use lists::MAX_KEPT;
 use model::{
@@ -48,7 +49,7 @@ pub(crate) fn padded(s: &[u32]) -> [u32; MAX_KEPT]
 // A graph with no runs after the first `events` events.
 fn fresh_held(events: EventIndex, frontier: &[u32]) -> CausalGraph
     requires { length frontier.now ≤ max_frontier }
-    ensures { result ≡ store (Fresh·fresh events.0 frontier.now) }
+    ensures { result ≡ store (Fresh.fresh events.0 frontier.now) }
 {
     let mut starts = no_starts();
     starts[0] = events.0;

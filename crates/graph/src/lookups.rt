@@ -1,6 +1,6 @@
 // What is read off a graph.
 ghost use Rattle.std.specs.Prelude.{◌≡◌, [], ◌≤◌, length};
-ghost use Rattle.model.specs.declared.answers.Outcome.TheVariants.{Done, Refused as Outcome-as-Refused};
+ghost use Rattle.model.specs.declared.answers.Outcome.TheVariants.{Done, Refused as RefusedOutcome};
 ghost use Rattle.model.specs.Limits.{max_runs, max_starts};
 ghost use Rattle.model.specs.Answers.{containing_or, parent_runs_or, frontier_or};
 ghost use Rattle.graph.specs.Loops.{side_in};
@@ -52,7 +52,7 @@ pub fn events(g: CausalGraph, run: EventRunIndex) -> EventsAnswer
 
 // A refusal, with no parents.
 fn no_parents(refusal: Refusal) -> ParentRuns
-    ensures { result ≡ parent_runs_or (Outcome-as-Refused refusal) [] }
+    ensures { result ≡ parent_runs_or (RefusedOutcome refusal) [] }
 {
     ParentRuns {
         runs: [0; MAX_RUNS],
@@ -134,7 +134,7 @@ pub fn is_empty(g: CausalGraph) -> BoolAnswer
 
 // A refusal, with no frontier.
 fn no_frontier(refusal: Refusal) -> FrontierEvents
-    ensures { result ≡ frontier_or (Outcome-as-Refused refusal) [] }
+    ensures { result ≡ frontier_or (RefusedOutcome refusal) [] }
 {
     FrontierEvents {
         events: [0; MAX_FRONTIER],

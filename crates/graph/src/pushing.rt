@@ -2,7 +2,8 @@
 ghost use Rattle.std.specs.Prelude.{◌≡◌, true, false, cond, ◌&&◌, [], ◌∷◌, ◌+◌, ◌-◌, ◌<◌, ◌≤◌, ◌^◌, min, length, get_or, take, ltb, eqb};
 ghost use Rattle.lists.specs.Lists.{bit, count, rising, same};
 ghost use Rattle.model.specs.Limits.{max_entries, max_len, max_runs, max_starts};
-ghost use Rattle.model.specs.Graph.{len, marks as Graph·marks, is_held, all_known, extends};
+ghost use Rattle.model.specs.Graph;
+ghost use Rattle.model.specs.Graph.{len, is_held, all_known, extends};
 ghost use Rattle.model.specs.Record.{view, store};
 ghost use Rattle.model.specs.Broken.{Held};
 ghost use Rattle.model.specs.Push.{grown, joined, lowered, push_held_of, push_of};
@@ -244,7 +245,7 @@ fn lower(from: EventRunIndex, lost: bool, run: EventRunIndex) -> EventRunIndex
 // The lowest of `from` and the marked runs that start past `seen`.
 fn lower_all(g: CausalGraph, seen: EventIndex, from: EventRunIndex) -> EventRunIndex
     requires { Held g }
-    ensures { result.0 ≡ lower_all (view g).starts seen.0 from.0 (Graph·marks (view g)) }
+    ensures { result.0 ≡ lower_all (view g).starts seen.0 from.0 (Graph.marks (view g)) }
 {
     let mut c = from;
     let mut i = 0;

@@ -4,7 +4,8 @@ ghost use Rattle.model.specs.Limits.{max_entries, max_runs};
 ghost use Rattle.model.specs.Graph.{held};
 ghost use Rattle.model.specs.Record.{view, store};
 ghost use Rattle.model.specs.Broken.{Held};
-ghost use Rattle.model.specs.Split.{split, split_after, splits as Split·splits};
+ghost use Rattle.model.specs.Split;
+ghost use Rattle.model.specs.Split.{split, split_after};
 ghost use Rattle.graph.specs.Loops.{Room, parts, SplitFits, split_in, AfterFits, after_in, with_parts};
 
 use model::{
@@ -142,7 +143,7 @@ fn split_after(
 pub(crate) fn split_all(g: CausalGraph, ps: &[u32], splits: usize) -> CausalGraph
     requires held { Held g }
     requires room { Room (view g) ps.now }
-    requires splits_value { splits ≡ Split·splits (view g) ps.now }
+    requires splits_value { splits ≡ Split.splits (view g) ps.now }
     ensures { result ≡ store (split_after (view g) (held (view g) ps.now)) }
 {
     if splits == 0 {

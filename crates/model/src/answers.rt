@@ -1,6 +1,6 @@
 // What the calls of 01 answer, and 01's number of each refusal.
 ghost use Rattle.std.specs.Prelude.{◌≡◌};
-ghost use Rattle.model.specs.Refusals.{number as Refusals·number};
+ghost use Rattle.model.specs.Refusals;
 
 use crate::limits::{MAX_FRONTIER, MAX_RUNS};
 use crate::record::{CausalGraph, EventIndex, EventRunIndex};
@@ -29,7 +29,7 @@ pub enum Refusal {
 
 // 01's number of a refusal: the one place in code that knows it.
 pub fn number(r: Refusal) -> u32
-    ensures { result ≡ Refusals·number r }
+    ensures { result ≡ Refusals.number r }
 {
     match r {
         Refusal::Broken => 1,

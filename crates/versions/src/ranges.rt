@@ -2,7 +2,7 @@
 // it are odd in number, and the next word is then its range's end. Each pass goes forward over the runs and the words together.
 ghost use Rattle.std.specs.Prelude.{◌≡◌, true, ◌≤◌};
 ghost use Rattle.lists.specs.Lists.{all, upto, rising};
-ghost use Rattle.model.specs.Wanted.{ranges as Wanted·ranges};
+ghost use Rattle.model.specs.Wanted;
 ghost use Rattle.versions.specs.Ranges.{is_odd, place_of, words_within, clear_at, end_at, clear_in, Ends, Starts};
 
 use model::{EventIndex, MAX_RUNS};
@@ -16,7 +16,7 @@ fn is_odd(k: usize) -> bool
 
 // Whether words rise, each first with its end.
 pub(crate) fn are_ranges(words: &[u32]) -> bool
-    ensures { result ≡ Wanted·ranges words.now }
+    ensures { result ≡ Wanted.ranges words.now }
 {
     if is_odd(words.len()) {
         return false;

@@ -8,7 +8,8 @@ ghost use Rattle.model.specs.Limits.{max_runs};
 ghost use Rattle.model.specs.Graph.{all_held};
 ghost use Rattle.model.specs.Record.{view};
 ghost use Rattle.model.specs.Broken.{Held};
-ghost use Rattle.model.specs.Wanted.{events_in, ranges as Wanted·ranges, wanted_parents_of};
+ghost use Rattle.model.specs.Wanted;
+ghost use Rattle.model.specs.Wanted.{events_in, wanted_parents_of};
 ghost use Rattle.graph.specs.Rows.{row, Rows};
 ghost use Rattle.versions.specs.Flags.{flag_all};
 ghost use Rattle.versions.specs.Ranges.{flag_marked, marked_whole, tops};
@@ -126,7 +127,7 @@ fn top_events(flags: &[u32], ends: &[u32], n: usize) -> Kept
 // `wanted_parents` on a graph that is known not to be broken, and ranges of held events.
 fn wanted_held(g: CausalGraph, ranges: &[u32], list: &mut [u32]) -> Written
     requires held { Held g }
-    requires ranges_value { Wanted·ranges ranges.now ≡ true }
+    requires ranges_value { Wanted.ranges ranges.now ≡ true }
     requires ranges_value_2 { all_held (view g) (events_in ranges.now) ≡ true }
     ensures { (result, list.new) ≡ wanted_parents_of g ranges.now list.old }
 {

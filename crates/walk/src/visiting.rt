@@ -216,7 +216,7 @@ fn visit_next<'a>(
       first = first;
     }) (s, steps.old, current.old, waiting.old, ready.old) }
     ensures { Turned (record {
-      starts = starts.entry.now;
+      starts = starts.now;
       rows = rows.now;
       groups = groups.now;
       tables = tables.now;
@@ -317,8 +317,8 @@ fn visit_all<'a>(
     }) (begun, steps.old, current.old, waiting.old, ready.old) }
     requires n_bound { begun.moved + (n + 1) * 2 ^ 52 < 2 ^ 63 }
     ensures steps_after { (out_in result, steps.new) ≡ emit (out_in begun, steps.old)
-        (recs starts.entry.now (steps_of (range_for (record {
-          starts = starts.entry.now;
+        (recs starts.now (steps_of (range_for (record {
+          starts = starts.now;
           rows = rows.now;
           groups = groups.now;
           tables = tables.now;
@@ -382,8 +382,8 @@ fn visits_in<'a>(
     requires n_bound { out.moved + (n + 1) * 2 ^ 52 < 2 ^ 63 }
     requires max_runs_in_bounds { (max_runs ≤ length current.old) × (length waiting.old ≡ n) × (max_runs ≤ length ready.old) }
     ensures steps_after { (result, steps.new) ≡ emit (out, steps.old)
-        (recs starts.entry.now (steps_of (range_for (record {
-          starts = starts.entry.now;
+        (recs starts.now (steps_of (range_for (record {
+          starts = starts.now;
           rows = rows.now;
           groups = groups.now;
           tables = tables.now;
@@ -455,8 +455,8 @@ pub(crate) fn visits<'a>(
     }) }
     requires n_bound { out.moved + (n + 1) * 2 ^ 52 < 2 ^ 63 }
     ensures steps_after { (result, steps.new) ≡ emit (out, steps.old)
-        (recs starts.entry.now (steps_of (range_for (record {
-          starts = starts.entry.now;
+        (recs starts.now (steps_of (range_for (record {
+          starts = starts.now;
           rows = rows.now;
           groups = groups.now;
           tables = tables.now;
