@@ -5,7 +5,6 @@ ghost use Rattle.lists.specs.Areas.{zeros, climbs};
 ghost use Rattle.model.specs.Limits.{max_entries, max_frontier, max_runs};
 ghost use Rattle.model.specs.Broken;
 ghost use Rattle.model.specs.Broken.{frontier_fits};
-ghost use Rattle.model.specs.Broken.{broken as Broken.broken};
 ghost use Rattle.graph.specs.Loops.{marks_of};
 
 use model::{CausalGraph, EventIndex, MAX_ENTRIES, MAX_FRONTIER, MAX_RUNS};
