@@ -2,8 +2,7 @@
 ghost use Rattle.std.specs.Prelude.{◌≡◌, [], ◌∷◌, ◌+◌, ◌≤◌, length, take, drop, get_or, eqb};
 ghost use Rattle.model.specs.Broken.{Held};
 ghost use Rattle.model.specs.Cut.{cut_of, ranges_from};
-ghost use Rattle.graph.specs.Cutting;
-ghost use Rattle.graph.specs.Cutting.{blank, written_of, pending, join_on, put_ranges, cut_on};
+ghost use Rattle.graph.specs.Cutting.{blank, put as put_record, written_of, pending, join_on, put_ranges, cut_on};
 
 use model::{CausalGraph, EventRunIndex, Outcome, Refusal, Written};
 
@@ -16,7 +15,7 @@ pub struct Put {
 
 // Writes one record of three words after the others, if it fits and all before it did.
 fn put_three(list: &mut [u32], p: Put, a: u32, b: u32, c: u32) -> Put
-    ensures { (result, list.new) ≡ Cutting.put 3 (p, list.old) (a ∷ b ∷ c ∷ []) }
+    ensures { (result, list.new) ≡ put_record 3 (p, list.old) (a ∷ b ∷ c ∷ []) }
 {
     let n = p.count;
     if p.short != 0 {

@@ -3,8 +3,7 @@ ghost use Rattle.std.specs.Prelude.{◌≡◌, ◌+◌, ◌-◌, ◌*◌, ◌<�
 ghost use Rattle.model.specs.Broken.{Held};
 ghost use Rattle.model.specs.Replay.{replay_of};
 ghost use Rattle.walk.specs.Ranges.{Arrays, Room};
-ghost use Rattle.walk.specs.Walked;
-ghost use Rattle.walk.specs.Walked.{out_of, unwritten, replay_on, replay_all};
+ghost use Rattle.walk.specs.Walked.{out_of, ranged as walked_range, unwritten, replay_on, replay_all};
 ghost use Rattle.walk.specs.CutRecords.{range_by, ranges_in, runs_of, Tiled};
 
 use crate::walking::Ranged;
@@ -26,7 +25,7 @@ fn out_of(r: Ranged) -> Out
 }
 
 fn ranged(o: Out) -> Ranged
-    ensures { result ≡ Walked.ranged o 0 }
+    ensures { result ≡ walked_range o 0 }
 {
     Ranged {
         count: o.count,
@@ -103,7 +102,7 @@ fn replay_all<'a>(
     requires n_in_bounds { 3 * n ≤ length cut.now }
     requires room { Room groups.old tables.old before.old sizes.old children.old covers.old scratch.old }
     ensures { (result, rows.new, steps.new) ≡ replay_all starts.now (runs_of starts.now heads.now parents.now)
-        (Walked.ranged unwritten 0, rows.old, steps.old) (ranges_in cut.now 0 n) }
+        (walked_range unwritten 0, rows.old, steps.old) (ranges_in cut.now 0 n) }
 {
     let mut r = Ranged {
         count: 0,
@@ -139,7 +138,7 @@ fn replay_fresh<'a>(
     requires tiled { Tiled starts.now heads.now parents.now cut.now n }
     requires n_in_bounds { 3 * n ≤ length cut.now }
     ensures { (result, rows.new, steps.new) ≡ replay_all starts.now (runs_of starts.now heads.now parents.now)
-        (Walked.ranged unwritten 0, rows.old, steps.old) (ranges_in cut.now 0 n) }
+        (walked_range unwritten 0, rows.old, steps.old) (ranges_in cut.now 0 n) }
 {
     let mut groups = areas::no_groups();
     let mut tables = areas::no_tables();
