@@ -8,34 +8,34 @@ import subprocess
 import sys
 
 HEAD = """-- Random call lists, held against the Rust. Assumes nothing.
-use mathlib.Core.Path.{_≡_, refl}
-use mathlib.Core.List.{List, [], _∷_}
-use Prim.Native.Nat.{ℕ, _*_}
+use mathlib.Core.Path.{◌≡◌, refl}
+use mathlib.Core.List.{List, [], ◌∷◌}
+use Prim.Native.Nat.{ℕ, ◌*◌}
 use mathlib.Core.Bool.{false}
 use lib.ListN.{replicate, take}
-use Rattle·model·specs.specs.declared.record.CausalGraph.{CausalGraph}
-use Rattle·model·specs.specs.Graph.{marks}
-use Rattle·model·specs.specs.Record.{view}
-use Rattle·model·specs.specs.Broken.{broken}
-use Rattle·model·specs.specs.Answers.{outcomeNumber}
-use Rattle·model·specs.specs.Walk.{WalkResult, walkOf}
-use Rattle·model·specs.specs.Replay.{replayOf}
-use Rattle·model·specs.specs.Cut.{cutOf}
-use Rattle·model·specs.specs.Log.{new, after, Call, push, startRunAt, takeChangedFrom, begin, madeBy}
-use Rattle·model·specs.specs.Cases.{answers}
-use Rattle·model·proofs.proofs.Everything.{everything}
+use Rattle.model.specs.declared.record.CausalGraph.{CausalGraph}
+use Rattle.model.specs.Graph.{marks}
+use Rattle.model.specs.Record.{view}
+use Rattle.model.specs.Broken.{broken}
+use Rattle.model.specs.Answers.{outcome_number}
+use Rattle.model.specs.Walk.{WalkResult, walk_of}
+use Rattle.model.specs.Replay.{replay_of}
+use Rattle.model.specs.Cut.{cut_of}
+use Rattle.model.specs.Log.{new, after, Call, push, start_run_at, take_changed_from, begin, made_by}
+use Rattle.model.specs.Cases.{answers}
+use Rattle.model.proofs.Everything.{everything}
 
 abbrev room : List ℕ
 room = replicate 3000 7
 
 abbrev said : WalkResult → List (List ℕ)
-said r = (outcomeNumber (r .0 .outcome) ∷ r .0 .count ∷ r .0 .moved ∷ []) ∷ take (3 * r .0 .count) (r .2) ∷ []
+said r = (outcome_number r.0.outcome ∷ r.0.count ∷ r.0.moved ∷ []) ∷ take (3 * r.0.count) r.2 ∷ []
 
 abbrev cut : CausalGraph → List ℕ
-cut g = let r = cutOf g 0 room in (outcomeNumber (r .0 .outcome) ∷ r .0 .count ∷ take (3 * r .0 .count) (r .1))
+cut g = let r = cut_of g 0 room in (outcome_number r.0.outcome ∷ r.0.count ∷ take (3 * r.0.count) r.1)
 
 abbrev shape : CausalGraph → List (List ℕ)
-shape g = let v = view g in v .starts ∷ v .frontier ∷ v .seen ∷ marks v ∷ (v .changed ∷ []) ∷ v .parents
+shape g = let v = view g in v.starts ∷ v.frontier ∷ v.seen ∷ marks v ∷ (v.changed ∷ []) ∷ v.parents
 """
 
 
@@ -60,28 +60,28 @@ def equations(name, script):
             calls.append(f"push {items(c['parents'])} {c['len']}")
             answers.append([c["refused"], c["first"], c["end"]])
         elif c["call"] == "start_run_at":
-            calls.append(f"startRunAt {c['at']}")
+            calls.append(f"start_run_at {c['at']}")
             answers.append([0, int(c["answer"])])
         elif c["call"] == "take_changed_from":
-            calls.append("takeChangedFrom")
+            calls.append("take_changed_from")
             answers.append([0, c["answer"]])
     walk, cut, replay = script["walk"], script["cut"], script["replay"]
     rows = flat(walk["rows"])
     graph = [script["starts"], script["frontier"], script["seen"], script["marks"], [script["changed"]]] + script["parents"]
-    walked = f"walkOf {name}-graph {walk['from']} {walk['to']} {walk['known']} {walk['first']} room room"
+    walked = f"walk_of {name}_graph {walk['from']} {walk['to']} {walk['known']} {walk['first']} room room"
     facts = [
-        f"(outcomeNumber ((begin {fresh}) .0) ≡ {refused})",
-        f"(answers ((begin {fresh}) .1) {name}-calls ≡ {lists(answers)})",
-        f"(broken {name}-graph ≡ false)",
-        f"(shape {name}-graph ≡ {lists(graph)})",
-        f"(cut {name}-graph ≡ {items([0, len(cut)] + flat(cut))})",
-        f"(said (replayOf {name}-graph room room) ≡ {lists([[0, len(replay), script['moved']], flat(replay)])})",
+        f"(outcome_number (begin {fresh}).0 ≡ {refused})",
+        f"(answers (begin {fresh}).1 {name}_calls ≡ {lists(answers)})",
+        f"(broken {name}_graph ≡ false)",
+        f"(shape {name}_graph ≡ {lists(graph)})",
+        f"(cut {name}_graph ≡ {items([0, len(cut)] + flat(cut))})",
+        f"(said (replay_of {name}_graph room room) ≡ {lists([[0, len(replay), script['moved']], flat(replay)])})",
         f"(said ({walked}) ≡ {lists([[0, len(walk['steps']), walk['moved']], flat(walk['steps'])])})",
-        f"(take {len(rows) + 1} (({walked}) .1) ≡ {items(rows + [7])})",
+        f"(take {len(rows) + 1} ({walked}).1 ≡ {items(rows + [7])})",
     ]
     return (
-        f"abbrev {name}-calls : List Call\n{name}-calls = {items(calls)}\n\n"
-        f"abbrev {name}-graph : CausalGraph\n{name}-graph = (madeBy {fresh} {name}-calls) .0\n\n"
+        f"abbrev {name}_calls : List Call\n{name}_calls = {items(calls)}\n\n"
+        f"abbrev {name}_graph : CausalGraph\n{name}_graph = (made_by {fresh} {name}_calls).0\n\n"
         f"{name} : {' × '.join(facts)}\nunfolding everything\n{name} = ({', '.join(['refl'] * len(facts))})\n"
     )
 
@@ -89,4 +89,4 @@ def equations(name, script):
 sample, seed, count = sys.argv[1:4]
 scripts = subprocess.run([sample, seed, count], capture_output=True, text=True, check=True).stdout.split("\n")
 print(HEAD)
-print("\n".join(equations(f"sample-{i}", json.loads(s)) for i, s in enumerate(scripts) if s))
+print("\n".join(equations(f"sample_{i}", json.loads(s)) for i, s in enumerate(scripts) if s))

@@ -1,16 +1,18 @@
 #!/usr/bin/env python3
-"""Wrong answers of the public calls: each edit is made in a copy of the tree, and `rt dev` of the edited crate has to refuse it.
+"""Wrong answers of the public calls: each edit is made in a copy of the tree, and `rt check` of the edited crate has to refuse it.
 
-tools/wrong_answers.py              all, about 20 minutes
+tools/wrong_answers.py              all
 tools/wrong_answers.py book 3 7     only these, by crate or by number
-Ends with status 1 if one is not refused, or is refused only because the proof does not fit the code's shape.
-RT=command is run in place of rt. LOGS=folder keeps what was said.
+tools/wrong_answers.py --texts ..   only tells whether each edit's old text stands, once or at its place; nothing is proved
+Ends with status 1 if one is not refused, or is refused only because its text or a proof does not fit the code's names.
+RT=command is run in place of rt. LOGS=folder keeps what was said. JOBS=n tries n at a time (2).
 """
-import os, re, shutil, subprocess, sys, tempfile, time
+import concurrent.futures, os, queue, re, shutil, subprocess, sys, tempfile, time
 
 TOP = os.path.dirname(os.path.dirname(os.path.abspath(__file__)))
 RT = os.environ.get("RT", "rt")
 LOGS = os.environ.get("LOGS")
+JOBS = int(os.environ.get("JOBS", "2"))
 
 # By the crate that is edited, which may be one below the call's: call, wrong answer, file, old text, new text, and which of its places
 # where the old text stands more than once. Or the name of an edit: one of the crate's must-fail edits, which the gate tries too, or one
@@ -18,8 +20,8 @@ LOGS = os.environ.get("LOGS")
 # bounds, with the proof of them.
 # The list's room looked at before the marks
 SHORT_FIRST = [
-    ("specs/Wanted.antt", "    (not (closed (heldEvents (view g)) (eventsIn ws)), 17) ∷\n    (ltb (length lent) (length (wantedParents (view g) ws)), 11) ∷ [])",
-     "    (ltb (length lent) (length (wantedParents (view g) ws)), 11) ∷\n    (not (closed (heldEvents (view g)) (eventsIn ws)), 17) ∷ [])"),
+    ("specs/Wanted.antt", "    (not (closed (held_events (view g)) (events_in ws)), 17) ∷\n    (ltb (length lent) (length (wanted_parents (view g) ws)), 11) ∷ [])",
+     "    (ltb (length lent) (length (wanted_parents (view g) ws)), 11) ∷\n    (not (closed (held_events (view g)) (events_in ws)), 17) ∷ [])"),
 ]
 
 MODEL = [
@@ -105,14 +107,6 @@ GRAPH = [
     ("archive::archive_points", "count 0 where the list is too short", "cut.rt", "count: p.count,\n        outcome: Outcome::Refused", "count: 0,\n        outcome: Outcome::Refused"),
 ]
 
-# The last run first, and the proof of the differences that it reads by
-FALLING = [
-    ("src/concurrent.rt", "EventRunIndex(q as u32), flags[q]", "EventRunIndex((n - 1 - q) as u32), flags[n - 1 - q]"),
-    ("proofs/concurrent/put_all_free/Proof.antt", "cast-t9 : tie.Need-cast-t9 Inv-loop μ-loop\ncast-t9 c = search needs\n",
-     "".join("%s : tie.Need-%s Inv-loop μ-loop\n%s c = search needs\n\n" % (n, n, n) for n in ["sub-t9", "sub-t10", "cast-t11", "sub-put-free", "sub-put-free-2"])),
-    ("proofs/concurrent/put_all_free/Proof.antt", "    cast-t9\n", "    sub-t9\n    sub-t10\n    cast-t11\n    sub-put-free\n    sub-put-free-2\n"),
-]
-
 VERSIONS = [
     ("archive::archive_points", "one head among a run's parents is enough, the last", "one_head"),
     ("archive::archive_points", "a run's last child in place of its first", "last_child"),
@@ -123,7 +117,7 @@ VERSIONS = [
     ("concurrent::concurrent_runs", "all runs, itself too", "concurrent.rt", "f[at] = 1;", "f[at] = 0;"),
     ("concurrent::concurrent_runs", "writes the runs that fit where the list is too short", "concurrent.rt", "if list.len() < k {", "if list.len() < 0 {"),
     ("concurrent::concurrent_runs", "run 0 is left out", "concurrent.rt", "let mut q = 0;\n    while q < n {\n        p = put_free", "let mut q = 1;\n    while q < n {\n        p = put_free"),
-    ("concurrent::concurrent_runs", "falling by run number", FALLING),
+    ("concurrent::concurrent_runs", "falling by run number", "concurrent.rt", "EventRunIndex(q as u32), flags[q]", "EventRunIndex((n - 1 - q) as u32), flags[n - 1 - q]"),
     ("wanted::wanted_parents", "an ancestor is left in the answer", "ancestor_left"),
     ("wanted::wanted_parents", "a mark that is not closed is taken", "parent_unmarked"),
     ("wanted::wanted_parents", "a range that begins inside a run is taken", "wanted.rt", "if !all_clear(&g.starts, n, ranges) {", "if !all_clear(&g.starts, 0, ranges) {"),
@@ -201,7 +195,7 @@ WALK = [
     ("replaying::replay", "moved is the step count", "replaying.rt", "moved: o.moved,", "moved: o.count,"),
     ("replaying::replay", "opens no run", "replaying.rt", "out_of(r), 3, a.0, b.0, 0)", "out_of(r), 3, a.0, a.0, 0)"),
     ("replaying::replay", "count 0 under 13", "walking.rt", "count: out.count,", "count: 0,"),
-    ("replaying::replay", "takes a range's first run as known", "replaying.rt", "        o,\n        a,\n        b,\n        0,\n        0,", "        o,\n        a,\n        b,\n        1,\n        0,"),
+    ("replaying::replay", "takes a range's first run as known", "replaying.rt", "o, a, b, 0, 0, starts,", "o, a, b, 1, 0, starts,"),
 ]
 
 BOOK = [
@@ -223,8 +217,11 @@ TRIES = {"model": MODEL, "graph": GRAPH, "versions": VERSIONS, "reader": READER,
 # Each with its crate, numbered through
 ALL = [(crate, t) for crate, tries in TRIES.items() for t in tries]
 
-# A proof that does not fit the code says nothing of a fact
-SHAPE = re.compile(r"can be named from here|has no field|expected type `tie\.|not in scope|syntax|cannot find|mismatched|mir\.MapTy|types\.Kit\.allocs")
+# An error, or a note of a goal that is not proved, with its file; one that says no more than that a name is gone from a proof file, or that another proof was refused; and one
+# that says that the edited text cannot be read
+TOLD = re.compile(r"(?:note: (?:\./)?(\S+?):\d+:\d+: |(?:\./)?(\S+?):\d+:\d+: error(\[[\w-]+\])?: )")
+NAMES = re.compile(r"has no field|is not in scope|has no `|can be named from here|was not admitted|was rejected, w")
+UNREAD = re.compile(r"is not in scope|has no field|is no name|operand is missing|expected the end|cannot continue")
 
 
 def edited(text, old, new, which=None):
@@ -254,28 +251,63 @@ def edits(crate, name, *texts):
     return found
 
 
+def texts(crate, *edit):
+    """The edited files of a crate, by their paths, with their text."""
+    found = {}
+    for name, *parts in edits(crate, *edit):
+        if name not in found:
+            with open(os.path.join(TOP, "crates", crate, name), encoding="utf-8") as f:
+                found[name] = f.read()
+        found[name] = edited(found[name], *parts)
+    return found
+
+
 def check(tree, crate):
-    return subprocess.run([RT, "dev", crate], cwd=tree, stdout=subprocess.PIPE, stderr=subprocess.STDOUT, text=True)
+    how = {"cwd": os.path.join(tree, "crates", crate), "stdout": subprocess.PIPE, "stderr": subprocess.STDOUT, "text": True, "errors": "replace"}
+    return subprocess.run([RT, "check", *(["--jobs", "1"] if JOBS > 1 else [])], **how)
 
 
-def refused(tree, i):
-    crate, (call, words, *edit) = ALL[i]
-    kept = {}
-    for name, *texts in edits(crate, *edit):
-        path = os.path.join(tree, "crates", crate, name)
-        text = open(path).read()
-        kept.setdefault(path, text)
-        with open(path, "w") as f:
-            f.write(edited(text, *texts))
+def judged(said, names):
+    """Whether a fact was refused, and the line that says so, or what was said in its place."""
+    lines = said.stdout.split("\n")
+    last = next((line for line in reversed(lines) if line.startswith("logic=")), "")
+    if said.returncode == 0 or last.startswith("logic=proved"):
+        return False, "STILL PROVED"
+    told = [(line, at[1] or at[2], at[3]) for line in lines for at in [TOLD.match(line)] if at]
+    for line, path, kind in told:
+        if kind or (path in names or path.startswith(("src/", "specs/"))) and UNREAD.search(re.sub(r"`[^`]*`", "", line)):
+            return False, "THE EDITED TEXT IS NOT READ: " + line
+    if not last.startswith("logic=not-proved"):
+        return False, "NO VERDICT: " + " ".join(lines[-4:])
+    fact = next((line for line, path, _ in told if not NAMES.search(line)), None)
+    if fact is None:
+        return False, "REFUSED FOR NAMES ALONE: " + (told[0][0] if told else last)
+    return True, "refused: " + fact
+
+
+def refused(tree, crate, i):
+    _, (call, words, *edit) = ALL[i]
+    folder = os.path.join(tree, "crates", crate)
+    kept, begin = {}, os.path.join(tree, "begin")
+    # Each begins with what the crate's own check left
+    shutil.rmtree(os.path.join(folder, "out"))
+    shutil.copytree(begin, os.path.join(folder, "out"), symlinks=True)
+    new = texts(crate, *edit)
+    for name, text in new.items():
+        path = os.path.join(folder, name)
+        with open(path, encoding="utf-8") as f:
+            kept[path] = f.read()
+        with open(path, "w", encoding="utf-8") as f:
+            f.write(text)
     said = check(tree, crate)
     for path, text in kept.items():
-        with open(path, "w") as f:
+        with open(path, "w", encoding="utf-8") as f:
             f.write(text)
+    ok, why = judged(said, new)
     if LOGS:
         with open(os.path.join(LOGS, "%d.log" % i), "w") as f:
-            f.write("%s: %s: %s\n%s\n%s" % (crate, call, words, edit, said.stdout))
-    ok = said.returncode != 0 and " error: " in said.stdout and not SHAPE.search(said.stdout)
-    print("%2d %s: %s: %s: %s" % (i, crate, call, words, "refused" if ok else "NOT REFUSED AT A FACT"), flush=True)
+            f.write("%s: %s: %s\n%s\n%s\n%s" % (crate, call, words, edit, why, said.stdout))
+    print("%2d %s: %s: %s: %s" % (i, crate, call, words, why[:200]), flush=True)
     return ok
 
 
@@ -285,20 +317,58 @@ def wanted(words):
         yield crate, [i for i, (c, _) in enumerate(ALL) if c == crate and (not words or crate in words or str(i) in words)]
 
 
-if __name__ == "__main__":
+def all_texts(words):
+    """Tells which edits do not stand in today's files, and whether all do."""
+    bad = count = 0
+    for crate, numbers in wanted(words):
+        for i in numbers:
+            count += 1
+            try:
+                texts(crate, *ALL[i][1][2:])
+            except (AssertionError, OSError, StopIteration) as why:
+                bad += 1
+                print("%2d %s: %s: DOES NOT STAND: %s" % (i, crate, ALL[i][1][1], why))
+    print("%d edits, %d do not stand" % (count, bad))
+    return not bad
+
+
+def run(words):
     done = []
     if LOGS:
         os.makedirs(LOGS, exist_ok=True)
-    with tempfile.TemporaryDirectory() as folder:
-        tree = os.path.join(folder, "tree")
-        shutil.copytree(TOP, tree, ignore=shutil.ignore_patterns(".git"))
-        for crate, numbers in wanted(sys.argv[1:]):
+    with tempfile.TemporaryDirectory() as folder, concurrent.futures.ThreadPoolExecutor(JOBS) as pool:
+        free = queue.Queue()
+        trees = [os.path.join(folder, "tree%d" % i) for i in range(JOBS)]
+        for tree in trees:
+            # (crates/*/out too, so that only what is edited is checked)
+            shutil.copytree(TOP, tree, symlinks=True, ignore=shutil.ignore_patterns(".git"))
+
+        def one(crate, i):
+            tree = free.get()
+            try:
+                return refused(tree, crate, i)
+            finally:
+                free.put(tree)
+
+        for crate, numbers in wanted(words):
             if not numbers:
                 continue
             began = time.time()
-            if check(tree, crate).returncode != 0:
-                sys.exit("without an edit crates/%s is not proved" % crate)
-            done += [refused(tree, i) for i in numbers]
+            used = trees[: len(numbers)]
+            for tree in used:
+                if check(tree, crate).returncode != 0:
+                    sys.exit("without an edit crates/%s is not proved" % crate)
+                shutil.rmtree(os.path.join(tree, "begin"), ignore_errors=True)
+                shutil.copytree(os.path.join(tree, "crates", crate, "out"), os.path.join(tree, "begin"), symlinks=True)
+                free.put(tree)
+            done += pool.map(one, [crate] * len(numbers), numbers)
+            while not free.empty():
+                free.get()
             print("%s: %d s" % (crate, time.time() - began), flush=True)
     print("%d tried, %d refused" % (len(done), sum(done)))
-    sys.exit(0 if all(done) else 1)
+    return all(done)
+
+
+if __name__ == "__main__":
+    words = [word for word in sys.argv[1:] if word != "--texts"]
+    sys.exit(0 if (all_texts if "--texts" in sys.argv else run)(words) else 1)
