@@ -165,7 +165,7 @@ fn push_told(feed: &mut Feed, log: &mut Log, ranges: &[u32], told: &[u32]) -> bo
     taken
 }
 
-/// The cases of `Changes` (crates/model/specs/Changes.antt, F3 to F3-broken), as calls, with their lines. Panics where the model tells another.
+/// The cases of `Changes` (crates/model/specs/Changes.antt, F3 to f3_broken), as calls, with their lines. Panics where the model tells another.
 pub fn said(feed: &mut Feed) {
     let of_c1 = [vec![new()], c1()].concat();
     let forked = vec![new(), push(&[], 5), push(&[1], 2)];
