@@ -16,8 +16,8 @@ JOBS = int(os.environ.get("JOBS", "2"))
 
 # By the crate that is edited, which may be one below the call's: call, wrong answer, file, old text, new text, and which of its places
 # where the old text stands more than once. Or the name of an edit: one of the crate's must-fail edits, which the gate tries too, or one
-# beside this file, in wrong_answers/CRATE/. Or a list of edits, file, old text and new text: an edit of the code that asks for other
-# bounds, with the proof of them.
+# beside this file, in wrong_answers/CRATE/. Or a list of edits, file, old text and new text. Goals are named by the tests on the way to
+# them (`x < y` and `x <= y` alike, `x == 0` and `x == 1` not), so an edit changes a test in such a way that the names stay.
 # The list's room looked at before the marks
 SHORT_FIRST = [
     ("specs/Wanted.antt", "    (not (closed (held_events (view g)) (events_in ws)), 17) ∷\n    (ltb (length lent) (length (wanted_parents (view g) ws)), 11) ∷ [])",
@@ -149,9 +149,12 @@ LENT = [
 ]
 
 CALLS = [
+    ("calls::lending::push", "gives back the graph that it was given", "lending.rt", "    Pushed {\n        graph: h,", "    Pushed {\n        graph: g,"),
+    ("calls::lending::start_run_at", "gives back the graph that it was given", "lending.rt", "    Started {\n        graph: h,", "    Started {\n        graph: g,"),
+    ("calls::lending::take_changed_from", "gives back the graph that it was given", "lending.rt", "    Taken {\n        graph: h,", "    Taken {\n        graph: g,"),
     ("calls::made_by", "a push's graph is dropped", "push_dropped"),
     ("calls::made_by", "a run start at another event", "another_event"),
-    ("calls::made_by", "an after is made as new", "lib.rt", "if op == 0 {\n        return graph::fresh::new();", "if op == 1 {\n        return graph::fresh::new();"),
+    ("calls::made_by", "an after is made as new", "lib.rt", "    let g = made.graph;\n    g\n", "    let g = graph::fresh::new();\n    g\n"),
     ("calls::made_by", "the start is read as a call too", "lib.rt", "calls(begin(words), words, start)", "calls(begin(words), words, 0)"),
     ("calls::start_again", "the later run start gets the graph of the first", "lib.rt", "(again_lent, given, at)", "(again_lent, started.graph, at)"),
     ("calls::start_again", "makes the calls before once more, not those between", "lib.rt", "calls(started.graph, between, 0)", "calls(started.graph, words, 0)"),
@@ -161,7 +164,7 @@ CALLS = [
 
 MOVES = [
     ("replaying::replay", "opens and applies without moves", "no_moves"),
-    ("replaying::replay", "writes no steps", "writing.rt", "if out.short != 0 {", "if out.short == 0 {"),
+    ("replaying::replay", "writes no steps", "writing.rt", "if out.short != 0 {", "if (out.short | 1) != 0 {"),
     ("replaying::replay", "moved is 0", "writing.rt", "moved: out.moved + events,", "moved: out.moved + 0,"),
     ("walking::walk", "moved forgets the advances", "advances_not_moved"),
     ("walking::walk", "moved counts an event for each Apply", "moving.rt", "put_step(steps, b, 2, at, at + 1, 0)", "put_step(steps, b, 2, at, at + 1, 1)"),
@@ -201,12 +204,12 @@ WALK = [
 BOOK = [
     ("reading::read", "takes bytes left over", "left_over_taken"),
     ("reading::read", "pushes counted from 1", "pushes_from_one"),
-    ("reading::read", "a book of 65,537 bytes is taken", "reading.rt", "if MAX_BOOK < bytes.len() {", "if 65537 < bytes.len() {"),
+    ("reading::read", "a book of 65,537 bytes is taken", "reading.rt", "if MAX_BOOK < bytes.len() {", "if MAX_BOOK < bytes.len() - 1 {"),
     ("reading::read", "the header's frontier is not tried, and pushes are made under a header that is refused", "reading.rt", "&words[2..end]", "&words[2..2]"),
     ("reading::read", "a refused header is told as push 0", "reading.rt", "answered(g, BookAnswer::Refused(r))", "answered(g, BookAnswer::PushRefused(r, 0))"),
     ("reading::read", "a refused push does not end it", "reading.rt", "            is_refused: true,\n            answer: BookAnswer::PushRefused(r, k),", "            is_refused: false,\n            answer: BookAnswer::PushRefused(r, k),"),
     ("reading::read", "no bytes are refused with 14", "reading.rt", "return fresh(BookAnswer::Whole);", "return fresh(BookAnswer::Refused(Refusal::BookTooShort));"),
-    ("reading::read", "a book of one byte is taken for the empty one", "reading.rt", "if bytes.len() == 0 {", "if bytes.len() == 1 {"),
+    ("reading::read", "a book of one byte is taken for the empty one", "reading.rt", "if bytes.len() == 0 {", "if bytes.len() / 2 == 0 {"),
     ("replaying::replayed", "prints no steps", "replaying.rt", "&steps[0..n]", "&steps[0..0]"),
     ("replaying::replayed", "leaves out a line that just fits", "full_buffer"),
     ("replaying::replayed", "moved 0", "replaying.rt", "last_line(outcome, walked.moved)", "last_line(outcome, 0)"),
@@ -279,10 +282,12 @@ def judged(said, names):
             return False, "THE EDITED TEXT IS NOT READ: " + line
     if not last.startswith("logic=not-proved"):
         return False, "NO VERDICT: " + " ".join(lines[-4:])
-    fact = next((line for line, path, _ in told if not NAMES.search(line)), None)
-    if fact is None:
-        return False, "REFUSED FOR NAMES ALONE: " + (told[0][0] if told else last)
-    return True, "refused: " + fact
+    # A goal that is open only since its name is another, and the answer's name is gone, says little, unless numbers refute it
+    gone = [line for line, _, _ in told if NAMES.search(line)]
+    facts = [line for line, _, _ in told if line not in gone and (not line.startswith("note: ") or not gone or "allow values at which" in line)]
+    if not facts:
+        return False, "REFUSED FOR NAMES ALONE: " + (gone + [last])[0]
+    return True, "refused: " + facts[0]
 
 
 def refused(tree, crate, i):
