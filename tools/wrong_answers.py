@@ -115,7 +115,7 @@ VERSIONS = [
     ("archive::archive_points", "a run without parents has seen itself", "archive.rt", "return EventRunIndex(0);", "return run;"),
     ("archive::archive_points", "the first is left out", "archive.rt", "let mut i = 0;\n    while i < n {\n        p = put_one", "let mut i = 1;\n    while i < n {\n        p = put_one"),
     ("concurrent::concurrent_runs", "all runs, itself too", "concurrent.rt", "f[at] = 1;", "f[at] = 0;"),
-    ("concurrent::concurrent_runs", "writes the runs that fit where the list is too short", "concurrent.rt", "if list.len() < k {", "if list.len() < 0 {"),
+    ("concurrent::concurrent_runs", "writes the runs that fit where the list is too short", "concurrent.rt", "if list.len() < k {", "if list.len() < k - k {"),
     ("concurrent::concurrent_runs", "run 0 is left out", "concurrent.rt", "let mut q = 0;\n    while q < n {\n        p = put_free", "let mut q = 1;\n    while q < n {\n        p = put_free"),
     ("concurrent::concurrent_runs", "falling by run number", "concurrent.rt", "EventRunIndex(q as u32), flags[q]", "EventRunIndex((n - 1 - q) as u32), flags[n - 1 - q]"),
     ("wanted::wanted_parents", "an ancestor is left in the answer", "ancestor_left"),
@@ -126,7 +126,7 @@ VERSIONS = [
     ("wanted::wanted_parents", "a first without its end is taken", "ranges.rt", "if is_odd(words.len()) {", "if is_odd(0) {"),
     ("wanted::wanted_parents", "refuses a range that ends at len", "ranges.rt", "words[n - 1] <= end.0", "words[n - 1] < end.0"),
     ("wanted::wanted_parents", "takes an event before the first held one", "ranges.rt", "if words[0] < first.0 {\n        return false;", "if words[0] < first.0 {\n        return true;"),
-    ("wanted::wanted_parents", "writes the parents that fit where the list is too short", "wanted.rt", "if list.len() < found.count {", "if list.len() < 0 {"),
+    ("wanted::wanted_parents", "writes the parents that fit where the list is too short", "wanted.rt", "if list.len() < found.count {", "if list.len() < found.count - found.count {"),
     ("wanted::wanted_parents", "17 in place of 11", "wanted.rt", "Outcome::Refused(Refusal::ListTooShort)", "Outcome::Refused(Refusal::NoSuchParents)"),
 ]
 
