@@ -192,7 +192,7 @@ WALK = [
     ("walking::walk", "first below known is taken as it is", "walking.rt", "lists::larger(known, first)", "lists::larger(0, first)"),
     ("walking::walk", "13 in place of 11", "walking.rt", "Outcome::Refused(Refusal::ListTooShort)", "Outcome::Refused(Refusal::RowsTooLong)"),
     ("walking::walk", "writes no steps", "visiting.rt", "ready: got,", "ready: 0,"),
-    ("replaying::replay", "opens and applies without moves", "replaying.rt", "if kind == 0 {", "if kind == 1 {"),
+    ("replaying::replay", "opens and applies without moves", "replaying.rt", "if kind == 0 {", "if kind / 2 == 0 {"),
     ("replaying::replay", "writes no steps", "replaying.rt", "        w.count,\n", "        0,\n"),
     ("replaying::replay", "works in the first range only", "replaying.rt", "if r.rows != 0 {", "if r.count != 0 {"),
     ("replaying::replay", "moved is the step count", "replaying.rt", "moved: o.moved,", "moved: o.count,"),
