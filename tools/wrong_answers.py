@@ -95,7 +95,7 @@ GRAPH = [
     ("lookups::frontier", "a count of 1 whatever the frontier", "lookups.rt", "count: g.frontier_count,", "count: 1,"),
     ("lookups::frontier", "a broken graph refused with 9", "lookups.rt", "return no_frontier(Refusal::Broken)", "return no_frontier(Refusal::Outside)"),
     ("lookups::extends_last_event", "true on a graph with no runs", "pushing.rt", "if runs == 0 {\n        return false;", "if runs == 0 {\n        return true;"),
-    ("lookups::extends_last_event", "true of a longer list whose first is the last event", "pushing.rt", "if ps.len() != 1 {", "if ps.len() == 0 {"),
+    ("lookups::extends_last_event", "true of a longer list whose first is the last event", "pushing.rt", "if ps.len() != 1 {", "if (ps.len() + 511) / 512 != 1 {"),
     ("lookups::first_held_event", "the second run's start", "lookups.rt", "EventIndex(g.starts[0])", "EventIndex(g.starts[1])"),
     ("lookups::first_held_event", "0 where no runs are held", "lookups.rt", "EventIndex(g.starts[0])", "EventIndex(g.seen_prefix_len[0])"),
     ("ranges::range_outcome", "refuses an empty range", "ranges.rt", "if to < from {", "if to <= from {"),
