@@ -19,7 +19,7 @@ use Rattle.model.specs.Graph.{Graph, start}
 use Rattle.model.specs.History.{at}
 use Rattle.model.specs.Split.{renumber, second_seen, split}
 use Rattle.model.specs.Log.{Log, run_start, held_of, held_before, event_graph, edge, log_start}
-use Rattle.model.proofs.SeenSecond.{second_own}
+use Rattle.model.proofs.SeenSecond.{Met, second_own}
 use Rattle.model.proofs.SeenFrom.{second_has}
 use Rattle.model.proofs.FormedSplits.{renumber-below, renumber-from, renumber_le}
 use Rattle.model.proofs.Histories.{Below}
@@ -191,7 +191,7 @@ module _ (g : Graph) (l : Log) (t : Tied g l) (a r : ℕ) (lt : l.first_held < a
         before : e < run_start l r → e < own
         before c = cases (second_own g r a)
           where
-            cases : ((second ≡ a) × (own ≡ start g r)) ⊎ (second ≡ own) → e < own
+            cases : ((second ≡ a) × Met own (start g r)) ⊎ (second ≡ own) → e < own
             cases (inl w) = omega (arith, w.1, start_is g l t r (omega (arith, inside-run.2)))
             cases (inr w) = omega (arith, w, q)
 

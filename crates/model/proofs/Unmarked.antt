@@ -15,7 +15,7 @@ use Rattle.lists.proofs.Inserts.{insert-at, all_insert}
 use Rattle.model.specs.Graph.{Graph, runs, start, containing, marked}
 use Rattle.model.specs.Broken.{WellFormed}
 use Rattle.model.specs.Split.{second_seen, split}
-use Rattle.model.proofs.SeenSecond.{second_own}
+use Rattle.model.proofs.SeenSecond.{Met, second_own}
 use Rattle.model.specs.Push.{grown, joined, lowered}
 use Rattle.model.specs.Start.{answers, splitting, alone, starting, taken}
 use Rattle.model.specs.StaysTrue.{UnmarkedAt, SeenStarts}
@@ -107,7 +107,7 @@ module _ (g : Graph) (w : WellFormed g) (S : SeenStarts g) (r at : ℕ) (b : r <
     own-seen : start g r ≤ own
     own-seen = go (second_own g r at)
       where
-        go : ((second ≡ at) × (own ≡ start g r)) ⊎ (second ≡ own) → start g r ≤ own
+        go : ((second ≡ at) × Met own (start g r)) ⊎ (second ≡ own) → start g r ≤ own
         go (inl w) = omega (arith, w.1)
         go (inr w) = omega (arith, w, leb-true at second (and_left (leb at second) _ both))
 
