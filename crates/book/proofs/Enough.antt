@@ -8,8 +8,6 @@ use lib.ListN.{length, length-append}
 use Rattle.lists.specs.Lists.{concat}
 use Rattle.lists.specs.Areas.{over}
 use Rattle.model.specs.declared.record.CausalGraph.{CausalGraph}
-use Rattle.model.specs.declared.answers.BookAnswer.{BookAnswer}
-use Rattle.model.specs.declared.answers.BookAnswer.TheVariants.{Whole, Refused, PushRefused}
 use Rattle.model.specs.Broken.{Held}
 use Rattle.model.specs.Steps.{Step, retreat, advance, opened, apply}
 use Rattle.model.specs.Refusals.{number}
@@ -21,6 +19,9 @@ use Rattle.book.proofs.Fits.{printing-all}
 use Rattle.model.proofs.BookPrints.{book-held}
 use Rattle.book.proofs.Numbers.{Small, Smalls}
 use Rattle.book.proofs.Whole.{by_answer, replay_text_lem}
+use Rattle.std.specs.Prelude.{Ok, Err, Result}
+use Rattle.model.specs.declared.answers.BookRefusal.{BookRefusal}
+use Rattle.model.specs.declared.answers.BookRefusal.TheVariants.{Refused, PushRefused}
 
 -- No line is longer than 55 bytes
 line_length : (l : Line) → length (ended l) ≤ 55
@@ -53,13 +54,13 @@ steps-length (s ∷ ss) l h =
     omega (arith, step-length s h.0, steps-length ss l h.1, length-append (ended (step_line s)) (text (map step_line ss ++ l ∷ [])))
 
 -- The text of a book, by its answer
-answer-length : (g : CausalGraph) → Held g → (a : BookAnswer) → length (text (by_answer g a)) ≤ 65591
+answer-length : (g : CausalGraph) → Held g → (a : (Result (Unit {0}) BookRefusal)) → length (text (by_answer g a)) ≤ 65591
 unfolding by_answer
-answer-length g H Whole =
+answer-length g H (Ok _) =
     let r = replay_text_lem g H in
     omega (arith, ap (λ (ls : List Line). length (text ls)) r.2.0, steps-length r.0 r.1 r.2.2, r.2.1)
-answer-length g H (Refused r) = omega (arith, one_length (refused_line (number r)))
-answer-length g H (PushRefused r k) = omega (arith, one_length (push_refused_line (number r) k))
+answer-length g H (Err (Refused r)) = omega (arith, one_length (refused_line (number r)))
+answer-length g H (Err (PushRefused r k)) = omega (arith, one_length (push_refused_line (number r) k))
 
 -- A buffer of 131,072 bytes is long enough for every book
 pub text-fits : (bytes : List ℕ) → length (replay_text bytes) ≤ max_text

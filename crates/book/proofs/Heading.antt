@@ -6,13 +6,9 @@ use native.Mathlib.Omega.{arith}
 use lib.ListN.{length, get_or, take, drop}
 use lib.Seq.{take_at}
 use Rattle.lists.specs.Areas.{over}
-use Rattle.model.specs.declared.answers.Made.{Made}
 use Rattle.model.specs.declared.answers.BookRead.{BookRead}
-use Rattle.model.specs.declared.answers.BookAnswer.TheVariants.{Refused as RefusedBook}
 use Rattle.model.specs.declared.answers.Refusal.{Refusal}
 use Rattle.model.specs.declared.answers.Refusal.TheVariants.{BookTooShort}
-use Rattle.model.specs.declared.answers.Outcome.{Outcome}
-use Rattle.model.specs.declared.answers.Outcome.TheVariants.{Done, Refused}
 use Rattle.model.specs.Broken.{Held}
 use Rattle.model.specs.Fresh.{new_of, after_of}
 use Rattle.model.specs.Book.{word, words_of, book_read, ends_early, read_pushes, read_header}
@@ -20,6 +16,10 @@ use Rattle.model.proofs.Begins.{after-held}
 use Rattle.book.specs.Turns.{headed}
 use Rattle.book.proofs.Decoding.{words-length, words-part, words-at}
 use Rattle.book.proofs.Taking.{header_early, header_cut, header-whole}
+use Rattle.std.specs.Prelude.{Ok, Err}
+use Rattle.model.specs.Refusals.{Outcome}
+use Rattle.model.specs.Answers.{Made}
+use Rattle.model.specs.declared.answers.BookRefusal.TheVariants.{Refused}
 
 -- The words that are lent
 pub lent_words : (bs ws l : List ℕ) (n : ℕ) → ws ≡ over (words_of n bs) l → take (n - 0) (drop 0 ws) ≡ words_of n bs
@@ -30,14 +30,14 @@ lent_words bs ws l n e =
 
 -- Once the header was tried
 by_outcome : Made → ℕ → List ℕ → Outcome → BookRead
-by_outcome m n bs o = elim o [ Done ↦ read_pushes n 0 m.graph bs | Refused refusal ↦ book_read m.graph (RefusedBook refusal) ]
+by_outcome m n bs o = elim o [ Ok _ ↦ read_pushes n 0 m.graph bs | Err refusal ↦ book_read m.graph (Err (Refused refusal)) ]
 
 module _ (m : Made) (n : ℕ) (bs : List ℕ) where
-  pub headed-done : (b : BookRead) → m.outcome ≡ Done → b ≡ read_pushes n 0 m.graph bs → b ≡ headed m n bs
+  pub headed-done : (b : BookRead) → m.outcome ≡ Ok tt → b ≡ read_pushes n 0 m.graph bs → b ≡ headed m n bs
   unfolding headed by_outcome
   headed-done b e q = q ∙ sym (ap (by_outcome m n bs) e)
 
-  pub headed_refused : (r : Refusal) → m.outcome ≡ Refused r → book_read m.graph (RefusedBook r) ≡ headed m n bs
+  pub headed_refused : (r : Refusal) → m.outcome ≡ Err r → book_read m.graph (Err (Refused r)) ≡ headed m n bs
   unfolding headed by_outcome
   headed_refused r e = sym (ap (by_outcome m n bs) e)
 
@@ -49,11 +49,11 @@ module _ (bs ws : List ℕ) (w : ws ≡ words_of (length bs / 4) bs) where
   word-is : (i : ℕ) → i < length ws → get_or ws i 0 ≡ word (drop (4 * i) bs)
   word-is i h = ap (λ (l : List ℕ). get_or l i 0) w ∙ words-at bs (length bs / 4) i (omega (arith, ws_length))
 
-  pub words_early : length ws < 3 → book_read new_of (RefusedBook BookTooShort) ≡ read_header bs
+  pub words_early : length ws < 3 → book_read new_of (Err (Refused BookTooShort)) ≡ read_header bs
   unfolding ends_early
   words_early h = sym (header_early bs (omega (arith, ws_length)))
 
-  pub words_cut : 3 ≤ length ws → length ws - 3 < get_or ws 1 0 → book_read new_of (RefusedBook BookTooShort) ≡ read_header bs
+  pub words_cut : 3 ≤ length ws → length ws - 3 < get_or ws 1 0 → book_read new_of (Err (Refused BookTooShort)) ≡ read_header bs
   unfolding ends_early
   words_cut i h = sym (header_cut bs (get_or ws 1 0) (word-is 1 (omega arith)) (omega (arith, ws_length)) (omega (arith, ws_length)))
 

@@ -8,8 +8,6 @@ use lib.ListN.{length, take}
 use lib.Dec.{ltb, eqb}
 use Rattle.lists.specs.Lists.{all, filter, from, upto, mem}
 use Rattle.lists.proofs.Each.{All, all_map, all_append, all_filter, all_from}
-use Rattle.model.specs.declared.answers.Outcome.{Outcome}
-use Rattle.model.specs.declared.answers.Outcome.TheVariants.{Done, Refused}
 use Rattle.model.specs.declared.answers.Refusal.TheVariants.{ListTooShort, RowsTooLong}
 use Rattle.model.specs.Graph.{Graph, runs}
 use Rattle.model.specs.Cut.{HistoryRange, linear, concurrent, cut_from}
@@ -23,6 +21,8 @@ use Rattle.model.proofs.Histories.{history-length}
 use Rattle.model.proofs.Choosing.{FineRun, choice_fine}
 use Rattle.model.proofs.Rooms.{range_span}
 use Rattle.model.proofs.RoomsReplay.{Laid, cut_laid}
+use Rattle.std.specs.Prelude.{Ok, Err}
+use Rattle.model.specs.Refusals.{Outcome}
 
 -- A step, and steps, whose numbers are at most n
 abbrev pub Small : ℕ → Step → Type 0
@@ -171,24 +171,24 @@ range_in_lem g N (concurrent a b) rows lo end cs h k = go (rows_too_long (range_
     e = laid_le b cs end h.2
 
     go : (t : Bool) → Smalls N (elim t as (λ _. Replayed) [
-      | true ↦ (Refused RowsTooLong, opened a b ∷ [], rows_into (range_of g a b) rows)
-      | false ↦ (Done, opened a b ∷ steps_of (range_of g a b) a 0 0, rows_into (range_of g a b) rows)
+      | true ↦ (Err RowsTooLong, opened a b ∷ [], rows_into (range_of g a b) rows)
+      | false ↦ (Ok tt, opened a b ∷ steps_of (range_of g a b) a 0 0, rows_into (range_of g a b) rows)
     ]).1
     go true = ((omega (arith, h.1, e), omega (arith, e)), tt)
     go false = ((omega (arith, h.1, e), omega (arith, e)), steps_in g N a b (omega (arith, h.1, e, range_span g a b)))
 
 turn_in : (N room : ℕ) (this later : Replayed) (rows : List ℕ) (b t : Bool) (o : Outcome) → Smalls N this.1 → Smalls N later.1 →
     Smalls N (elim b as (λ _. Replayed) [
-      | true ↦ (Refused ListTooShort, [], rows)
+      | true ↦ (Err ListTooShort, [], rows)
       | false ↦ elim t as (λ _. Replayed) [
-        | true ↦ (Refused ListTooShort, take room this.1, this.2)
-        | false ↦ elim o as (λ _. Replayed) [ Done ↦ (later.0, this.1 ++ later.1, later.2) | Refused r ↦ this ]
+        | true ↦ (Err ListTooShort, take room this.1, this.2)
+        | false ↦ elim o as (λ _. Replayed) [ Ok _ ↦ (later.0, this.1 ++ later.1, later.2) | Err r ↦ this ]
       ]
     ]).1
 turn_in N room this later rows true t o h k = tt
 turn_in N room this later rows false true o h k = smalls_take N room this.1 h
-turn_in N room this later rows false false Done h k = smalls_append N this.1 later.1 h k
-turn_in N room this later rows false false (Refused r) h k = h
+turn_in N room this later rows false false (Ok _) h k = smalls_append N this.1 later.1 h k
+turn_in N room this later rows false false (Err r) h k = h
 
 ranges_in_lem : (g : Graph) (N : ℕ) (cs : List HistoryRange) (lo end room : ℕ) (rows : List ℕ) → Laid lo cs end → end ≤ N →
     Smalls N (replay_ranges g cs room rows).1

@@ -10,25 +10,25 @@ use lib.ListN.{length, get_or, drop, length-drop}
 use borrow.Author.Tests.{eq-eqb, ne_eqb}
 use Rattle.lists.proofs.Truth.{lt_or_le}
 use Rattle.model.specs.declared.record.CausalGraph.{CausalGraph}
-use Rattle.model.specs.declared.answers.Pushed.{Pushed}
 use Rattle.model.specs.declared.answers.BookRead.{BookRead}
-use Rattle.model.specs.declared.answers.BookAnswer.TheVariants.{Whole, Refused as RefusedBook, PushRefused}
 use Rattle.model.specs.declared.answers.Refusal.TheVariants.{BookTooLong}
-use Rattle.model.specs.declared.answers.EventsAnswer.TheVariants.{Events, Refused as RefusedEvents}
 use Rattle.model.specs.Fresh.{new_of, after_of}
 use Rattle.model.specs.Push.{push_of}
 use Rattle.model.specs.Book.{word, words_of, take_counted, book_read, ends_early, read_pushes, read_header}
 use Rattle.model.proofs.BookWords.{Parted, taken, cut_off, counted_none, counted_cut, counted, header_early as early, header_cut as cut, header-whole as whole}
 use Rattle.model.proofs.BookMade.{headed as read, header_read}
 use Rattle.book.specs.Turns.{headed}
+use Rattle.std.specs.Prelude.{Ok, Err}
+use Rattle.model.specs.Answers.{Pushed}
+use Rattle.model.specs.declared.answers.BookRefusal.TheVariants.{Refused, PushRefused}
 
 -- A push
 
 -- once it was tried, with the bytes after it
 unfoldable pub tried : ℕ → ℕ → Pushed → List ℕ → BookRead
 tried n k r bs = elim r.answer [
-  | Events first end ↦ read_pushes n (suc k) r.graph bs
-  | RefusedEvents refusal ↦ book_read r.graph (PushRefused refusal k)
+  | Ok (first, end) ↦ read_pushes n (suc k) r.graph bs
+  | Err refusal ↦ book_read r.graph (Err (PushRefused refusal k))
 ]
 
 module _ (n k : ℕ) (g : CausalGraph) where
@@ -72,23 +72,23 @@ module _ (n k : ℕ) (g : CausalGraph) where
 
 -- No push is left: bytes over, or not
 finished : CausalGraph → Bool → BookRead
-finished g t = elim t [ true ↦ book_read g Whole | false ↦ book_read g (RefusedBook BookTooLong) ]
+finished g t = elim t [ true ↦ book_read g (Ok tt) | false ↦ book_read g (Err (Refused BookTooLong)) ]
 
 module _ (k : ℕ) (g : CausalGraph) (bs : List ℕ) where
-  none_over : length bs ≡ 0 → book_read g Whole ≡ read_pushes 0 k g bs
+  none_over : length bs ≡ 0 → book_read g (Ok tt) ≡ read_pushes 0 k g bs
   unfolding read_pushes finished
   none_over h = sym (ap (finished g) (eq-eqb (length bs) 0 h))
 
-  some-over : (length bs ≡ 0 → ⊥) → book_read g (RefusedBook BookTooLong) ≡ read_pushes 0 k g bs
+  some-over : (length bs ≡ 0 → ⊥) → book_read g (Err (Refused BookTooLong)) ≡ read_pushes 0 k g bs
   unfolding read_pushes finished
   some-over h = sym (ap (finished g) (ne_eqb (length bs) 0 h))
 
 -- the bytes from the word at `at` on
 module _ (g : CausalGraph) (bs : List ℕ) (at : ℕ) where
-  pub finish_whole : length bs ≡ 4 * at → book_read g Whole ≡ read_pushes 0 0 g (drop (4 * at) bs)
+  pub finish_whole : length bs ≡ 4 * at → book_read g (Ok tt) ≡ read_pushes 0 0 g (drop (4 * at) bs)
   finish_whole h = none_over 0 g (drop (4 * at) bs) (omega (arith, length-drop (4 * at) bs))
 
-  pub finish_over : 4 * at ≤ length bs → (length bs ≡ 4 * at → ⊥) → book_read g (RefusedBook BookTooLong) ≡ read_pushes 0 0 g (drop (4 * at) bs)
+  pub finish_over : 4 * at ≤ length bs → (length bs ≡ 4 * at → ⊥) → book_read g (Err (Refused BookTooLong)) ≡ read_pushes 0 0 g (drop (4 * at) bs)
   finish_over i h = some-over 0 g (drop (4 * at) bs) (λ e. h (omega (arith, length-drop (4 * at) bs)))
 
 -- The header

@@ -7,15 +7,9 @@ use native.Mathlib.Numerals.{add-one}
 use native.Mathlib.Omega.{arith}
 use lib.ListN.{length, get_or, take, drop}
 use Rattle.model.specs.declared.record.CausalGraph.{CausalGraph}
-use Rattle.model.specs.declared.answers.Pushed.{Pushed}
-use Rattle.model.specs.declared.answers.BookAnswer.TheVariants.{Whole, Refused as RefusedBook, PushRefused}
 use Rattle.model.specs.declared.answers.Refusal.{Refusal}
 use Rattle.model.specs.declared.answers.Refusal.TheVariants.{BookTooShort}
 use Rattle.model.specs.declared.record.EventIndex.{EventIndex}
-use Rattle.model.specs.declared.answers.Outcome.{Outcome}
-use Rattle.model.specs.declared.answers.Outcome.TheVariants.{Done, Refused}
-use Rattle.model.specs.declared.answers.EventsAnswer.{EventsAnswer}
-use Rattle.model.specs.declared.answers.EventsAnswer.TheVariants.{Events, Refused as RefusedEvents}
 use Rattle.model.specs.Record.{view}
 use Rattle.model.specs.Broken.{Held}
 use Rattle.model.specs.Push.{push, push_outcome, pushed, push_refused, push_held_of, push_of}
@@ -27,6 +21,10 @@ use Rattle.book.specs.declared.reading.Turn.{Turn}
 use Rattle.book.specs.Turns.{stopped, tried_at, goes_on, Turned}
 use Rattle.book.proofs.Decoding.{words-length, words-part, words-at}
 use Rattle.book.proofs.Taking.{tried, push_early, push_cut, push-whole}
+use Rattle.std.specs.Prelude.{Ok, Err}
+use Rattle.model.specs.Refusals.{OrRefusal, Outcome}
+use Rattle.model.specs.Answers.{Pushed}
+use Rattle.model.specs.declared.answers.BookRefusal.TheVariants.{Refused, PushRefused}
 
 -- A push on a held graph is the push, and leaves a held graph
 pub push-is : (g : CausalGraph) → Held g → (ps : List ℕ) (n : ℕ) → push_held_of g ps n ≡ push_of g ps n
@@ -37,37 +35,37 @@ unfolding push_held_of pushed push_refused
 pushed-held g H ps n = go (push_outcome (view g) ps n) refl
   where
     go : (o : Outcome) → push_outcome (view g) ps n ≡ o →
-        Held (elim o as (λ _. Pushed) [ Done ↦ pushed (view g) ps n | Refused r ↦ push_refused g r ]).graph
-    go Done e = held-store (push (view g) ps n) (push-formed (view g) H.formed ps n e) (push-limits (view g) H.formed H.limits ps n e)
-    go (Refused r) e = H
+        Held (elim o as (λ _. Pushed) [ Ok _ ↦ pushed (view g) ps n | Err r ↦ push_refused g r ]).graph
+    go (Ok _) e = held-store (push (view g) ps n) (push-formed (view g) H.formed ps n e) (push-limits (view g) H.formed H.limits ps n e)
+    go (Err r) e = H
 
 -- What was tried goes on, or not
-tried_on : (bs : List ℕ) (n k at : ℕ) (g : CausalGraph) (a : EventsAnswer) →
+tried_on : (bs : List ℕ) (n k at : ℕ) (g : CausalGraph) (a : (OrRefusal (EventIndex × EventIndex))) →
     tried n k (record { graph = g; answer = a }) (drop (4 * at) bs) ≡ goes_on n (suc k) (tried_at (record { graph = g; answer = a }) at k) bs
 unfolding tried goes_on tried_at
-tried_on bs n k at g (Events first end) = refl
-tried_on bs n k at g (RefusedEvents r) = refl
+tried_on bs n k at g (Ok (first, end)) = refl
+tried_on bs n k at g (Err r) = refl
 
-tried_graph : (k at : ℕ) (g : CausalGraph) (a : EventsAnswer) →
+tried_graph : (k at : ℕ) (g : CausalGraph) (a : (OrRefusal (EventIndex × EventIndex))) →
     ((tried_at (record { graph = g; answer = a }) at k).graph ≡ g) × ((tried_at (record { graph = g; answer = a }) at k).at ≡ at)
 unfolding tried_at
-tried_graph k at g (Events first end) = (refl, refl)
-tried_graph k at g (RefusedEvents r) = (refl, refl)
+tried_graph k at g (Ok (first, end)) = (refl, refl)
+tried_graph k at g (Err r) = (refl, refl)
 
 -- by what it answered
-outcome_of : Pushed → ℕ → ℕ → EventsAnswer → Turn
+outcome_of : Pushed → ℕ → ℕ → OrRefusal (EventIndex × EventIndex) → Turn
 outcome_of p at k a = elim a [
-  | Events first end ↦ record { graph = p.graph; at = at; is_refused = false; answer = Whole }
-  | RefusedEvents r ↦ record { graph = p.graph; at = at; is_refused = true; answer = PushRefused r k }
+  | Ok (first, end) ↦ record { graph = p.graph; at = at; is_refused = false; answer = (Ok tt) }
+  | Err r ↦ record { graph = p.graph; at = at; is_refused = true; answer = Err (PushRefused r k) }
 ]
 
-pub tried-taken : (p : Pushed) (at k : ℕ) (first end : EventIndex) → p.answer ≡ Events first end →
-    record { graph = p.graph; at = at; is_refused = false; answer = Whole } ≡ tried_at p at k
+pub tried-taken : (p : Pushed) (at k : ℕ) (first end : EventIndex) → p.answer ≡ Ok (first, end) →
+    record { graph = p.graph; at = at; is_refused = false; answer = (Ok tt) } ≡ tried_at p at k
 unfolding tried_at outcome_of
 tried-taken p at k first end e = sym (ap (outcome_of p at k) e)
 
-pub tried_refused : (p : Pushed) (at k : ℕ) (r : Refusal) → p.answer ≡ RefusedEvents r →
-    record { graph = p.graph; at = at; is_refused = true; answer = PushRefused r k } ≡ tried_at p at k
+pub tried_refused : (p : Pushed) (at k : ℕ) (r : Refusal) → p.answer ≡ Err r →
+    record { graph = p.graph; at = at; is_refused = true; answer = Err (PushRefused r k) } ≡ tried_at p at k
 unfolding tried_at outcome_of
 tried_refused p at k r e = sym (ap (outcome_of p at k) e)
 
@@ -76,18 +74,18 @@ module _ (bs ws : List ℕ) (t : Turn) (k : ℕ) (H : Held t.graph) (w : ws ≡ 
   ws_length = ap length w ∙ words-length (length bs / 4) bs
 
   -- cut off
-  turn_stopped : (r : Turn) → r ≡ stopped t.graph (RefusedBook BookTooShort) →
+  turn_stopped : (r : Turn) → r ≡ stopped t.graph (Err (Refused BookTooShort)) →
       ((n : ℕ) → read_pushes (suc n) k t.graph (drop (4 * t.at) bs) ≡ ends_early t.graph) → Turned bs t k r
   unfolding goes_on ends_early
   turn_stopped r e h = subst (λ (x : Turn). Turned bs t k x) (sym e) (record { holds = H; inside = omega arith; reads = h })
 
-  pub turn_early : (r : Turn) → r ≡ stopped t.graph (RefusedBook BookTooShort) → length ws < t.at + 2 → Turned bs t k r
+  pub turn_early : (r : Turn) → r ≡ stopped t.graph (Err (Refused BookTooShort)) → length ws < t.at + 2 → Turned bs t k r
   turn_early r e h = turn_stopped r e (λ n. push_early n k t.graph bs t.at (omega (arith, ws_length)) (omega (arith, ws_length)))
 
   count-is : t.at + 2 ≤ length ws → get_or ws (t.at + 1) 0 ≡ word (drop (4 * (t.at + 1)) bs)
   count-is h = ap (λ (l : List ℕ). get_or l (t.at + 1) 0) w ∙ words-at bs (length bs / 4) (t.at + 1) (omega (arith, ws_length))
 
-  pub turn_cut : (r : Turn) → r ≡ stopped t.graph (RefusedBook BookTooShort) → t.at + 2 ≤ length ws →
+  pub turn_cut : (r : Turn) → r ≡ stopped t.graph (Err (Refused BookTooShort)) → t.at + 2 ≤ length ws →
       length ws - (t.at + 2) < get_or ws (t.at + 1) 0 → Turned bs t k r
   turn_cut r e j h =
       turn_stopped r e (λ n. push_cut n k t.graph bs t.at (get_or ws (t.at + 1) 0) (count-is j) (omega (arith, ws_length)) (omega (arith, ws_length)))

@@ -11,13 +11,9 @@ use borrow.Author.Tests.{ltb-false}
 use Rattle.lists.specs.Lists.{concat}
 use Rattle.model.specs.declared.record.CausalGraph.{CausalGraph}
 use Rattle.model.specs.declared.answers.Walked.{Walked}
-use Rattle.model.specs.declared.answers.Outcome.{Outcome}
-use Rattle.model.specs.declared.answers.Outcome.TheVariants.{Done, Refused}
 use Rattle.model.specs.declared.answers.Refusal.{Refusal}
 use Rattle.model.specs.declared.answers.Refusal.TheVariants.{ListTooShort}
 use Rattle.model.specs.declared.answers.BookRead.{BookRead}
-use Rattle.model.specs.declared.answers.BookAnswer.{BookAnswer}
-use Rattle.model.specs.declared.answers.BookAnswer.TheVariants.{Whole, Refused as RefusedBook, PushRefused}
 use Rattle.model.specs.Graph.{Graph}
 use Rattle.model.specs.Record.{view}
 use Rattle.model.specs.Broken.{Held}
@@ -28,7 +24,7 @@ use Rattle.model.specs.Replay.{Replayed, replay_range, replay_ranges, replay_of}
 use Rattle.model.specs.Reader.{decoded, said}
 use Rattle.model.specs.Print.{Line as PrintLine, step_line, refused_line, push_refused_line, said_steps, last_line, replay_lines, printed}
 use Rattle.model.specs.Book.{book_of}
-use Rattle.model.specs.Refusals.{number}
+use Rattle.model.specs.Refusals.{number, Outcome}
 use Rattle.model.proofs.Stored.{not-broken}
 use Rattle.model.proofs.Results.{replay_is}
 use Rattle.model.proofs.Reading.{said-words, words-length}
@@ -38,21 +34,24 @@ use Rattle.book.specs.declared.printing.Line.{Line}
 use Rattle.book.specs.Output.{shown, Shows, ended, step_bytes, word_lines, put_line, put_lines, printing, lines_of}
 use Rattle.book.proofs.Numbers.{Smalls, replay_numbers}
 use Rattle.book.proofs.Fits.{unused, lines_printing, line_printing, put-append}
+use Rattle.std.specs.Prelude.{Ok, Err, Result}
+use Rattle.model.specs.declared.answers.BookRefusal.{BookRefusal}
+use Rattle.model.specs.declared.answers.BookRefusal.TheVariants.{Refused, PushRefused}
 
 -- No more steps are written than there is room for
 turn_room : (room : ℕ) (this later : Replayed) (rows : List ℕ) (b t : Bool) → ltb room (length this.1) ≡ t → (o : Outcome) →
     length later.1 ≤ room - length this.1 →
     length (elim b as (λ _. Replayed) [
-      | true ↦ (Refused ListTooShort, [], rows)
+      | true ↦ (Err ListTooShort, [], rows)
       | false ↦ elim t as (λ _. Replayed) [
-        | true ↦ (Refused ListTooShort, take room this.1, this.2)
-        | false ↦ elim o as (λ _. Replayed) [ Done ↦ (later.0, this.1 ++ later.1, later.2) | Refused r ↦ this ]
+        | true ↦ (Err ListTooShort, take room this.1, this.2)
+        | false ↦ elim o as (λ _. Replayed) [ Ok _ ↦ (later.0, this.1 ++ later.1, later.2) | Err r ↦ this ]
       ]
     ]).1 ≤ room
 turn_room room this later rows true t e o h = omega arith
 turn_room room this later rows false true e o h = omega (arith, length-take room this.1)
-turn_room room this later rows false false e Done h = omega (arith, ltb-false room (length this.1) e, length-append this.1 later.1)
-turn_room room this later rows false false e (Refused r) h = ltb-false room (length this.1) e
+turn_room room this later rows false false e (Ok _) h = omega (arith, ltb-false room (length this.1) e, length-append this.1 later.1)
+turn_room room this later rows false false e (Err r) h = ltb-false room (length this.1) e
 
 ranges-room : (g : Graph) (cs : List HistoryRange) (room : ℕ) (rows : List ℕ) → length (replay_ranges g cs room rows).1 ≤ room
 unfolding replay_ranges
@@ -161,23 +160,23 @@ line_printed out out₁ b r l x eb S er =
     er ∙ ap (put_line (b, out)) S.text ∙ ap (λ (c : Printed). put_line (c, out) (ended x)) eb ∙ line_printing x out
 
 -- The lines of a book by its answer
-unfoldable pub by_answer : CausalGraph → BookAnswer → List PrintLine
+unfoldable pub by_answer : CausalGraph → Result (Unit {0}) BookRefusal → List PrintLine
 by_answer g a = elim a [
-  | Whole ↦ replay_lines g
-  | RefusedBook r ↦ refused_line (number r) ∷ []
-  | PushRefused r k ↦ push_refused_line (number r) k ∷ []
+  | Ok _ ↦ replay_lines g
+  | Err (Refused r) ↦ refused_line (number r) ∷ []
+  | Err (PushRefused r k) ↦ push_refused_line (number r) k ∷ []
 ]
 
 module _ (b : BookRead) where
-  pub lines_whole : b.answer ≡ Whole → replay_lines b.graph ≡ lines_of b
+  pub lines_whole : b.answer ≡ Ok tt → replay_lines b.graph ≡ lines_of b
   unfolding lines_of by_answer
   lines_whole e = sym (ap (by_answer b.graph) e)
 
-  pub lines_refused : (r : Refusal) → b.answer ≡ RefusedBook r → refused_line (number r) ∷ [] ≡ lines_of b
+  pub lines_refused : (r : Refusal) → b.answer ≡ Err (Refused r) → refused_line (number r) ∷ [] ≡ lines_of b
   unfolding lines_of by_answer
   lines_refused r e = sym (ap (by_answer b.graph) e)
 
-  pub lines_push : (r : Refusal) (k : ℕ) → b.answer ≡ PushRefused r k → push_refused_line (number r) k ∷ [] ≡ lines_of b
+  pub lines_push : (r : Refusal) (k : ℕ) → b.answer ≡ Err (PushRefused r k) → push_refused_line (number r) k ∷ [] ≡ lines_of b
   unfolding lines_of by_answer
   lines_push r k e = sym (ap (by_answer b.graph) e)
 

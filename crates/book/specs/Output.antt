@@ -1,16 +1,16 @@
 -- Lines written into a lent buffer: the whole lines that fit. Assumes nothing.
-use Rattle.std.specs.Prelude.{◌≡◌, true, false, not, cond, ◌&&◌, List, [], ◌∷◌, ◌++◌, map, ℕ, ◌+◌, ◌≤◌, length, take, drop, leb, ltb}
+use Rattle.std.specs.Prelude.{◌≡◌, true, false, not, cond, ◌&&◌, List, [], ◌∷◌, ◌++◌, map, ℕ, ◌+◌, ◌≤◌, length, take, drop, leb, ltb, Ok, Err}
 use Rattle.std.proofs.Math.Option.{Option, none, some}
 use Rattle.lists.specs.Lists.{concat}
 use Rattle.lists.specs.Areas.{over, fitting}
 use Rattle.model.specs.Steps.{Step}
 use Rattle.model.specs.Reader.{decoded}
 use Rattle.model.specs.declared.answers.BookRead.{BookRead}
-use Rattle.model.specs.declared.answers.BookAnswer.TheVariants.{Whole, Refused, PushRefused}
 use Rattle.model.specs.Refusals.{number}
 use Rattle.model.specs.Print.{Line as PrintLine, step_line, refused_line, push_refused_line, ascii, line_text, text, replay_lines}
 use Rattle.book.specs.declared.printing.Line.{Line}
 use Rattle.book.specs.declared.printing.Printed.{Printed}
+use Rattle.model.specs.declared.answers.BookRefusal.TheVariants.{Refused, PushRefused}
 
 -- how many bytes a line has room for
 abbrev pub max_line : ℕ
@@ -73,7 +73,7 @@ printing ls out =
 -- The lines of a book that was read
 unfoldable pub lines_of : BookRead → List PrintLine
 lines_of b = elim b.answer [
-  | Whole ↦ replay_lines b.graph
-  | Refused r ↦ refused_line (number r) ∷ []
-  | PushRefused r k ↦ push_refused_line (number r) k ∷ []
+  | Ok _ ↦ replay_lines b.graph
+  | Err (Refused r) ↦ refused_line (number r) ∷ []
+  | Err (PushRefused r k) ↦ push_refused_line (number r) k ∷ []
 ]

@@ -1,33 +1,30 @@
 -- What one push of a book does to the reading. Assumes nothing.
-use Rattle.std.specs.Prelude.{◌≡◌, true, false, cond, List, ℕ, suc, ◌*◌, ◌/◌, ◌≤◌, length, drop}
+use Rattle.std.specs.Prelude.{◌≡◌, true, false, cond, List, ℕ, suc, ◌*◌, ◌/◌, ◌≤◌, length, drop, Ok, Err, Result}
 use Rattle.model.specs.declared.record.CausalGraph.{CausalGraph}
 use Rattle.model.specs.declared.answers.BookRead.{BookRead}
-use Rattle.model.specs.declared.answers.BookAnswer.{BookAnswer}
-use Rattle.model.specs.declared.answers.BookAnswer.TheVariants.{Whole, Refused as RefusedBook, PushRefused}
-use Rattle.model.specs.declared.answers.Outcome.TheVariants.{Done, Refused as RefusedHeader}
-use Rattle.model.specs.declared.answers.Made.{Made}
-use Rattle.model.specs.declared.answers.EventsAnswer.TheVariants.{Events, Refused}
-use Rattle.model.specs.declared.answers.Pushed.{Pushed}
 use Rattle.model.specs.Broken.{Held}
 use Rattle.model.specs.Book.{book_read, read_pushes}
 use Rattle.book.specs.declared.reading.Turn.{Turn}
+use Rattle.model.specs.Answers.{Made, Pushed}
+use Rattle.model.specs.declared.answers.BookRefusal.{BookRefusal}
+use Rattle.model.specs.declared.answers.BookRefusal.TheVariants.{Refused, PushRefused}
 
 -- refused at once, with the graph made till then
-abbrev pub stopped : CausalGraph → BookAnswer → Turn
+abbrev pub stopped : CausalGraph → Result (Unit {0}) BookRefusal → Turn
 stopped g a = record { graph = g; at = 0; is_refused = true; answer = a }
 
 -- push k was tried, and the next one stands at `at`
 unfoldable pub tried_at : Pushed → ℕ → ℕ → Turn
 tried_at p at k = elim p.answer [
-  | Events first end ↦ record { graph = p.graph; at = at; is_refused = false; answer = Whole }
-  | Refused r ↦ record { graph = p.graph; at = at; is_refused = true; answer = PushRefused r k }
+  | Ok (first, end) ↦ record { graph = p.graph; at = at; is_refused = false; answer = (Ok tt) }
+  | Err r ↦ record { graph = p.graph; at = at; is_refused = true; answer = Err (PushRefused r k) }
 ]
 
 -- the header was tried, `n` pushes stand in the bytes after it
 unfoldable pub headed : Made → ℕ → List ℕ → BookRead
 headed m n bs = elim m.outcome [
-  | Done ↦ read_pushes n 0 m.graph bs
-  | RefusedHeader refusal ↦ book_read m.graph (RefusedBook refusal)
+  | Ok _ ↦ read_pushes n 0 m.graph bs
+  | Err refusal ↦ book_read m.graph (Err (Refused refusal))
 ]
 
 -- what `n` pushes more make of a turn, the first of them push k: where one was refused, nothing

@@ -4,8 +4,6 @@ use mathlib.Core.Bool.{true}
 use mathlib.Core.List.{List, ◌∷◌, ◌++◌}
 use Prim.Native.Nat.{ℕ}
 use Rattle.model.specs.declared.record.CausalGraph.{CausalGraph}
-use Rattle.model.specs.declared.answers.Started.{Started}
-use Rattle.model.specs.declared.answers.BoolAnswer.TheVariants.{Told}
 use Rattle.model.specs.Start.{told, start_run_at_of}
 use Rattle.model.specs.Log.{Fresh, Call, start_run_at, Log, answer, made_by}
 use Rattle.model.proofs.Good.{made-append}
@@ -13,6 +11,8 @@ use Rattle.model.proofs.StaysTrue.{stays_true}
 use Rattle.calls.specs.Words.{calls_after, fresh_in, calls_in, called_by, graph_after}
 use Rattle.calls.specs.Again.{called_again, StartsAgain}
 use Rattle.calls.proofs.Making.{log_free}
+use Rattle.std.specs.Prelude.{Ok}
+use Rattle.model.specs.Answers.{Started}
 
 -- The graph after calls, a run start and further calls
 made_on : (f : Fresh) (cs ds : List Call) (at : ℕ) → graph_after (start_run_at_of (made_by f cs).0 at).graph ds ≡ (made_by f (cs ++ start_run_at at ∷ ds)).0
@@ -30,7 +30,7 @@ module _ (ws : List ℕ) (at : ℕ) (between : List ℕ) (g h : CausalGraph) (s 
   given =
       Called-on ∙ ap (λ (x : Started). graph_after x.graph (calls_after 0 between)) first ∙ made_on (fresh_in ws) (calls_in ws) (calls_after 0 between) at
 
-  stays : s.answer ≡ Told true → t ≡ told h true
+  stays : s.answer ≡ Ok true → t ≡ told h true
   stays e =
       started-again ∙
       subst (λ (x : CausalGraph). start_run_at_of x at ≡ told x true) (sym given)

@@ -6,14 +6,13 @@ use native.Mathlib.Omega.{arith}
 use lib.ListN.{length, length-drop, get_or, take, drop}
 use lib.Seq.{take_all}
 use Rattle.model.specs.declared.record.CausalGraph.{CausalGraph}
-use Rattle.model.specs.declared.answers.Made.{Made}
-use Rattle.model.specs.declared.answers.Pushed.{Pushed}
 use Rattle.model.specs.Fresh.{new_of, after_of}
 use Rattle.model.specs.Push.{push_of}
 use Rattle.model.specs.Start.{start_run_at_of, take_changed_from_of}
 use Rattle.model.specs.Log.{Fresh, new, after, Call, push, start_run_at, take_changed_from, Log, begin, begin_log, answer, note, after_calls, made_by}
 use Rattle.calls.specs.Words.{list_in, start_size, start_of, call_size, call_of, calls_after, fresh_in, calls_in, graph_after}
 use Rattle.calls.proofs.Reading.{call_in}
+use Rattle.model.specs.Answers.{Made, Pushed}
 
 -- What is lent: a call's list, and the words from a place on
 

@@ -1,7 +1,6 @@
 -- 02, F-4, of two run starts that were made with a list of calls between them. Assumes nothing.
-use Rattle.std.specs.Prelude.{◌≡◌, true, List, ◌∷◌, ◌++◌, ℕ}
+use Rattle.std.specs.Prelude.{◌≡◌, true, List, ◌∷◌, ◌++◌, ℕ, Ok}
 use Rattle.model.specs.declared.record.CausalGraph.{CausalGraph}
-use Rattle.model.specs.declared.answers.BoolAnswer.TheVariants.{Told}
 use Rattle.model.specs.Start.{start_run_at_of}
 use Rattle.model.specs.Log.{start_run_at, made_by}
 use Rattle.calls.specs.declared.StartedAgain.{StartedAgain}
@@ -18,4 +17,4 @@ pub record StartsAgain (ws : List ℕ) (at : ℕ) (between : List ℕ) (r : Star
   pub given : r.given ≡ called_again ws at between
   pub again : r.again ≡ (start_run_at_of r.given at).answer
   pub left : r.left ≡ (start_run_at_of r.given at).graph
-  pub stays : r.first ≡ Told true → (r.again ≡ Told true) × (r.left ≡ r.given)
+  pub stays : r.first ≡ Ok true → (r.again ≡ Ok true) × (r.left ≡ r.given)

@@ -12,15 +12,14 @@ use Rattle.lists.proofs.Pads.{add-pad}
 use Rattle.lists.specs.Lists.{rising, below, filter, upto, from, concat, sum}
 use Rattle.lists.specs.Areas.{pad, group_starts}
 use Rattle.model.specs.declared.record.CausalGraph.{CausalGraph}
-use Rattle.model.specs.declared.answers.Made.{Made}
 use Rattle.model.specs.declared.answers.Refusal.{Refusal}
 use Rattle.model.specs.declared.answers.Refusal.TheVariants.{NotRising, UnknownEvent, FrontierTooLong}
-use Rattle.model.specs.declared.answers.Outcome.{Outcome}
-use Rattle.model.specs.declared.answers.Outcome.TheVariants.{Done, Refused}
-use Rattle.model.specs.Refusals.{first_of}
+use Rattle.model.specs.Refusals.{first_of, Outcome}
 use Rattle.model.specs.Graph.{runs, entries, marks, marked}
 use Rattle.model.specs.Record.{store}
 use Rattle.model.specs.Fresh.{fresh, new_of, after_outcome, after_of}
+use Rattle.std.specs.Prelude.{Ok, Err}
+use Rattle.model.specs.Answers.{Made}
 
 pub copy_turn : (l : List ℕ) (i : ℕ) → i < length l → length l ≤ 512 → set (pad 512 (take i l)) i (get_or l i 0) ≡ pad 512 (take (i + 1) l)
 copy_turn l i h k =
@@ -80,45 +79,45 @@ fresh-stored events frontier starts heads parents tips seen marked a b c d e f =
 
 -- The ways out of `after`
 module _ (events : ℕ) (frontier : List ℕ) (made : CausalGraph) where
-  refuses : (r : Refusal) → made ≡ new_of → after_outcome events frontier ≡ Refused r →
-      ◌≡◌ {A = Made} (record { graph = made; outcome = Refused r }) (after_of events frontier)
+  refuses : (r : Refusal) → made ≡ new_of → after_outcome events frontier ≡ Err r →
+      ◌≡◌ {A = Made} (record { graph = made; outcome = Err r }) (after_of events frontier)
   unfolding after_of
   refuses r n e = sym (go (after_outcome events frontier) e)
     where
-      go : (o : Outcome) → o ≡ Refused r →
+      go : (o : Outcome) → o ≡ Err r →
           ◌≡◌ {A = Made}
           (elim o as (λ _. Made) [
-            | Done ↦ record { graph = store (fresh events frontier); outcome = Done }
-            | Refused q ↦ record { graph = new_of; outcome = Refused q }
+            | Ok _ ↦ record { graph = store (fresh events frontier); outcome = Ok tt }
+            | Err q ↦ record { graph = new_of; outcome = Err q }
           ])
-          (record { graph = made; outcome = Refused r })
+          (record { graph = made; outcome = Err r })
       go o q = rw (q, n)
 
   pub after_unordered : made ≡ new_of → rising frontier ≡ false →
-      ◌≡◌ {A = Made} (record { graph = made; outcome = Refused NotRising }) (after_of events frontier)
+      ◌≡◌ {A = Made} (record { graph = made; outcome = Err NotRising }) (after_of events frontier)
   unfolding after_outcome first_of
   after_unordered n e = refuses NotRising n (rw e)
 
   pub after-unknown : made ≡ new_of → rising frontier ≡ true → below events frontier ≡ false →
-      ◌≡◌ {A = Made} (record { graph = made; outcome = Refused UnknownEvent }) (after_of events frontier)
+      ◌≡◌ {A = Made} (record { graph = made; outcome = Err UnknownEvent }) (after_of events frontier)
   unfolding after_outcome first_of
   after-unknown n e k = refuses UnknownEvent n (rw (e, k))
 
   pub after-long : made ≡ new_of → rising frontier ≡ true → below events frontier ≡ true → 512 < length frontier →
-      ◌≡◌ {A = Made} (record { graph = made; outcome = Refused FrontierTooLong }) (after_of events frontier)
+      ◌≡◌ {A = Made} (record { graph = made; outcome = Err FrontierTooLong }) (after_of events frontier)
   unfolding after_outcome first_of
   after-long n e k l = refuses FrontierTooLong n (rw (e, k, lt-ltb 512 (length frontier) l))
 
   pub after-done : made ≡ store (fresh events frontier) → rising frontier ≡ true → below events frontier ≡ true → length frontier ≤ 512 →
-      ◌≡◌ {A = Made} (record { graph = made; outcome = Done }) (after_of events frontier)
+      ◌≡◌ {A = Made} (record { graph = made; outcome = Ok tt }) (after_of events frontier)
   unfolding after_of after_outcome first_of
   after-done n e k l = sym (go (after_outcome events frontier) (rw (e, k, le-ltb 512 (length frontier) l)))
     where
-      go : (o : Outcome) → o ≡ Done →
+      go : (o : Outcome) → o ≡ Ok tt →
           ◌≡◌ {A = Made}
           (elim o as (λ _. Made) [
-            | Done ↦ record { graph = store (fresh events frontier); outcome = Done }
-            | Refused q ↦ record { graph = new_of; outcome = Refused q }
+            | Ok _ ↦ record { graph = store (fresh events frontier); outcome = Ok tt }
+            | Err q ↦ record { graph = new_of; outcome = Err q }
           ])
-          (record { graph = made; outcome = Done })
+          (record { graph = made; outcome = Ok tt })
       go o q = rw (q, n)

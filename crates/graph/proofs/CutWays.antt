@@ -14,9 +14,7 @@ use Rattle.model.specs.declared.record.CausalGraph.{CausalGraph}
 use Rattle.model.specs.declared.answers.Written.{Written}
 use Rattle.model.specs.declared.answers.Refusal.{Refusal}
 use Rattle.model.specs.declared.answers.Refusal.TheVariants.{Broken, Outside, Unmarked}
-use Rattle.model.specs.declared.answers.Outcome.{Outcome}
-use Rattle.model.specs.declared.answers.Outcome.TheVariants.{Done, Refused}
-use Rattle.model.specs.Refusals.{first_of}
+use Rattle.model.specs.Refusals.{first_of, Outcome}
 use Rattle.model.specs.Graph.{runs, marks}
 use Rattle.model.specs.Record.{view}
 use Rattle.model.specs.Broken.{broken, Held}
@@ -28,6 +26,7 @@ use Rattle.graph.specs.Cutting.{blank, written_of, join_on, put_all, put_ranges}
 use Rattle.graph.proofs.Views.{facts, runs-view}
 use Rattle.graph.proofs.Writing.{put-writing}
 use Rattle.graph.proofs.Cuts.{cut_written}
+use Rattle.std.specs.Prelude.{Ok, Err}
 
 words_three : (r : HistoryRange) → length (range_words r) ≡ 3
 unfolding range_words
@@ -40,17 +39,17 @@ none_left (x ∷ xs) h = absurd (omega arith)
 
 module _ (g : CausalGraph) (f : ℕ) (lent : List ℕ) where
   outcome_is : (o : Outcome) → cut_outcome g f ≡ o → cut_of g f lent ≡
-      elim o as (λ _. Written × List ℕ) [ Done ↦ writing 3 (map range_words (cut_from (view g) f)) lent | Refused r ↦ unwritten r lent ]
+      elim o as (λ _. Written × List ℕ) [ Ok _ ↦ writing 3 (map range_words (cut_from (view g) f)) lent | Err r ↦ unwritten r lent ]
   unfolding cut_of
   outcome_is o e = ap
-      (λ (o : Outcome). elim o as (λ _. Written × List ℕ) [ Done ↦ writing 3 (map range_words (cut_from (view g) f)) lent | Refused r ↦ unwritten r lent ]) e
+      (λ (o : Outcome). elim o as (λ _. Written × List ℕ) [ Ok _ ↦ writing 3 (map range_words (cut_from (view g) f)) lent | Err r ↦ unwritten r lent ]) e
 
   -- Refused
-  pub cut_refused : (r : Refusal) → cut_outcome g f ≡ Refused r → (record { count = 0; outcome = Refused r }, lent) ≡ cut_of g f lent
+  pub cut_refused : (r : Refusal) → cut_outcome g f ≡ Err r → (record { count = 0; outcome = Err r }, lent) ≡ cut_of g f lent
   unfolding unwritten
-  cut_refused r e = sym (outcome_is (Refused r) e)
+  cut_refused r e = sym (outcome_is (Err r) e)
 
-  pub cut_broken : broken g ≡ true → (record { count = 0; outcome = Refused Broken }, lent) ≡ cut_of g f lent
+  pub cut_broken : broken g ≡ true → (record { count = 0; outcome = Err Broken }, lent) ≡ cut_of g f lent
   unfolding cut_outcome first_of
   cut_broken e = cut_refused Broken (rw e)
 
@@ -59,22 +58,22 @@ module _ (g : CausalGraph) (f : ℕ) (lent : List ℕ) where
     marks_list = (clauses_of g (not-broken g held)).the_marks
 
     -- Nothing to cut
-    pub cut_empty : g.run_count ≡ 0 → (record { count = 0; outcome = Done }, lent) ≡ cut_of g f lent
+    pub cut_empty : g.run_count ≡ 0 → (record { count = 0; outcome = Ok tt }, lent) ≡ cut_of g f lent
     unfolding cut_outcome first_of cut_from filter ranges_from join_ranges put_all written_of
     cut_empty e =
         put-writing 3 range_words words_three [] lent (blank) lent refl ∙
         (ap (λ (ms : List ℕ). writing 3 (map range_words (join_ranges (ranges_from (filter (λ m. leb f m) ms) (runs (view g))))) lent) (sym no_marks) ∙
-        sym (outcome_is Done (rw (not-broken g held, runs-view g held, le-ltb 0 g.run_count (omega arith)))))
+        sym (outcome_is (Ok tt) (rw (not-broken g held, runs-view g held, le-ltb 0 g.run_count (omega arith)))))
       where
         no_marks : marks (view g) ≡ []
         no_marks = none_left (marks (view g)) (omega (arith, marks-length (view g), runs-view g held))
 
-    pub cut_outside : (g.run_count ≡ 0 → ⊥) → g.run_count ≤ f → (record { count = 0; outcome = Refused Outside }, lent) ≡ cut_of g f lent
+    pub cut_outside : (g.run_count ≡ 0 → ⊥) → g.run_count ≤ f → (record { count = 0; outcome = Err Outside }, lent) ≡ cut_of g f lent
     unfolding cut_outcome first_of
     cut_outside z h = cut_refused Outside (rw (not-broken g held, runs-view g held, lt-ltb 0 g.run_count (omega arith), le-leb g.run_count f h))
 
     pub cut_unmarked : (g.run_count ≡ 0 → ⊥) → f < g.run_count → mem f (take g.mark_count g.critical_versions) ≡ false →
-        (record { count = 0; outcome = Refused Unmarked }, lent) ≡ cut_of g f lent
+        (record { count = 0; outcome = Err Unmarked }, lent) ≡ cut_of g f lent
     unfolding cut_outcome first_of
     cut_unmarked z h m = cut_refused Unmarked
         (rw (not-broken g held, runs-view g held, lt-ltb 0 g.run_count (omega arith), lt-leb g.run_count f h, rw marks_list at m))
@@ -89,7 +88,7 @@ module _ (g : CausalGraph) (f : ℕ) (lent : List ℕ) where
     unfolding cut_outcome first_of put_ranges cut_from
     cut_done z h m at q p l e =
         put-writing 3 range_words words_three (cut_from (view g) f) lent p l (e ∙ ap (λ (rs : List HistoryRange). put_ranges (blank, lent) rs) joined) ∙
-        sym (outcome_is Done
+        sym (outcome_is (Ok tt)
         (rw (not-broken g held, runs-view g held, lt-ltb 0 g.run_count (omega arith), lt-leb g.run_count f h, rw marks_list at m)))
       where
         up : Up 0 (take g.mark_count g.critical_versions) g.run_count

@@ -17,7 +17,6 @@ use Rattle.lists.proofs.Groups.{climbs-at, length_part, part-take, group_at}
 use Rattle.lists.proofs.Rising.{rising_tail, rising_above}
 use Rattle.model.specs.declared.record.CausalGraph.{CausalGraph}
 use Rattle.model.specs.declared.answers.Refusal.TheVariants.{Broken, Outside}
-use Rattle.model.specs.declared.answers.Outcome.TheVariants.{Done, Refused}
 use Rattle.model.specs.Refusals.{first_of}
 use Rattle.model.specs.Graph.{runs}
 use Rattle.model.specs.Record.{view}
@@ -25,18 +24,19 @@ use Rattle.model.specs.Broken.{broken, Held}
 use Rattle.model.specs.Lookups.{lookup}
 use Rattle.model.proofs.Stored.{not-broken, clauses_of}
 use Rattle.graph.proofs.Views.{facts, runs-view}
+use Rattle.std.specs.Prelude.{Ok, Err}
 
 -- The two tests of a lookup
 module _ (g : CausalGraph) where
-  pub look_broken : broken g ≡ true → (outside : Bool) → lookup g outside ≡ Refused Broken
+  pub look_broken : broken g ≡ true → (outside : Bool) → lookup g outside ≡ Err Broken
   unfolding lookup first_of
   look_broken e outside = rw e
 
-  pub look_outside : broken g ≡ false → (outside : Bool) → outside ≡ true → lookup g outside ≡ Refused Outside
+  pub look_outside : broken g ≡ false → (outside : Bool) → outside ≡ true → lookup g outside ≡ Err Outside
   unfolding lookup first_of
   look_outside e outside o = rw (e, o)
 
-  pub look_done : broken g ≡ false → (outside : Bool) → outside ≡ false → lookup g outside ≡ Done
+  pub look_done : broken g ≡ false → (outside : Bool) → outside ≡ false → lookup g outside ≡ Ok tt
   unfolding lookup first_of
   look_done e outside o = rw (e, o)
 

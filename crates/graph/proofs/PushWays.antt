@@ -13,13 +13,9 @@ use Rattle.lists.specs.Scans.{kept_in}
 use Rattle.lists.specs.declared.Kept.{Kept}
 use Rattle.lists.proofs.Keeping.{kept-count}
 use Rattle.model.specs.declared.record.CausalGraph.{CausalGraph}
-use Rattle.model.specs.declared.answers.Pushed.{Pushed}
-use Rattle.model.specs.declared.answers.EventsAnswer.TheVariants.{Events, Refused as RefusedEvents}
 use Rattle.model.specs.declared.answers.Refusal.{Refusal}
 use Rattle.model.specs.declared.answers.Refusal.TheVariants.{Broken, NoEvents, NotRising, UnknownEvent, TooManyEvents, TooManyRuns, TooManyEntries, FrontierTooLong}
-use Rattle.model.specs.declared.answers.Outcome.{Outcome}
-use Rattle.model.specs.declared.answers.Outcome.TheVariants.{Done, Refused}
-use Rattle.model.specs.Refusals.{first_of}
+use Rattle.model.specs.Refusals.{first_of, Outcome}
 use Rattle.model.specs.Graph.{Graph, runs, len, entries, Side, side, is_known, held, all_known, extends}
 use Rattle.model.specs.Record.{view, store}
 use Rattle.model.specs.Broken.{broken, Held, WithinLimits}
@@ -38,6 +34,8 @@ use Rattle.graph.proofs.SplitParts.{splits_in}
 use Rattle.graph.proofs.Owning.{held-counted}
 use Rattle.graph.proofs.Placing.{side-view}
 use Rattle.graph.proofs.Views.{runs-view, entries-view, frontier_list}
+use Rattle.std.specs.Prelude.{Ok, Err}
+use Rattle.model.specs.Answers.{Pushed}
 
 -- The test for the last event number, with no overflow
 pub far_test : (s n : ℕ) → s ≤ 4294967295 → ltb (4294967295 - s) n ≡ ltb 4294967295 (s + n)
@@ -52,22 +50,22 @@ far_passed s n e = omega (arith, ltb-false 4294967295 (s + n) e)
 
 -- A refused push, and one that is taken
 abbrev pub refused_by : CausalGraph → Refusal → Pushed
-refused_by g r = record { graph = g; answer = RefusedEvents r }
+refused_by g r = record { graph = g; answer = Err r }
 
 abbrev pub taken_by : CausalGraph → ℕ → ℕ → Pushed
-taken_by h start n = record { graph = h; answer = Events (record { 0 = start }) (record { 0 = start + n }) }
+taken_by h start n = record { graph = h; answer = Ok ((record { 0 = start }), (record { 0 = start + n })) }
 
 module _ (g : CausalGraph) (ps : List ℕ) (n : ℕ) where
   -- A push by its outcome
-  refused_way : (r : Refusal) → push_outcome (view g) ps n ≡ Refused r → refused_by g r ≡ push_held_of g ps n
+  refused_way : (r : Refusal) → push_outcome (view g) ps n ≡ Err r → refused_by g r ≡ push_held_of g ps n
   unfolding push_held_of push_refused
   refused_way r e =
-      ap (λ (o : Outcome). elim o as (λ _. Pushed) [ Done ↦ pushed (view g) ps n | Refused s ↦ refused_by g s ]) (sym e)
+      ap (λ (o : Outcome). elim o as (λ _. Pushed) [ Ok _ ↦ pushed (view g) ps n | Err s ↦ refused_by g s ]) (sym e)
 
-  done_way : push_outcome (view g) ps n ≡ Done → pushed (view g) ps n ≡ push_held_of g ps n
+  done_way : push_outcome (view g) ps n ≡ Ok tt → pushed (view g) ps n ≡ push_held_of g ps n
   unfolding push_held_of push_refused
   done_way e =
-      ap (λ (o : Outcome). elim o as (λ _. Pushed) [ Done ↦ pushed (view g) ps n | Refused s ↦ refused_by g s ]) (sym e)
+      ap (λ (o : Outcome). elim o as (λ _. Pushed) [ Ok _ ↦ pushed (view g) ps n | Err s ↦ refused_by g s ]) (sym e)
 
   -- A broken graph is refused, and one that is not is pushed to
   pub broken-out : broken g ≡ true → refused_by g Broken ≡ push_of g ps n
@@ -94,7 +92,7 @@ module _ (g : CausalGraph) (ps : List ℕ) (n : ℕ) where
     too_many_events z r b f = refused_way TooManyEvents (unfold push_outcome first_of in rw (ne_eqb n 0 z, r, b, ← at_end, f))
 
     -- A push that is taken
-    taken_out_lem : (h : CausalGraph) → h ≡ store (push (view g) ps n) → push_outcome (view g) ps n ≡ Done → taken_by h start n ≡ push_held_of g ps n
+    taken_out_lem : (h : CausalGraph) → h ≡ store (push (view g) ps n) → push_outcome (view g) ps n ≡ Ok tt → taken_by h start n ≡ push_held_of g ps n
     unfolding pushed
     taken_out_lem h q e = (λ i. taken_by (q i) (at_end i) n) ∙ done_way e
 
@@ -168,7 +166,7 @@ module _ {g : CausalGraph} {ps : List ℕ} {n start : ℕ} {c : ParentCounts} (k
   pub some_runs : {e : Bool} → e ≡ extends (view g) ps → e ≡ true → 0 < g.run_count
   some_runs e t = omega (arith, extends-runs (view g) ps (sym e ∙ t), runs-view g k.holds)
 
-  grown_outcome : extends (view g) ps ≡ true → push_outcome (view g) ps n ≡ Done
+  grown_outcome : extends (view g) ps ≡ true → push_outcome (view g) ps n ≡ Ok tt
   unfolding push_outcome first_of
   grown_outcome x = rw (ne_eqb n 0 some-not, k.rises, k.known, events-len, x)
 
@@ -220,7 +218,7 @@ module _ {g : CausalGraph} {ps : List ℕ} {n start : ℕ} {c : ParentCounts} (k
 
   last_outcome : extends (view g) ps ≡ false → ltb 512 (runs (view g) + splits (view g) ps + 1) ≡ false →
       ltb 2048 (entries (view g) + splits (view g) ps + length (held (view g) ps)) ≡ false →
-      push_outcome (view g) ps n ≡ cond (ltb 512 (length (staying (view g) ps) + 1)) (Refused FrontierTooLong) Done
+      push_outcome (view g) ps n ≡ cond (ltb 512 (length (staying (view g) ps) + 1)) (Err FrontierTooLong) (Ok tt)
   unfolding push_outcome first_of
   last_outcome x y z = rw (ne_eqb n 0 some-not, k.rises, k.known, events-len, x, y, z)
 
@@ -289,7 +287,7 @@ module _ {g : CausalGraph} {ps : List ℕ} {n start : ℕ} {c : ParentCounts} (r
     some_events = r.known.some;
   }
 
-  new_outcome : push_outcome (view g) ps n ≡ Done
+  new_outcome : push_outcome (view g) ps n ≡ Ok tt
   new_outcome =
       last_outcome r.known r.new
       (le-ltb 512 (runs (view g) + splits (view g) ps + 1) r.for_runs)

@@ -8,14 +8,9 @@ use borrow.Author.Tests.{lt-ltb, le-ltb, eq-eqb, ne_eqb}
 use Rattle.lists.specs.Lists.{mem}
 use Rattle.lists.proofs.Truth.{false_true}
 use Rattle.model.specs.declared.record.CausalGraph.{CausalGraph}
-use Rattle.model.specs.declared.answers.Started.{Started}
-use Rattle.model.specs.declared.answers.Taken.{Taken}
-use Rattle.model.specs.declared.answers.RunAnswer.TheVariants.{Run, Refused as RefusedRun}
 use Rattle.model.specs.declared.answers.Refusal.TheVariants.{Broken, TooManyRuns, TooManyEntries}
 use Rattle.model.specs.declared.answers.Refusal.{Refusal}
-use Rattle.model.specs.declared.answers.Outcome.{Outcome}
-use Rattle.model.specs.declared.answers.Outcome.TheVariants.{Done, Refused}
-use Rattle.model.specs.Refusals.{first_of}
+use Rattle.model.specs.Refusals.{first_of, Outcome}
 use Rattle.model.specs.Graph.{Graph, runs, start, entries, containing, marked, marks, in_run, side, is_held}
 use Rattle.model.specs.Record.{view, store}
 use Rattle.model.specs.Broken.{broken, Held}
@@ -26,6 +21,8 @@ use Rattle.model.proofs.FormedCalls.{starting-out, starting_in_lem, in_there, in
 use Rattle.model.proofs.Sides.{sides}
 use Rattle.model.proofs.Lasting.{marks_list as marks-mem}
 use Rattle.graph.proofs.Views.{runs-view, entries-view, tips_view, marks-view, start-view, marks_list, starts-pad, heads-pad, parents-pad, frontier-pad, seen-pad, marks-pad}
+use Rattle.std.specs.Prelude.{Ok, Err}
+use Rattle.model.specs.Answers.{Started, Taken}
 
 -- A choice by a test that is known
 if_true : {A : Type 0} (a b : A) (t : Bool) → t ≡ true → (elim t as (λ _. A) [ true ↦ a | false ↦ b ]) ≡ a
@@ -37,15 +34,15 @@ if_false a b true e = false_true (sym e)
 if_false a b false e = refl
 
 -- What a split comes to
-split_runs : (g : Graph) → 512 ≤ runs g → split_outcome g ≡ Refused TooManyRuns
+split_runs : (g : Graph) → 512 ≤ runs g → split_outcome g ≡ Err TooManyRuns
 unfolding split_outcome first_of
 split_runs g h = rw (lt-ltb 512 (runs g + 1) (omega arith))
 
-split-entries : (g : Graph) → runs g < 512 → 2048 ≤ entries g → split_outcome g ≡ Refused TooManyEntries
+split-entries : (g : Graph) → runs g < 512 → 2048 ≤ entries g → split_outcome g ≡ Err TooManyEntries
 unfolding split_outcome first_of
 split-entries g h k = rw (le-ltb 512 (runs g + 1) (omega arith), lt-ltb 2048 (entries g + 1) (omega arith))
 
-split_done : (g : Graph) → runs g < 512 → entries g < 2048 → split_outcome g ≡ Done
+split_done : (g : Graph) → runs g < 512 → entries g < 2048 → split_outcome g ≡ Ok tt
 unfolding split_outcome first_of
 split_done g h k = rw (le-ltb 512 (runs g + 1) (omega arith), le-ltb 2048 (entries g + 1) (omega arith))
 
@@ -60,40 +57,40 @@ module _ (g : CausalGraph) (at : ℕ) where
             | answers d ↦ told g d
             | splitting ↦
                 elim (split_outcome (view g)) as (λ _. Started) [
-                  | Done ↦ told (store (split (view g) (containing (view g) at) at)) true
-                  | Refused r ↦ start_refused g r
+                  | Ok _ ↦ told (store (split (view g) (containing (view g) at) at)) true
+                  | Err r ↦ start_refused g r
                 ]
           ]) ≡
           told g b
       go s q = rw q
 
-  refuses : (r : Refusal) → starting (view g) at ≡ splitting → split_outcome (view g) ≡ Refused r → start_refused g r ≡ start_held_of g at
+  refuses : (r : Refusal) → starting (view g) at ≡ splitting → split_outcome (view g) ≡ Err r → start_refused g r ≡ start_held_of g at
   unfolding start_held_of
   refuses r e f = sym (go (starting (view g) at) (split_outcome (view g)) e f)
     where
-      go : (s : Starting) (o : Outcome) → s ≡ splitting → o ≡ Refused r →
+      go : (s : Starting) (o : Outcome) → s ≡ splitting → o ≡ Err r →
           (elim s as (λ _. Started) [
             | answers d ↦ told g d
             | splitting ↦
                 elim o as (λ _. Started) [
-                  | Done ↦ told (store (split (view g) (containing (view g) at) at)) true
-                  | Refused q ↦ start_refused g q
+                  | Ok _ ↦ told (store (split (view g) (containing (view g) at) at)) true
+                  | Err q ↦ start_refused g q
                 ]
           ]) ≡
           start_refused g r
       go s o p q = rw (p, q)
 
-  splits : starting (view g) at ≡ splitting → split_outcome (view g) ≡ Done → told (store (split (view g) (containing (view g) at) at)) true ≡ start_held_of g at
+  splits : starting (view g) at ≡ splitting → split_outcome (view g) ≡ Ok tt → told (store (split (view g) (containing (view g) at) at)) true ≡ start_held_of g at
   unfolding start_held_of
   splits e f = sym (go (starting (view g) at) (split_outcome (view g)) e f)
     where
-      go : (s : Starting) (o : Outcome) → s ≡ splitting → o ≡ Done →
+      go : (s : Starting) (o : Outcome) → s ≡ splitting → o ≡ Ok tt →
           (elim s as (λ _. Started) [
             | answers d ↦ told g d
             | splitting ↦
                 elim o as (λ _. Started) [
-                  | Done ↦ told (store (split (view g) (containing (view g) at) at)) true
-                  | Refused q ↦ start_refused g q
+                  | Ok _ ↦ told (store (split (view g) (containing (view g) at) at)) true
+                  | Err q ↦ start_refused g q
                 ]
           ]) ≡
           told (store (split (view g) (containing (view g) at) at)) true
@@ -194,7 +191,7 @@ pub take-taken :
             mark_count = g.mark_count;
             changed_from = record { 0 = g.run_count };
           };
-      answer = Run g.changed_from;
+      answer = Ok g.changed_from;
     })
     (take_held_of g)
 unfolding take_held_of store taken runs entries marks marked start
@@ -215,10 +212,10 @@ take-taken g held =
             mark_count = sym (marks-view g held) i;
             changed_from = record { 0 = sym (runs-view g held) i };
           };
-      answer = Run g.changed_from;
+      answer = Ok g.changed_from;
     }
 
-pub take-broken : (g : CausalGraph) → broken g ≡ true → ◌≡◌ {A = Taken} (record { graph = g; answer = RefusedRun Broken }) (take_changed_from_of g)
+pub take-broken : (g : CausalGraph) → broken g ≡ true → ◌≡◌ {A = Taken} (record { graph = g; answer = Err Broken }) (take_changed_from_of g)
 unfolding take_changed_from_of
 take-broken g e = sym (if_true _ _ (broken g) e)
 

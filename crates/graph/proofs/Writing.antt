@@ -14,10 +14,10 @@ use Rattle.lists.specs.Lists.{bit, concat}
 use Rattle.lists.specs.Areas.{over}
 use Rattle.model.specs.declared.answers.Written.{Written}
 use Rattle.model.specs.declared.answers.Refusal.TheVariants.{ListTooShort}
-use Rattle.model.specs.declared.answers.Outcome.TheVariants.{Done, Refused}
 use Rattle.model.specs.Cut.{writing}
 use Rattle.graph.specs.declared.cut.Put.{Put}
 use Rattle.graph.specs.Cutting.{blank, put, put_all, written_of}
+use Rattle.std.specs.Prelude.{Ok, Err}
 
 -- Where a record goes
 module _ (size k : ℕ) (l ws : List ℕ) where
@@ -66,7 +66,7 @@ over_more a b l = rw (length-append a b, ← drop-drop (length b) (length a) l, 
 
 -- what is answered of them
 written_eq : (n : ℕ) (t : Bool) (l : List ℕ) → ◌≡◌ {A = Written × List ℕ} (written_of (record { count = 0 + n; short = bit t }), l)
-    (record { count = n; outcome = cond t (Refused ListTooShort) Done }, l)
+    (record { count = n; outcome = cond t (Err ListTooShort) (Ok tt) }, l)
 unfolding written_of
 written_eq n true l = rw (zero-add n)
 written_eq n false l = rw (zero-add n)
@@ -120,7 +120,7 @@ flat (x ∷ xs) = ap (λ (l : List ℕ). x ∷ l) (flat xs)
 -- Words that all fit
 pub words_fit : (xs lent : List ℕ) (p : Put) (l : List ℕ) → length xs ≤ length lent →
     (p, l) ≡ put_all 1 (blank, lent) (map (λ x. x ∷ []) xs) →
-    ◌≡◌ {A = Written × List ℕ} (written_of p, l) (record { count = length xs; outcome = Done }, over xs lent)
+    ◌≡◌ {A = Written × List ℕ} (written_of p, l) (record { count = length xs; outcome = Ok tt }, over xs lent)
 unfolding writing
 words_fit xs lent p l h e =
     put-writing 1 (λ (x : ℕ). x ∷ []) (λ x. refl) xs lent p l e ∙

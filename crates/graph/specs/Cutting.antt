@@ -1,8 +1,7 @@
 -- What the writers into lent lists compute, record by record, and the cut from left to right. Assumes nothing.
-use Rattle.std.specs.Prelude.{true, false, cond, ◌&&◌, List, [], ◌∷◌, ◌++◌, map, ℕ, ◌+◌, ◌*◌, ◌/◌, length, take, drop, ltb, eqb}
+use Rattle.std.specs.Prelude.{true, false, cond, ◌&&◌, List, [], ◌∷◌, ◌++◌, map, ℕ, ◌+◌, ◌*◌, ◌/◌, length, take, drop, ltb, eqb, Ok, Err}
 use Rattle.model.specs.declared.answers.Written.{Written}
 use Rattle.model.specs.declared.answers.Refusal.TheVariants.{ListTooShort}
-use Rattle.model.specs.declared.answers.Outcome.TheVariants.{Done, Refused}
 use Rattle.model.specs.Cut.{HistoryRange, linear, concurrent, range_words}
 use Rattle.graph.specs.declared.cut.Put.{Put}
 use Rattle.graph.specs.declared.cut.Cutting.{Cutting}
@@ -26,7 +25,7 @@ blank = record { count = 0; short = 0 }
 
 -- What a call answers after its last record
 unfoldable pub written_of : Put → Written
-written_of p = record { count = p.count; outcome = cond (eqb p.short 0) Done (Refused ListTooShort) }
+written_of p = record { count = p.count; outcome = cond (eqb p.short 0) (Ok tt) (Err ListTooShort) }
 
 -- The Linear from f to a, if it has a run
 unfoldable pub pending : ℕ → ℕ → List HistoryRange

@@ -8,9 +8,6 @@ use native.Mathlib.Omega.{arith}
 use lib.ListN.{length}
 use borrow.Author.Tests.{ltb-false, not-false}
 use Rattle.lists.specs.Lists.{all, sum, rising, below}
-use Rattle.model.specs.declared.answers.Made.{Made}
-use Rattle.model.specs.declared.answers.Outcome.{Outcome}
-use Rattle.model.specs.declared.answers.Outcome.TheVariants.{Done, Refused}
 use Rattle.model.specs.Graph.{runs, start, first_held, len, entries}
 use Rattle.model.specs.Record.{store}
 use Rattle.lists.specs.Scans.{groups_fit, between}
@@ -18,6 +15,9 @@ use Rattle.model.specs.Broken.{frontier_fits, broken, WellFormed, WithinLimits, 
 use Rattle.model.specs.Fresh.{fresh, new_of, after_outcome, after_of}
 use Rattle.model.proofs.Stored.{held-store, not-broken}
 use Rattle.model.proofs.Tests.{passed}
+use Rattle.std.specs.Prelude.{Ok, Err}
+use Rattle.model.specs.Refusals.{Outcome}
+use Rattle.model.specs.Answers.{Made}
 
 -- A graph with no runs is well-formed if its frontier is rising and below its events
 pub fresh-formed : (events : ℕ) (frontier : List ℕ) → rising frontier ≡ true → below events frontier ≡ true → WellFormed (fresh events frontier)
@@ -47,7 +47,7 @@ new-unbroken = not-broken new_of new-held
 
 -- What an `after` that is not refused was given
 pub after-passed :
-    (events : ℕ) (frontier : List ℕ) → after_outcome events frontier ≡ Done → (rising frontier ≡ true) × (below events frontier ≡ true) × (length frontier ≤ 512)
+    (events : ℕ) (frontier : List ℕ) → after_outcome events frontier ≡ Ok tt → (rising frontier ≡ true) × (below events frontier ≡ true) × (length frontier ≤ 512)
 unfolding after_outcome
 after-passed events frontier e =
     let p = passed _ _ e in
@@ -60,15 +60,15 @@ pub after-held : (events : ℕ) (frontier : List ℕ) → Held (after_of events 
 unfolding after_of
 after-held events frontier = go (after_outcome events frontier) (after-passed events frontier)
   where
-    go : (o : Outcome) → (o ≡ Done → (rising frontier ≡ true) × (below events frontier ≡ true) × (length frontier ≤ 512)) →
+    go : (o : Outcome) → (o ≡ Ok tt → (rising frontier ≡ true) × (below events frontier ≡ true) × (length frontier ≤ 512)) →
         Held (elim o as (λ _. Made) [
-          | Done ↦ record { graph = store (fresh events frontier); outcome = Done }
-          | Refused r ↦ record { graph = new_of; outcome = Refused r }
+          | Ok _ ↦ record { graph = store (fresh events frontier); answer = Ok tt }
+          | Err r ↦ record { graph = new_of; answer = Err r }
         ]).graph
-    go Done f =
+    go (Ok _) f =
         let p = f refl in
         held-store (fresh events frontier) (fresh-formed events frontier p.0 p.1) (fresh-limits events frontier p.2)
-    go (Refused r) f = new-held
+    go (Err r) f = new-held
 
 pub after-unbroken : (events : ℕ) (frontier : List ℕ) → broken (after_of events frontier).graph ≡ false
 after-unbroken events frontier = not-broken (after_of events frontier).graph (after-held events frontier)

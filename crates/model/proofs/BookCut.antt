@@ -8,11 +8,12 @@ use lib.ListN.{length, take}
 use lib.Seq.{length-take-le, take_all}
 use Rattle.lists.proofs.Truth.{lt_or_le}
 use Rattle.model.specs.declared.answers.BookRead.{BookRead}
-use Rattle.model.specs.declared.answers.BookAnswer.TheVariants.{Whole, Refused, PushRefused}
 use Rattle.model.specs.Refusals.{number}
 use Rattle.model.specs.Book.{book_of}
 use Rattle.model.specs.Print.{Line, refused_line, push_refused_line, replay_lines, printed}
 use Rattle.model.proofs.BookMade.{book-long}
+use Rattle.std.specs.Prelude.{Ok, Err}
+use Rattle.model.specs.declared.answers.BookRefusal.TheVariants.{Refused, PushRefused}
 
 -- The first 65,537 bytes are read as all of them are
 pub book_cut : (bs : List ℕ) → book_of (take 65537 bs) ≡ book_of bs
@@ -25,9 +26,9 @@ book_cut bs = go (lt_or_le 65536 (length bs))
 -- the lines of a book that was read
 lines_of : BookRead → List Line
 lines_of b = elim b.answer [
-  | Whole ↦ replay_lines b.graph
-  | Refused r ↦ refused_line (number r) ∷ []
-  | PushRefused r k ↦ push_refused_line (number r) k ∷ []
+  | Ok _ ↦ replay_lines b.graph
+  | Err (Refused r) ↦ refused_line (number r) ∷ []
+  | Err (PushRefused r k) ↦ push_refused_line (number r) k ∷ []
 ]
 
 -- and so is what is printed

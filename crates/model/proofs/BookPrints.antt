@@ -7,11 +7,7 @@ use Prim.Native.Nat.{ℕ, ◌*◌}
 use native.Mathlib.Omega.{arith}
 use lib.ListN.{length, take, replicate, length-append}
 use Rattle.model.specs.declared.record.CausalGraph.{CausalGraph}
-use Rattle.model.specs.declared.answers.Outcome.{Outcome}
-use Rattle.model.specs.declared.answers.Outcome.TheVariants.{Done, Refused}
-use Rattle.model.specs.declared.answers.BookAnswer.{BookAnswer}
-use Rattle.model.specs.declared.answers.BookAnswer.TheVariants.{Whole, Refused as RefusedBook, PushRefused}
-use Rattle.model.specs.Refusals.{number}
+use Rattle.model.specs.Refusals.{number, Outcome}
 use Rattle.model.specs.Broken.{Held}
 use Rattle.model.specs.Steps.{Step, words}
 use Rattle.model.specs.Walk.{WalkResult}
@@ -28,6 +24,9 @@ use Rattle.model.proofs.Demand.{claim}
 use Rattle.model.proofs.BookMade.{book-short, book-made, empty-start, empty_calls}
 use Rattle.model.proofs.BookCut.{printed_cut}
 use Rattle.model.proofs.Everything.{everything}
+use Rattle.std.specs.Prelude.{Ok, Err, Result}
+use Rattle.model.specs.declared.answers.BookRefusal.{BookRefusal}
+use Rattle.model.specs.declared.answers.BookRefusal.TheVariants.{Refused, PushRefused}
 
 -- The graph that a book gives is held
 pub book-held : (bs : List ℕ) → Held (book_of bs).graph
@@ -54,10 +53,10 @@ not-moved : (a : Line) (n : ℕ) → is_moved a ≡ 0 → a ≡ moved_line n →
 unfolding is_moved
 not-moved a n z e = omega (arith, sym z ∙ ap is_moved e)
 
-last-moved : (o : Outcome) (m n : ℕ) → last_line o m ≡ moved_line n → (o ≡ Done) × (m ≡ n)
+last-moved : (o : Outcome) (m n : ℕ) → last_line o m ≡ moved_line n → (o ≡ Ok tt) × (m ≡ n)
 unfolding last_line is_moved
-last-moved Done m n e = (refl, cc)
-last-moved (Refused r) m n e = absurd (not-moved (refused_line (number r)) n refl e)
+last-moved (Ok _) m n e = (refl, cc)
+last-moved (Err r) m n e = absurd (not-moved (refused_line (number r)) n refl e)
 
 -- The words of steps say just these
 said-steps : (ws : List ℕ) (ss : List Step) → ws ≡ words ss → said_steps ws ≡ ss
@@ -65,7 +64,7 @@ unfolding said_steps
 said-steps ws ss e = ap said_steps e ∙ ap (λ (o : Option (List Step)). elim o as (λ _. List Step) [ none ↦ [] | some x ↦ x ]) (said-words ss)
 
 -- The lines of a replay that follows, where they end in a `moved`
-lines_follow : (l : Log) (x : WalkResult) → (x.0.outcome ≡ Done → ReplayFollows l x) → (lines : List Line) (n : ℕ) →
+lines_follow : (l : Log) (x : WalkResult) → (x.0.outcome ≡ Ok tt → ReplayFollows l x) → (lines : List Line) (n : ℕ) →
     map step_line (said_steps (take (3 * x.0.count) x.2)) ++ last_line x.0.outcome x.0.moved ∷ [] ≡ lines ++ moved_line n ∷ [] →
     LinesFollow l lines n
 lines_follow l x follows lines n e =
@@ -87,21 +86,21 @@ book-prints : (bs : List ℕ) (lines : List Line) (n : ℕ) → printed bs ≡ l
 unfolding printed is_moved
 book-prints bs lines n = go (book_of bs).answer
   where
-    go : (a : BookAnswer) → elim a as (λ _. List Line) [
-      | Whole ↦ replay_lines (book_of bs).graph
-      | RefusedBook r ↦ refused_line (number r) ∷ []
-      | PushRefused r k ↦ push_refused_line (number r) k ∷ []
+    go : (a : (Result (Unit {0}) BookRefusal)) → elim a as (λ _. List Line) [
+      | Ok _ ↦ replay_lines (book_of bs).graph
+      | Err (Refused r) ↦ refused_line (number r) ∷ []
+      | Err (PushRefused r k) ↦ push_refused_line (number r) k ∷ []
     ] ≡ lines ++ moved_line n ∷ [] → LinesFollow (book_log bs) lines n
-    go Whole e = replay_prints (book_of bs).graph (book_log bs) (book-claimed bs) lines n e
-    go (RefusedBook r) e = absurd (not-moved (refused_line (number r)) n refl (ends [] lines (refused_line (number r)) (moved_line n) e).1)
-    go (PushRefused r k) e = absurd (not-moved (push_refused_line (number r) k) n refl (ends [] lines (push_refused_line (number r) k) (moved_line n) e).1)
+    go (Ok _) e = replay_prints (book_of bs).graph (book_log bs) (book-claimed bs) lines n e
+    go (Err (Refused r)) e = absurd (not-moved (refused_line (number r)) n refl (ends [] lines (refused_line (number r)) (moved_line n) e).1)
+    go (Err (PushRefused r k)) e = absurd (not-moved (push_refused_line (number r) k) n refl (ends [] lines (push_refused_line (number r) k) (moved_line n) e).1)
 
 -- The empty file
 empty_prints : printed [] ≡ moved_line 0 ∷ []
 unfolding everything
 empty_prints = refl
 
-empty-whole : (book_of []).answer ≡ Whole
+empty-whole : (book_of []).answer ≡ Ok tt
 unfolding everything
 empty-whole = refl
 

@@ -6,15 +6,8 @@ use Prim.Native.Nat.{ℕ}
 use Rattle.lists.specs.Lists.{all, filter, rising, below}
 use Rattle.lists.proofs.Truth.{false_true}
 use Rattle.model.specs.declared.record.CausalGraph.{CausalGraph}
-use Rattle.model.specs.declared.answers.Made.{Made}
-use Rattle.model.specs.declared.answers.Pushed.{Pushed}
-use Rattle.model.specs.declared.answers.Started.{Started}
-use Rattle.model.specs.declared.answers.Taken.{Taken}
-use Rattle.model.specs.declared.answers.RunAnswer.TheVariants.{Run, Refused as RefusedRun}
 use Rattle.model.specs.declared.answers.Refusal.TheVariants.{Broken}
-use Rattle.model.specs.declared.answers.Outcome.{Outcome}
-use Rattle.model.specs.declared.answers.Outcome.TheVariants.{Done, Refused}
-use Rattle.model.specs.Refusals.{first_of}
+use Rattle.model.specs.Refusals.{first_of, Outcome}
 use Rattle.model.specs.Graph.{Graph, containing}
 use Rattle.model.specs.Record.{view, store}
 use Rattle.model.specs.Broken.{broken, WellFormed, WithinLimits, Held}
@@ -25,13 +18,15 @@ use Rattle.model.specs.Start.{Starting, answers, splitting, starting, split_outc
 use Rattle.model.specs.Log.{Fresh, new, after, Call, push, start_run_at, take_changed_from, Log, begin, answer, empty_log, begin_log, log_push, log_start, note, after_calls}
 use Rattle.model.specs.Claim.{is_take, takeless}
 use Rattle.model.proofs.Stored.{view-store, held-store}
+use Rattle.std.specs.Prelude.{Ok, Err}
+use Rattle.model.specs.Answers.{Made, Pushed, Started, Taken}
 
 -- A fact of a plain graph and its log that calls keep, takes apart; it holds of well-formed graphs within the limits alone
 pub record Keeps (P : Graph → Log → Type 0) : Type 0 where
   pub formed : (g : Graph) (l : Log) → P g l → WellFormed g
   pub limits : (g : Graph) (l : Log) → P g l → WithinLimits g
-  pub pushes : (g : Graph) (l : Log) → P g l → (ps : List ℕ) (n : ℕ) → push_outcome g ps n ≡ Done → P (pushGraph g ps n) (log_push l ps n)
-  pub splits : (g : Graph) (l : Log) → P g l → (at : ℕ) → starting g at ≡ splitting → split_outcome g ≡ Done → P (split g (containing g at) at) (log_start l at)
+  pub pushes : (g : Graph) (l : Log) → P g l → (ps : List ℕ) (n : ℕ) → push_outcome g ps n ≡ Ok tt → P (pushGraph g ps n) (log_push l ps n)
+  pub splits : (g : Graph) (l : Log) → P g l → (at : ℕ) → starting g at ≡ splitting → split_outcome g ≡ Ok tt → P (split g (containing g at) at) (log_start l at)
   pub tells : (g : Graph) (l : Log) → P g l → (at : ℕ) → starting g at ≡ answers true → P g (log_start l at)
 
 -- The record is held, and the fact holds of its graph
@@ -45,7 +40,7 @@ started_by g at b s o = elim b as (λ _. Started) [
   | true ↦ start_refused g Broken
   | false ↦ elim s as (λ _. Started) [
     | answers t ↦ told g t
-    | splitting ↦ elim o as (λ _. Started) [ Done ↦ told (store (split (view g) (containing (view g) at) at)) true | Refused r ↦ start_refused g r ]
+    | splitting ↦ elim o as (λ _. Started) [ Ok _ ↦ told (store (split (view g) (containing (view g) at) at)) true | Err r ↦ start_refused g r ]
   ]
 ]
 
@@ -65,13 +60,13 @@ module _ (P : Graph → Log → Type 0) (K : Keeps P) where
         out : Bool → Outcome → Pushed
         out b o = elim b as (λ _. Pushed) [
           | true ↦ push_refused g Broken
-          | false ↦ elim o as (λ _. Pushed) [ Done ↦ pushed (view g) ps n | Refused r ↦ push_refused g r ]
+          | false ↦ elim o as (λ _. Pushed) [ Ok _ ↦ pushed (view g) ps n | Err r ↦ push_refused g r ]
         ]
 
         go : (b : Bool) (o : Outcome) → push_outcome (view g) ps n ≡ o → Kept P (out b o).graph (note l (push ps n) (out b o).answer)
         go true o e = G
-        go false (Refused r) e = G
-        go false Done e = stored (pushGraph (view g) ps n) (log_push l ps n) (K.pushes (view g) l G.fact ps n e)
+        go false (Err r) e = G
+        go false (Ok _) e = stored (pushGraph (view g) ps n) (log_push l ps n) (K.pushes (view g) l G.fact ps n e)
 
     start_keeps : (at : ℕ) → Kept P (start_run_at_of g at).graph (note l (start_run_at at) (start_run_at_of g at).answer)
     unfolding start_run_at_of start_held_of told start_refused note
@@ -82,16 +77,16 @@ module _ (P : Graph → Log → Type 0) (K : Keeps P) where
         go true s e o q = G
         go false (answers true) e o q = record { held = G.held; fact = K.tells (view g) l G.fact at e }
         go false (answers false) e o q = G
-        go false splitting e (Refused r) q = G
-        go false splitting e Done q = stored (split (view g) (containing (view g) at) at) (log_start l at) (K.splits (view g) l G.fact at e q)
+        go false splitting e (Err r) q = G
+        go false splitting e (Ok _) q = stored (split (view g) (containing (view g) at) at) (log_start l at) (K.splits (view g) l G.fact at e q)
 
     take_keeps : P (taken (view g)) l → Kept P (take_changed_from_of g).graph l
     unfolding take_changed_from_of take_held_of
     take_keeps p = go (broken g)
       where
         go : (b : Bool) → Kept P (elim b as (λ _. Taken) [
-          | true ↦ record { graph = g; answer = RefusedRun Broken }
-          | false ↦ record { graph = store (taken (view g)); answer = Run g.changed_from }
+          | true ↦ record { graph = g; answer = Err Broken }
+          | false ↦ record { graph = store (taken (view g)); answer = Ok g.changed_from }
         ]).graph l
         go true = G
         go false = stored (taken (view g)) l p
@@ -124,16 +119,16 @@ module _ (P : Graph → Log → Type 0) (K : Keeps P) where
       go true e q ih = absurd (cons≢nil q)
       go false e q ih = ih q (call_keeps g l G c (λ t. false_true (sym e ∙ t)))
 
-  fresh_keeps : ((events : ℕ) (frontier : List ℕ) → after_outcome events frontier ≡ Done → P (fresh events frontier) (empty_log events)) →
-      (events : ℕ) (frontier : List ℕ) → after_outcome events frontier ≡ Done → Kept P (store (fresh events frontier)) (empty_log events)
+  fresh_keeps : ((events : ℕ) (frontier : List ℕ) → after_outcome events frontier ≡ Ok tt → P (fresh events frontier) (empty_log events)) →
+      (events : ℕ) (frontier : List ℕ) → after_outcome events frontier ≡ Ok tt → Kept P (store (fresh events frontier)) (empty_log events)
   fresh_keeps F events frontier e = stored (fresh events frontier) (empty_log events) (F events frontier e)
 
-  nothing_refused : after_outcome 0 [] ≡ Done
+  nothing_refused : after_outcome 0 [] ≡ Ok tt
   unfolding after_outcome first_of rising below all
   nothing_refused = refl
 
   -- A fresh start, if the fact holds of every fresh graph
-  pub begin_keeps : ((events : ℕ) (frontier : List ℕ) → after_outcome events frontier ≡ Done → P (fresh events frontier) (empty_log events)) →
+  pub begin_keeps : ((events : ℕ) (frontier : List ℕ) → after_outcome events frontier ≡ Ok tt → P (fresh events frontier) (empty_log events)) →
       (f : Fresh) → Kept P (begin f).1 (begin_log f (begin f).0)
   unfolding begin begin_log new_of after_of
   begin_keeps F new = fresh_keeps F 0 [] nothing_refused
@@ -141,13 +136,13 @@ module _ (P : Graph → Log → Type 0) (K : Keeps P) where
     where
       made : Outcome → Made
       made o = elim o as (λ _. Made) [
-        | Done ↦ record { graph = store (fresh events frontier); outcome = Done }
-        | Refused r ↦ record { graph = store (fresh 0 []); outcome = Refused r }
+        | Ok _ ↦ record { graph = store (fresh events frontier); answer = Ok tt }
+        | Err r ↦ record { graph = store (fresh 0 []); answer = Err r }
       ]
 
-      go : (o : Outcome) → after_outcome events frontier ≡ o → Kept P (made o).graph (begin_log (after events frontier) (made o).outcome)
-      go Done e = fresh_keeps F events frontier e
-      go (Refused r) e = fresh_keeps F 0 [] nothing_refused
+      go : (o : Outcome) → after_outcome events frontier ≡ o → Kept P (made o).graph (begin_log (after events frontier) (made o).answer)
+      go (Ok _) e = fresh_keeps F events frontier e
+      go (Err r) e = fresh_keeps F 0 [] nothing_refused
 
 -- Calls one list after another
 pub calls_append : (cs ds : List Call) (g : CausalGraph) (l : Log) →

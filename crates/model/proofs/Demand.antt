@@ -7,7 +7,6 @@ use native.Mathlib.Omega.{arith}
 use lib.ListN.{length}
 use borrow.Author.Tests.{le-ltb}
 use Rattle.model.specs.declared.record.CausalGraph.{CausalGraph}
-use Rattle.model.specs.declared.answers.Outcome.TheVariants.{Done}
 use Rattle.model.specs.Refusals.{first_of}
 use Rattle.model.specs.Graph.{runs}
 use Rattle.model.specs.Record.{view}
@@ -27,13 +26,14 @@ use Rattle.model.proofs.RoomsReplay.{replay_done}
 use Rattle.model.proofs.Results.{walk_done-is, replay_is, walks_follow, replays_follow}
 use Rattle.model.proofs.Calls.{Kept}
 use Rattle.model.proofs.Good.{Good, made_good, before_take, since_take}
+use Rattle.std.specs.Prelude.{Ok}
 
 module _ (g : CausalGraph) (l : Log) (G : Kept Good g l) where
   unbroken : broken g ≡ false
   unbroken = not-broken g G.held
 
   -- With the stated room a full replay is done
-  replay_has_room : (rows steps : List ℕ) → RowRoom ≤ length rows → StepRoom ≤ length steps → (replay_of g rows steps).0.outcome ≡ Done
+  replay_has_room : (rows steps : List ℕ) → RowRoom ≤ length rows → StepRoom ≤ length steps → (replay_of g rows steps).0.outcome ≡ Ok tt
   unfolding wrote
   replay_has_room rows steps p q =
       ap (λ (r : WalkResult). r.0.outcome) (replay_is g rows steps unbroken) ∙ replay_done (view g) G.held.limits.runs rows steps p q
@@ -43,7 +43,7 @@ module _ (g : CausalGraph) (l : Log) (G : Kept Good g l) where
   unfolding runs run_count
   runs_are = G.fact.inv.tied.rows
 
-  range_inside : (a b known : ℕ) → a + known ≤ b → b ≤ run_count l → range_outcome g a b known ≡ Done
+  range_inside : (a b known : ℕ) → a + known ≤ b → b ≤ run_count l → range_outcome g a b known ≡ Ok tt
   unfolding range_outcome first_of
   range_inside a b known p q = rw (
     unbroken,
@@ -54,7 +54,7 @@ module _ (g : CausalGraph) (l : Log) (G : Kept Good g l) where
 
   -- and so is a walk of a known prefix of a range inside the graph
   walk_has_room : (a b known first : ℕ) (rows steps : List ℕ) → a + known ≤ b → b ≤ run_count l → RowRoom ≤ length rows → StepRoom ≤ length steps →
-      (walk_of g a b known first rows steps).0.outcome ≡ Done
+      (walk_of g a b known first rows steps).0.outcome ≡ Ok tt
   walk_has_room a b known first rows steps p q x y =
       ap (λ (r : WalkResult). r.0.outcome) (walk_done-is g a b known first rows steps (range_inside a b known p q)) ∙
       walk_done (view g) G.held.limits.runs a b known first rows steps x y

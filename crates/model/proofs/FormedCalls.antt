@@ -7,7 +7,6 @@ use native.Mathlib.Omega.{arith}
 use lib.Dec.{eqb}
 use borrow.Author.Tests.{ltb-false, eqb-true, eqb-false, eq-eqb, ne_eqb, not-true}
 use Rattle.lists.proofs.Truth.{lt_or_le, lt_of_ne, false_true}
-use Rattle.model.specs.declared.answers.Outcome.TheVariants.{Done}
 use Rattle.model.specs.Graph.{Graph, runs, start, first_held, len, entries, containing, marked, Side, in_run, before, unknown, side, is_held}
 use Rattle.model.specs.Broken.{WellFormed, WithinLimits}
 use Rattle.model.specs.Split.{split}
@@ -16,6 +15,7 @@ use Rattle.model.proofs.Tests.{passed}
 use Rattle.model.proofs.FormedReads.{first-start, containing_in, marked-first}
 use Rattle.model.proofs.Siding.{side-run, held-between}
 use Rattle.model.proofs.FormedSplits.{split_runs, split-entries, split-formed}
+use Rattle.std.specs.Prelude.{Ok}
 
 -- What a run start comes to, by where its event lies
 module _ (g : Graph) (at : ℕ) where
@@ -135,7 +135,7 @@ start-formed g formed at e =
     split-formed g formed (containing g at) at c.0 c.1 c.2
 
 -- and within the limits
-pub start-limits : (g : Graph) → WellFormed g → WithinLimits g → (at : ℕ) → starting g at ≡ splitting → split_outcome g ≡ Done →
+pub start-limits : (g : Graph) → WellFormed g → WithinLimits g → (at : ℕ) → starting g at ≡ splitting → split_outcome g ≡ Ok tt →
     WithinLimits (split g (containing g at) at)
 unfolding split_outcome
 start-limits g formed l at e d =

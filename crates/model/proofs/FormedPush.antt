@@ -12,7 +12,6 @@ use Rattle.lists.proofs.Truth.{and_left, and_right, or_left}
 use Rattle.lists.proofs.Members.{same_eq}
 use Rattle.lists.proofs.Counts.{length_snoc, filter_shorter}
 use Rattle.lists.proofs.Rising.{rising-filter}
-use Rattle.model.specs.declared.answers.Outcome.TheVariants.{Done}
 use Rattle.model.specs.Graph.{Graph, runs, first_held, len, entries, is_held, side, held, all_known, extends}
 use Rattle.model.specs.Broken.{WellFormed, WithinLimits}
 use Rattle.model.specs.Split.{ends, split_after, splits}
@@ -22,6 +21,7 @@ use Rattle.model.proofs.Siding.{held-mem, held_agree, known-below}
 use Rattle.model.proofs.FormedReads.{first-len, frontier-last}
 use Rattle.model.proofs.FormedSplitAll.{Inside, SplitAll, splits-frontier, split-all-formed}
 use Rattle.model.proofs.FormedJoins.{joined-runs, joined-entries, grown-len, grown-first, grown-formed, joined-len, joined-first, joined-formed, lowered-formed, lowered-len, lowered-first}
+use Rattle.std.specs.Prelude.{Ok}
 
 -- What an accepted push has: events, parents that rise and are known, and room for a new run where it makes one
 pub record Accepted (g : Graph) (ps : List ℕ) (n : ℕ) : Type 0 where
@@ -38,7 +38,7 @@ passes : (t : Bool) (a b : ℕ) → not t && ltb a b ≡ false → t ≡ false �
 passes t a b e f = ltb-false a b (rw f at e)
 
 -- An accepted push has each
-pub accepted : (g : Graph) → first_held g ≤ len g → (ps : List ℕ) (n : ℕ) → push_outcome g ps n ≡ Done → Accepted g ps n
+pub accepted : (g : Graph) → first_held g ≤ len g → (ps : List ℕ) (n : ℕ) → push_outcome g ps n ≡ Ok tt → Accepted g ps n
 unfolding push_outcome
 accepted g le ps n e =
     let t₁ = passed _ _ e in
@@ -154,7 +154,7 @@ unfolding lowered runs entries
 lowered-limits g h l = record { runs = l.runs; entries = l.entries; frontier = l.frontier }
 
 -- A push keeps the graph well-formed
-pub push-formed : (g : Graph) → WellFormed g → (ps : List ℕ) (n : ℕ) → push_outcome g ps n ≡ Done → WellFormed (push g ps n)
+pub push-formed : (g : Graph) → WellFormed g → (ps : List ℕ) (n : ℕ) → push_outcome g ps n ≡ Ok tt → WellFormed (push g ps n)
 push-formed g formed ps n e = go (extends g ps) refl (accepted g (first-len g formed) ps n e)
   where
     go : (t : Bool) → extends g ps ≡ t → Accepted g ps n → WellFormed (push g ps n)
@@ -164,7 +164,7 @@ push-formed g formed ps n e = go (extends g ps) refl (accepted g (first-len g fo
         rw (push_joins g ps n q) (lowered-formed s (joined s ps n) (run-formed g formed ps n ok))
 
 -- and within the limits
-pub push-limits : (g : Graph) → WellFormed g → WithinLimits g → (ps : List ℕ) (n : ℕ) → push_outcome g ps n ≡ Done → WithinLimits (push g ps n)
+pub push-limits : (g : Graph) → WellFormed g → WithinLimits g → (ps : List ℕ) (n : ℕ) → push_outcome g ps n ≡ Ok tt → WithinLimits (push g ps n)
 push-limits g formed l ps n e = go (extends g ps) refl (accepted g (first-len g formed) ps n e)
   where
     go : (t : Bool) → extends g ps ≡ t → Accepted g ps n → WithinLimits (push g ps n)
@@ -174,7 +174,7 @@ push-limits g formed l ps n e = go (extends g ps) refl (accepted g (first-len g 
         rw (push_joins g ps n q) (lowered-limits s (joined s ps n) (run-limits g formed ps n ok q))
 
 -- It adds its events, and the first held event stays
-pub pushed-len : (g : Graph) → WellFormed g → (ps : List ℕ) (n : ℕ) → push_outcome g ps n ≡ Done → len (push g ps n) ≡ len g + n
+pub pushed-len : (g : Graph) → WellFormed g → (ps : List ℕ) (n : ℕ) → push_outcome g ps n ≡ Ok tt → len (push g ps n) ≡ len g + n
 pushed-len g formed ps n e = go (extends g ps) refl (accepted g (first-len g formed) ps n e)
   where
     go : (t : Bool) → extends g ps ≡ t → Accepted g ps n → len (push g ps n) ≡ len g + n
@@ -184,7 +184,7 @@ pushed-len g formed ps n e = go (extends g ps) refl (accepted g (first-len g for
         let a = pushed-splits g formed ps n ok in
         rw (push_joins g ps n q) (lowered-len s (joined s ps n) ∙ joined-len s a.formed ps n ok.some ∙ ap (λ (k : ℕ). k + n) a.same_len)
 
-pub pushed-first : (g : Graph) → WellFormed g → (ps : List ℕ) (n : ℕ) → push_outcome g ps n ≡ Done → first_held (push g ps n) ≡ first_held g
+pub pushed-first : (g : Graph) → WellFormed g → (ps : List ℕ) (n : ℕ) → push_outcome g ps n ≡ Ok tt → first_held (push g ps n) ≡ first_held g
 pushed-first g formed ps n e = go (extends g ps) refl (accepted g (first-len g formed) ps n e)
   where
     go : (t : Bool) → extends g ps ≡ t → Accepted g ps n → first_held (push g ps n) ≡ first_held g

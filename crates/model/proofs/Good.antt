@@ -6,7 +6,6 @@ use mathlib.Core.List.{List, [], ◌∷◌, ◌++◌, append_assoc}
 use Prim.Native.Nat.{ℕ}
 use Rattle.lists.proofs.Bounds.{below_at}
 use Rattle.model.specs.declared.record.CausalGraph.{CausalGraph}
-use Rattle.model.specs.declared.answers.Outcome.TheVariants.{Done}
 use Rattle.model.specs.Graph.{Graph, runs, start, first_held, len, containing, side, held}
 use Rattle.model.specs.Record.{view}
 use Rattle.model.specs.Broken.{WellFormed, WithinLimits}
@@ -28,6 +27,7 @@ use Rattle.model.proofs.Persisting.{Persists, push_persists, start_persists}
 use Rattle.model.proofs.Takes.{Since, zero_persists, since_persists}
 use Rattle.model.proofs.Fronts.{Childless, fresh-childless, edge-childless, split-childless, push-childless}
 use Rattle.model.proofs.Calls.{Keeps, Kept, calls_keep, takeless_keep, begin_keeps, calls_append}
+use Rattle.std.specs.Prelude.{Ok}
 
 -- What every list of calls keeps
 pub record Good (g : Graph) (l : Log) : Type 0 where
@@ -36,7 +36,7 @@ pub record Good (g : Graph) (l : Log) : Type 0 where
   pub inv : Inv g l
   pub front : Childless g l
 
-good_fresh : (events : ℕ) (frontier : List ℕ) → after_outcome events frontier ≡ Done → Good (fresh events frontier) (empty_log events)
+good_fresh : (events : ℕ) (frontier : List ℕ) → after_outcome events frontier ≡ Ok tt → Good (fresh events frontier) (empty_log events)
 good_fresh events frontier e =
     let p = after-passed events frontier e in
     record {
@@ -46,7 +46,7 @@ good_fresh events frontier e =
       front = fresh-childless events frontier;
     }
 
-good_push : (g : Graph) (l : Log) → Good g l → (ps : List ℕ) (n : ℕ) → push_outcome g ps n ≡ Done → Good (push g ps n) (log_push l ps n)
+good_push : (g : Graph) (l : Log) → Good g l → (ps : List ℕ) (n : ℕ) → push_outcome g ps n ≡ Ok tt → Good (push g ps n) (log_push l ps n)
 good_push g l G ps n e =
     let a = accepted g (first-len g G.formed) ps n e in
     record {
@@ -58,7 +58,7 @@ good_push g l G ps n e =
           a.some a.known G.inv.front.below G.inv.lower G.front;
     }
 
-good_split : (g : Graph) (l : Log) → Good g l → (at : ℕ) → starting g at ≡ splitting → split_outcome g ≡ Done → Good (split g (containing g at) at) (log_start l at)
+good_split : (g : Graph) (l : Log) → Good g l → (at : ℕ) → starting g at ≡ splitting → split_outcome g ≡ Ok tt → Good (split g (containing g at) at) (log_start l at)
 good_split g l G at e q = record {
   formed = start-formed g G.formed at e;
   limits = start-limits g G.formed G.limits at e q;

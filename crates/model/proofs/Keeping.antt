@@ -16,7 +16,6 @@ use Rattle.lists.proofs.Counts.{count_le}
 use Rattle.lists.proofs.Rising.{up_count}
 use Rattle.lists.proofs.Bounds.{below_at}
 use Rattle.model.specs.EventGraph.{Lower}
-use Rattle.model.specs.declared.answers.Outcome.TheVariants.{Done}
 use Rattle.model.specs.Graph.{Graph, start, runs, len, first_held, containing, held, extends}
 use Rattle.model.specs.Broken.{WellFormed}
 use Rattle.model.specs.History.{at}
@@ -35,6 +34,7 @@ use Rattle.model.proofs.Ending.{split_inv, with_edges, splits_keep}
 use Rattle.model.proofs.Adding.{added}
 use Rattle.model.proofs.Growing.{grown_inv}
 use Rattle.model.proofs.Pushing.{joined_inv}
+use Rattle.std.specs.Prelude.{Ok}
 
 -- Graph and log have the same next event
 pub len_is : (g : Graph) (l : Log) → Inv g l → len g ≡ l.next
@@ -150,7 +150,7 @@ module _ (g : Graph) (l : Log) (v : Inv g l) where
           eq-eqb (start g (containing g a)) a (omega (arith, start_is g l t (containing g a) (omega arith), mono g l t i.0 (containing g a) (omega (arith, u)), i.2))
 
 -- So does an accepted push
-pub push_inv : (g : Graph) (l : Log) → Inv g l → (ps : List ℕ) (n : ℕ) → push_outcome g ps n ≡ Done → Inv (push g ps n) (log_push l ps n)
+pub push_inv : (g : Graph) (l : Log) → Inv g l → (ps : List ℕ) (n : ℕ) → push_outcome g ps n ≡ Ok tt → Inv (push g ps n) (log_push l ps n)
 unfolding push log_push
 push_inv g l v ps n e =
     let a = accepted g (omega (arith, first-is g l v, len_is g l v, first_next l v.tied.edged)) ps n e in

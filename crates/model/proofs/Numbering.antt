@@ -1,6 +1,6 @@
 -- 01's numbers tell all refusals and answers apart: from its numbers each can be made again. Assumes nothing.
 use mathlib.Core.Path.{◌≡◌, refl, sym, ap, ◌∙◌}
-use mathlib.Core.Bool.{true, false}
+use mathlib.Core.Bool.{Bool, true, false}
 use mathlib.Core.List.{List, [], ◌∷◌}
 use mathlib.Core.Option.{none, some}
 use Prim.Native.Nat.{ℕ, zero, suc, ◌+◌, ◌-◌, ◌≤◌, ◌<◌}
@@ -9,30 +9,21 @@ use lib.ListN.{length, get_or, drop}
 use lib.Dec.{eqb}
 use Rattle.model.specs.declared.answers.Refusal.{Refusal}
 use Rattle.model.specs.declared.answers.Refusal.TheVariants.{Broken, NoEvents, NotRising, UnknownEvent, TooManyEvents, TooManyRuns, TooManyEntries, FrontierTooLong, Outside, Unmarked, ListTooShort, KnownTooLong, RowsTooLong, BookTooShort, BookTooLong, UnknownKind, NoSuchParents}
-use Rattle.model.specs.declared.answers.Outcome.{Outcome}
-use Rattle.model.specs.declared.answers.Outcome.TheVariants.{Done, Refused}
-use Rattle.model.specs.declared.answers.EventAnswer.{EventAnswer}
-use Rattle.model.specs.declared.answers.EventAnswer.TheVariants.{Event, Refused as RefusedEvent}
-use Rattle.model.specs.declared.answers.EventsAnswer.{EventsAnswer}
-use Rattle.model.specs.declared.answers.EventsAnswer.TheVariants.{Events, Refused as RefusedEvents}
-use Rattle.model.specs.declared.answers.RunAnswer.{RunAnswer}
-use Rattle.model.specs.declared.answers.RunAnswer.TheVariants.{Run, Refused as RefusedRun}
-use Rattle.model.specs.declared.answers.ContainingAnswer.{ContainingAnswer}
-use Rattle.model.specs.declared.answers.ContainingAnswer.TheVariants.{Run as InRun, Before, Unknown, Refused as RefusedContaining}
-use Rattle.model.specs.declared.answers.BoolAnswer.{BoolAnswer}
-use Rattle.model.specs.declared.answers.BoolAnswer.TheVariants.{Told, Refused as RefusedBool}
-use Rattle.model.specs.declared.answers.BookAnswer.{BookAnswer}
-use Rattle.model.specs.declared.answers.BookAnswer.TheVariants.{Whole, Refused as RefusedBook, PushRefused}
 use Rattle.model.specs.declared.steps.WalkStep.{WalkStep}
 use Rattle.model.specs.declared.steps.WalkStep.TheVariants.{Retreat, Advance, Apply, Open}
-use Rattle.model.specs.declared.steps.NextStep.{NextStep}
-use Rattle.model.specs.declared.steps.NextStep.TheVariants.{Step as Given, End, Refused as RefusedStep}
-use Rattle.model.specs.Refusals.{number, table, case_at, refusal}
-use Rattle.model.specs.Answers.{event_or, events_or, run_or, containing_or, bool_or, outcome_number, event_numbers, events_numbers, run_numbers, containing_numbers, bool_numbers, book_numbers, step_numbers, next_numbers}
+use Rattle.model.specs.Refusals.{number, table, case_at, refusal, OrRefusal, Outcome}
+use Rattle.model.specs.Answers.{NextStep, answer_or, event_or, events_or, run_or, containing_at, outcome_number, event_numbers, events_numbers, run_numbers, containing_numbers, bool_numbers, book_numbers, step_numbers, next_numbers}
 use Rattle.model.specs.Graph.{Side, in_run, before, unknown}
 use Rattle.model.specs.Steps.{Step, retreat, advance, opened, apply, step_words}
 use Rattle.model.specs.Reader.{decoded, as_step}
 use Rattle.model.specs.Numbered.{ToldApart, Numbered}
+use Rattle.std.specs.Prelude.{Ok, Err, Result, Some, None}
+use Rattle.model.specs.declared.record.EventIndex.{EventIndex}
+use Rattle.model.specs.declared.record.EventRunIndex.{EventRunIndex}
+use Rattle.model.specs.declared.answers.Containing.{Containing}
+use Rattle.model.specs.declared.answers.Containing.TheVariants.{Run, Before, Unknown}
+use Rattle.model.specs.declared.answers.BookRefusal.{BookRefusal}
+use Rattle.model.specs.declared.answers.BookRefusal.TheVariants.{Refused, PushRefused}
 
 refusal-number : (r : Refusal) → refusal (number r) ≡ r
 unfolding number
@@ -87,49 +78,49 @@ number-some r = go (number r) refl
 
 -- An outcome made again from its number
 outcome_of : ℕ → Outcome
-outcome_of zero = Done
-outcome_of (suc n) = Refused (refusal (suc n))
+outcome_of zero = Ok tt
+outcome_of (suc n) = Err (refusal (suc n))
 
-refused_again : (r : Refusal) → outcome_of (number r) ≡ Refused r
+refused_again : (r : Refusal) → outcome_of (number r) ≡ Err r
 unfolding outcome_of
-refused_again r = go (number r) (number-some r) ∙ ap Refused (refusal-number r)
+refused_again r = go (number r) (number-some r) ∙ ap Err (refusal-number r)
   where
-    go : (n : ℕ) → 1 ≤ n → outcome_of n ≡ Refused (refusal n)
+    go : (n : ℕ) → 1 ≤ n → outcome_of n ≡ Err (refusal n)
     go zero h = absurd (omega arith)
     go (suc n) h = refl
 
 outcome_again : (o : Outcome) → outcome_of (outcome_number o) ≡ o
 unfolding outcome_of outcome_number
-outcome_again Done = refl
-outcome_again (Refused r) = refused_again r
+outcome_again (Ok tt) = refl
+outcome_again (Err r) = refused_again r
 
 -- What can be made again from its numbers is told apart by them
 apart : {A : Type 0} (numbers : A → List ℕ) (again : List ℕ → A) → ((a : A) → again (numbers a) ≡ a) → ToldApart numbers
 apart numbers again h a b e = sym (h a) ∙ (ap again e ∙ h b)
 
-event_again : List ℕ → EventAnswer
+event_again : List ℕ → OrRefusal EventIndex
 event_again ns = event_or (outcome_of (get_or ns 0 0)) (get_or ns 1 0)
 
-event-again : (a : EventAnswer) → event_again (event_numbers a) ≡ a
+event-again : (a : (OrRefusal EventIndex)) → event_again (event_numbers a) ≡ a
 unfolding event_again event_numbers outcome_of
-event-again (Event e) = refl
-event-again (RefusedEvent r) = ap (λ (o : Outcome). event_or o 0) (refused_again r)
+event-again (Ok e) = refl
+event-again (Err r) = ap (λ (o : Outcome). event_or o 0) (refused_again r)
 
-events_again : List ℕ → EventsAnswer
+events_again : List ℕ → OrRefusal (EventIndex × EventIndex)
 events_again ns = events_or (outcome_of (get_or ns 0 0)) (get_or ns 1 0) (get_or ns 2 0)
 
-events-again : (a : EventsAnswer) → events_again (events_numbers a) ≡ a
+events-again : (a : (OrRefusal (EventIndex × EventIndex))) → events_again (events_numbers a) ≡ a
 unfolding events_again events_numbers outcome_of
-events-again (Events a b) = refl
-events-again (RefusedEvents r) = ap (λ (o : Outcome). events_or o 0 0) (refused_again r)
+events-again (Ok (a, b)) = refl
+events-again (Err r) = ap (λ (o : Outcome). events_or o 0 0) (refused_again r)
 
-run_again : List ℕ → RunAnswer
+run_again : List ℕ → OrRefusal EventRunIndex
 run_again ns = run_or (outcome_of (get_or ns 0 0)) (get_or ns 1 0)
 
-run-again : (a : RunAnswer) → run_again (run_numbers a) ≡ a
+run-again : (a : (OrRefusal EventRunIndex)) → run_again (run_numbers a) ≡ a
 unfolding run_again run_numbers outcome_of
-run-again (Run n) = refl
-run-again (RefusedRun r) = ap (λ (o : Outcome). run_or o 0) (refused_again r)
+run-again (Ok n) = refl
+run-again (Err r) = ap (λ (o : Outcome). run_or o 0) (refused_again r)
 
 -- The side of a number, with the run
 side_again : ℕ → ℕ → Side
@@ -137,36 +128,36 @@ side_again zero r = in_run r
 side_again (suc zero) r = before
 side_again (suc (suc n)) r = unknown
 
-containing_again : List ℕ → ContainingAnswer
-containing_again ns = containing_or (outcome_of (get_or ns 0 0)) (side_again (get_or ns 1 0) (get_or ns 2 0))
+containing_again : List ℕ → OrRefusal Containing
+containing_again ns = answer_or (outcome_of (get_or ns 0 0)) (containing_at (side_again (get_or ns 1 0) (get_or ns 2 0)))
 
-containing-again : (a : ContainingAnswer) → containing_again (containing_numbers a) ≡ a
+containing-again : (a : (OrRefusal Containing)) → containing_again (containing_numbers a) ≡ a
 unfolding containing_again side_again containing_numbers outcome_of
-containing-again (InRun n) = refl
-containing-again Before = refl
-containing-again Unknown = refl
-containing-again (RefusedContaining r) = ap (λ (o : Outcome). containing_or o (in_run 0)) (refused_again r)
+containing-again (Ok (Run n)) = refl
+containing-again (Ok Before) = refl
+containing-again (Ok Unknown) = refl
+containing-again (Err r) = ap (λ (o : Outcome). answer_or o (containing_at (in_run 0))) (refused_again r)
 
-bool_again : List ℕ → BoolAnswer
-bool_again ns = bool_or (outcome_of (get_or ns 0 0)) (eqb (get_or ns 1 0) 1)
+bool_again : List ℕ → OrRefusal Bool
+bool_again ns = answer_or (outcome_of (get_or ns 0 0)) (eqb (get_or ns 1 0) 1)
 
-bool-again : (a : BoolAnswer) → bool_again (bool_numbers a) ≡ a
+bool-again : (a : (OrRefusal Bool)) → bool_again (bool_numbers a) ≡ a
 unfolding bool_again bool_numbers outcome_of
-bool-again (Told true) = refl
-bool-again (Told false) = refl
-bool-again (RefusedBool r) = ap (λ (o : Outcome). bool_or o false) (refused_again r)
+bool-again (Ok true) = refl
+bool-again (Ok false) = refl
+bool-again (Err r) = ap (λ (o : Outcome). answer_or o false) (refused_again r)
 
-book_again : List ℕ → BookAnswer
+book_again : List ℕ → Result (Unit {0}) BookRefusal
 book_again ns = elim (outcome_of (get_or ns 0 0)) [
-  | Done ↦ Whole
-  | Refused r ↦ elim (eqb (get_or ns 1 0) 1) [ true ↦ PushRefused r (get_or ns 2 0) | false ↦ RefusedBook r ]
+  | Ok _ ↦ Ok tt
+  | Err r ↦ elim (eqb (get_or ns 1 0) 1) [ true ↦ Err (PushRefused r (get_or ns 2 0)) | false ↦ Err (Refused r) ]
 ]
 
-book-again : (a : BookAnswer) → book_again (book_numbers a) ≡ a
+book-again : (a : (Result (Unit {0}) BookRefusal)) → book_again (book_numbers a) ≡ a
 unfolding book_again book_numbers outcome_of
-book-again Whole = refl
-book-again (RefusedBook r) = ap (λ (o : Outcome). elim o as (λ _. BookAnswer) [ Done ↦ Whole | Refused x ↦ RefusedBook x ]) (refused_again r)
-book-again (PushRefused r k) = ap (λ (o : Outcome). elim o as (λ _. BookAnswer) [ Done ↦ Whole | Refused x ↦ PushRefused x k ]) (refused_again r)
+book-again (Ok _) = refl
+book-again (Err (Refused r)) = ap (λ (o : Outcome). elim o as (λ _. (Result (Unit {0}) BookRefusal)) [ Ok _ ↦ Ok tt | Err x ↦ Err (Refused x) ]) (refused_again r)
+book-again (Err (PushRefused r k)) = ap (λ (o : Outcome). elim o as (λ _. (Result (Unit {0}) BookRefusal)) [ Ok _ ↦ Ok tt | Err x ↦ Err (PushRefused x k) ]) (refused_again r)
 
 step_again : List ℕ → WalkStep
 step_again ns = elim (decoded (get_or ns 0 0) (get_or ns 1 0) (get_or ns 2 0)) [ none ↦ as_step (apply 0) | some s ↦ as_step s ]
@@ -180,24 +171,24 @@ step-again (Open a b) = refl
 
 -- The step of numbers that follow a 0; with none there it is the end
 given_again : List ℕ → NextStep
-given_again [] = End
-given_again (n ∷ ns) = Given (step_again (n ∷ ns))
+given_again [] = Ok None
+given_again (n ∷ ns) = Ok (Some (step_again (n ∷ ns)))
 
-given-again : (s : WalkStep) → given_again (step_numbers s) ≡ Given s
+given-again : (s : WalkStep) → given_again (step_numbers s) ≡ Ok (Some s)
 unfolding given_again step_numbers
-given-again (Retreat a b) = ap Given (step-again (Retreat a b))
-given-again (Advance a b) = ap Given (step-again (Advance a b))
-given-again (Apply r) = ap Given (step-again (Apply r))
-given-again (Open a b) = ap Given (step-again (Open a b))
+given-again (Retreat a b) = ap (λ (s : WalkStep). Ok (Some s)) (step-again (Retreat a b))
+given-again (Advance a b) = ap (λ (s : WalkStep). Ok (Some s)) (step-again (Advance a b))
+given-again (Apply r) = ap (λ (s : WalkStep). Ok (Some s)) (step-again (Apply r))
+given-again (Open a b) = ap (λ (s : WalkStep). Ok (Some s)) (step-again (Open a b))
 
 next_again : List ℕ → NextStep
-next_again ns = elim (outcome_of (get_or ns 0 0)) [ Done ↦ given_again (drop 1 ns) | Refused r ↦ RefusedStep r ]
+next_again ns = elim (outcome_of (get_or ns 0 0)) [ Ok _ ↦ given_again (drop 1 ns) | Err r ↦ Err r ]
 
 next-again : (a : NextStep) → next_again (next_numbers a) ≡ a
 unfolding next_again next_numbers outcome_of given_again
-next-again (Given s) = given-again s
-next-again End = refl
-next-again (RefusedStep r) = ap (λ (o : Outcome). elim o as (λ _. NextStep) [ Done ↦ End | Refused x ↦ RefusedStep x ]) (refused_again r)
+next-again (Ok (Some s)) = given-again s
+next-again (Ok None) = refl
+next-again (Err r) = ap (λ (o : Outcome). elim o as (λ _. NextStep) [ Ok _ ↦ Ok None | Err x ↦ Err x ]) (refused_again r)
 
 step_words_lem : (s : Step) → step_numbers (as_step s) ≡ step_words s
 unfolding step_numbers as_step step_words

@@ -3,7 +3,6 @@ use mathlib.Core.Path.{◌≡◌, refl, sym, subst}
 use mathlib.Core.Bool.{Bool, true, false}
 use mathlib.Core.List.{List, [], ◌∷◌}
 use Prim.Native.Nat.{ℕ, suc, ◌<◌}
-use Rattle.model.specs.declared.answers.Outcome.TheVariants.{Done}
 use Rattle.model.specs.Graph.{Graph, runs, start, containing, held, extends}
 use Rattle.model.specs.Broken.{WellFormed}
 use Rattle.model.specs.Split.{split, ends, split_after}
@@ -13,6 +12,7 @@ use Rattle.model.proofs.FormedReads.{first-len}
 use Rattle.model.proofs.FormedSplitAll.{Inside, rest-inside, first-inside, first-formed, rest-after}
 use Rattle.model.proofs.FormedPush.{Accepted, accepted, push_grows, push_joins, held-inside, pushed-splits}
 use Rattle.model.proofs.FormedCalls.{start-inside}
+use Rattle.std.specs.Prelude.{Ok}
 
 -- A fact of well-formed graphs that a split inside a run keeps, growth of the last run, and a new run
 pub record Persists (P : Graph → Type 0) : Type 0 where
@@ -38,7 +38,7 @@ module _ (P : Graph → Type 0) (K : Persists P) where
       go false e x y = y e
 
   -- An accepted push
-  pub push_persists : (g : Graph) (ps : List ℕ) (n : ℕ) → WellFormed g → push_outcome g ps n ≡ Done → P g → P (push g ps n)
+  pub push_persists : (g : Graph) (ps : List ℕ) (n : ℕ) → WellFormed g → push_outcome g ps n ≡ Ok tt → P g → P (push g ps n)
   push_persists g ps n w e p = go (extends g ps) refl (accepted g (first-len g w) ps n e)
     where
       go : (t : Bool) → extends g ps ≡ t → Accepted g ps n → P (push g ps n)

@@ -12,11 +12,11 @@ use Rattle.lists.proofs.Members.{filter_agree}
 use Rattle.lists.proofs.Counts.{filter_true}
 use Rattle.model.specs.declared.record.CausalGraph.{CausalGraph}
 use Rattle.model.specs.declared.record.EventIndex.{EventIndex}
-use Rattle.model.specs.declared.answers.EventsAnswer.{EventsAnswer}
-use Rattle.model.specs.declared.answers.EventsAnswer.TheVariants.{Events}
 use Rattle.model.specs.EventGraph.{EventGraph, HappenedBefore, parent, further, InEvents, Lower}
 use Rattle.model.specs.Push.{push_of}
 use Rattle.model.specs.Log.{Log, push, held_of, log_push, note, answer, after_calls, event_graph}
+use Rattle.std.specs.Prelude.{Ok}
+use Rattle.model.specs.Refusals.{OrRefusal}
 
 -- Events below n with the same parents in two graphs have the same ancestors
 before_same : (G H : EventGraph) (n : ℕ) → Lower G → ((e : ℕ) → e < n → G.parents e ≡ H.parents e) → {p e : ℕ} → e < n → HappenedBefore G p e → HappenedBefore H p e
@@ -61,7 +61,7 @@ module _ (l : Log) (low : Lower (event_graph l)) (ps : List ℕ) (n : ℕ) (held
           further n (before_same G H l.next low (λ x lt. sym (earlier_parents x lt)) (held t.0 t.1).1 t.2)
 
 -- The log after a push that is taken
-pub push_logged : (g : CausalGraph) (l : Log) (ps : List ℕ) (n : ℕ) (a b : EventIndex) → (push_of g ps n).answer ≡ Events a b →
+pub push_logged : (g : CausalGraph) (l : Log) (ps : List ℕ) (n : ℕ) (a b : EventIndex) → (push_of g ps n).answer ≡ Ok (a, b) →
     (after_calls g l (push ps n ∷ [])).1 ≡ log_push l ps n
 unfolding after_calls answer note
-push_logged g l ps n a b e = ap (λ (x : EventsAnswer). note l (push ps n) x) e
+push_logged g l ps n a b e = ap (λ (x : (OrRefusal (EventIndex × EventIndex))). note l (push ps n) x) e

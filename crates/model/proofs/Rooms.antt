@@ -11,7 +11,6 @@ use borrow.Author.Tests.{le-ltb}
 use Rattle.lists.specs.Lists.{all, filter, count, concat, upto, mem}
 use Rattle.lists.proofs.Truth.{false_true}
 use Rattle.lists.proofs.Counts.{filter-length}
-use Rattle.model.specs.declared.answers.Outcome.TheVariants.{Done}
 use Rattle.model.specs.declared.answers.Refusal.TheVariants.{RowsTooLong}
 use Rattle.model.specs.Graph.{Graph, runs}
 use Rattle.model.specs.History.{at, histories}
@@ -20,6 +19,7 @@ use Rattle.model.specs.Choice.{Range, range_of, newly_ready, choice}
 use Rattle.model.specs.Steps.{Step, retreat, advance, apply, add_run, stretches, moves, visit, visits, steps_of}
 use Rattle.model.specs.Walk.{WalkResult, wrote, unwalked, rows_into, rows_too_long, list_outcome, walk_range}
 use Rattle.model.proofs.Histories.{history-length}
+use Rattle.std.specs.Prelude.{Ok}
 
 -- A range has no more runs than it spans
 pub range_span : (g : Graph) (a b : ℕ) → length (parents_in g a b) ≤ b - a
@@ -196,13 +196,13 @@ unfolding rows_too_long
 rows-enough g a b rows limit room =
     le-ltb (length rows) (length (concat (range_of g a b).rows)) (omega (arith, rows_fit g a b limit))
 
-list_enough : (room : ℕ) (ss : List Step) → length ss ≤ room → list_outcome room ss ≡ Done
+list_enough : (room : ℕ) (ss : List Step) → length ss ≤ room → list_outcome room ss ≡ Ok tt
 unfolding list_outcome
 list_enough room ss q = rw (le-ltb room (length ss) q)
 
 -- With room for 131,328 row words and 525,312 steps no walk is refused
 pub walk_done : (g : Graph) → runs g ≤ 512 → (a b known first : ℕ) (rows steps : List ℕ) → 131328 ≤ length rows → 1575936 ≤ length steps →
-    (walk_range g a b known first rows steps).0.outcome ≡ Done
+    (walk_range g a b known first rows steps).0.outcome ≡ Ok tt
 unfolding walk_range wrote
 walk_done g limit a b known first rows steps wide long = go (rows_too_long (range_of g a b) rows) (rows-enough g a b rows limit wide)
   where
@@ -216,6 +216,6 @@ walk_done g limit a b known first rows steps wide long = go (rows_too_long (rang
         (elim t as (λ _. WalkResult) [
           | true ↦ unwalked RowsTooLong (rows_into w rows) steps
           | false ↦ wrote g (list_outcome (length steps / 3) ss) (take (length steps / 3) ss) (rows_into w rows) steps
-        ]).0.outcome ≡ Done
+        ]).0.outcome ≡ Ok tt
     go true e = false_true (sym e)
     go false e = list_enough (length steps / 3) ss (omega (arith, steps_fit g a b known first limit))

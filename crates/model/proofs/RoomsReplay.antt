@@ -13,8 +13,6 @@ use Rattle.lists.proofs.Truth.{false_true}
 use Rattle.lists.proofs.Counts.{from-length}
 use Rattle.lists.proofs.Rising.{Up, up_filter, up_from}
 use Rattle.lists.proofs.Pads.{length_over, fitting_fit}
-use Rattle.model.specs.declared.answers.Outcome.{Outcome}
-use Rattle.model.specs.declared.answers.Outcome.TheVariants.{Done, Refused}
 use Rattle.model.specs.declared.answers.Refusal.TheVariants.{RowsTooLong, ListTooShort}
 use Rattle.model.specs.Graph.{Graph, runs, marked, marks}
 use Rattle.model.specs.Choice.{Range, range_of}
@@ -23,6 +21,8 @@ use Rattle.model.specs.Steps.{opened, apply, steps_of}
 use Rattle.model.specs.Walk.{rows_into, rows_too_long}
 use Rattle.model.specs.Replay.{Replayed, replay_range, replay_ranges}
 use Rattle.model.proofs.Rooms.{range_span, steps_span, rows-enough}
+use Rattle.std.specs.Prelude.{Ok, Err}
+use Rattle.model.specs.Refusals.{Outcome}
 
 -- Ranges that hold a run each, one after another from `lo` on, up to `end`
 abbrev pub Laid : ℕ → List HistoryRange → ℕ → Type 0
@@ -81,7 +81,7 @@ rows_into-length w rows = length_over (concat (fitting (length rows) w.rows)) ro
 
 -- What a range of b - a runs leaves: done, at most 1,026 steps a run, and a row area of the length that it had
 abbrev Fine : ℕ → ℕ → ℕ → Replayed → Type 0
-Fine a b rows this = (this.0 ≡ Done) × (length this.1 ≤ (b - a) * 1026) × (length this.2 ≡ rows)
+Fine a b rows this = (this.0 ≡ Ok tt) × (length this.1 ≤ (b - a) * 1026) × (length this.2 ≡ rows)
 
 linear_fine : (g : Graph) (a b : ℕ) (rows : List ℕ) → a < b → Fine a b (length rows) (replay_range g (linear a b) rows)
 unfolding replay_range
@@ -96,14 +96,14 @@ concurrent_fine g a b rows limit wide q = go (rows_too_long w rows) (rows-enough
     w = range_of g a b
 
     go : (t : Bool) → t ≡ false → Fine a b (length rows) (elim t as (λ _. Replayed) [
-      | true ↦ (Refused RowsTooLong, opened a b ∷ [], rows_into w rows)
-      | false ↦ (Done, opened a b ∷ steps_of w a 0 0, rows_into w rows)
+      | true ↦ (Err RowsTooLong, opened a b ∷ [], rows_into w rows)
+      | false ↦ (Ok tt, opened a b ∷ steps_of w a 0 0, rows_into w rows)
     ])
     go true e = false_true (sym e)
     go false e = (refl, omega (arith, steps_span g a b 0 0 limit, range_span g a b), rows_into-length w rows)
 
 -- One range done with room left, the replay goes on with the next
-replay_next : (g : Graph) (c : HistoryRange) (cs : List HistoryRange) (room : ℕ) (rows : List ℕ) → 0 < room → (replay_range g c rows).0 ≡ Done →
+replay_next : (g : Graph) (c : HistoryRange) (cs : List HistoryRange) (room : ℕ) (rows : List ℕ) → 0 < room → (replay_range g c rows).0 ≡ Ok tt →
     length (replay_range g c rows).1 ≤ room →
     (replay_ranges g (c ∷ cs) room rows).0 ≡ (replay_ranges g cs (room - length (replay_range g c rows).1) (replay_range g c rows).2).0
 unfolding replay_ranges
@@ -116,19 +116,19 @@ replay_next g c cs room rows left done fits =
     later : Replayed
     later = replay_ranges g cs (room - length this.1) this.2
 
-    goes_on_lem : (s : Bool) → s ≡ false → (t : Bool) → t ≡ false → (o : Outcome) → o ≡ Done →
+    goes_on_lem : (s : Bool) → s ≡ false → (t : Bool) → t ≡ false → (o : Outcome) → o ≡ Ok tt →
         (elim s as (λ _. Replayed) [
-          | true ↦ (Refused ListTooShort, [], rows)
+          | true ↦ (Err ListTooShort, [], rows)
           | false ↦ elim t as (λ _. Replayed) [
-            | true ↦ (Refused ListTooShort, take room this.1, this.2)
-            | false ↦ elim o as (λ _. Replayed) [ Done ↦ (later.0, this.1 ++ later.1, later.2) | Refused r ↦ this ]
+            | true ↦ (Err ListTooShort, take room this.1, this.2)
+            | false ↦ elim o as (λ _. Replayed) [ Ok _ ↦ (later.0, this.1 ++ later.1, later.2) | Err r ↦ this ]
           ]
         ]).0 ≡ later.0
     goes_on_lem s e t f o k = rw (e, f, k)
 
 -- Ranges one after another, in a list of 1,026 steps for each run
 ranges-done : (g : Graph) → runs g ≤ 512 → (lo : ℕ) (cs : List HistoryRange) (end room : ℕ) (rows : List ℕ) → Laid lo cs end → (end - lo) * 1026 ≤ room →
-    131328 ≤ length rows → (replay_ranges g cs room rows).0 ≡ Done
+    131328 ≤ length rows → (replay_ranges g cs room rows).0 ≡ Ok tt
 unfolding replay_ranges
 ranges-done g limit lo [] end room rows h q wide = refl
 ranges-done g limit lo (linear a b ∷ cs) end room rows h q wide =
@@ -146,6 +146,6 @@ ranges-done g limit lo (concurrent a b ∷ cs) end room rows h q wide =
 
 -- With room for 131,328 row words and 525,312 steps no full replay is refused
 pub replay_done : (g : Graph) → runs g ≤ 512 → (rows steps : List ℕ) → 131328 ≤ length rows → 1575936 ≤ length steps →
-    (replay_ranges g (cut_from g 0) (length steps / 3) rows).0 ≡ Done
+    (replay_ranges g (cut_from g 0) (length steps / 3) rows).0 ≡ Ok tt
 replay_done g limit rows steps wide long =
     ranges-done g limit 0 (cut_from g 0) (runs g) (length steps / 3) rows (cut_laid g 0) (omega arith) wide

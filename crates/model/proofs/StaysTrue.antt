@@ -5,10 +5,6 @@ use mathlib.Core.List.{List, [], ◌∷◌, ◌++◌, append_assoc}
 use Prim.Native.Nat.{ℕ}
 use Rattle.lists.proofs.Truth.{false_true}
 use Rattle.model.specs.declared.record.CausalGraph.{CausalGraph}
-use Rattle.model.specs.declared.answers.BoolAnswer.{BoolAnswer}
-use Rattle.model.specs.declared.answers.BoolAnswer.TheVariants.{Told, Refused as RefusedBool}
-use Rattle.model.specs.declared.answers.Outcome.{Outcome}
-use Rattle.model.specs.declared.answers.Outcome.TheVariants.{Done, Refused}
 use Rattle.model.specs.Graph.{Graph, containing}
 use Rattle.model.specs.Record.{view}
 use Rattle.model.specs.Broken.{broken, Held}
@@ -22,11 +18,13 @@ use Rattle.model.proofs.Calls.{started_by}
 use Rattle.model.proofs.Good.{made_good, made-append, later_with, made_with}
 use Rattle.model.proofs.SeenStarts.{among_starts, among_persists, among_fresh, among_taken}
 use Rattle.model.proofs.Unmarked.{unmarked_persists, unmarked-taken, splitting-unmarked, told-unmarked, unmarked_tells}
+use Rattle.std.specs.Prelude.{Ok, Err}
+use Rattle.model.specs.Refusals.{OrRefusal, Outcome}
 
 -- An answer that is told true
-abbrev is_true : BoolAnswer → Bool
-is_true (Told b) = b
-is_true (RefusedBool r) = false
+abbrev is_true : OrRefusal Bool → Bool
+is_true (Ok b) = b
+is_true (Err r) = false
 
 -- On a record that holds a graph
 module _ (g : CausalGraph) (H : Held g) (at : ℕ) where
@@ -35,12 +33,12 @@ module _ (g : CausalGraph) (H : Held g) (at : ℕ) where
   unfolding start_run_at_of start_held_of told start_refused
   start_leaves S e = go (broken g) (starting (view g) at) refl (split_outcome (view g)) e
     where
-      go : (b : Bool) (s : Starting) → starting (view g) at ≡ s → (o : Outcome) → (started_by g at b s o).answer ≡ Told true → UnmarkedAt (view (started_by g at b s o).graph) at
+      go : (b : Bool) (s : Starting) → starting (view g) at ≡ s → (o : Outcome) → (started_by g at b s o).answer ≡ Ok true → UnmarkedAt (view (started_by g at b s o).graph) at
       go true s e o t = false_true (ap is_true t)
       go false (answers true) e o t = told-unmarked (view g) H.formed at e
       go false (answers false) e o t = false_true (ap is_true t)
-      go false splitting e (Refused r) t = false_true (ap is_true t)
-      go false splitting e Done t =
+      go false splitting e (Err r) t = false_true (ap is_true t)
+      go false splitting e (Ok _) t =
           subst (λ (h : Graph). UnmarkedAt h at) (sym (view-store (split (view g) (containing (view g) at) at) (start-formed (view g) H.formed at e)))
           (splitting-unmarked (view g) H.formed S at e)
 

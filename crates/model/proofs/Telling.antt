@@ -14,12 +14,7 @@ use Rattle.lists.proofs.Members.{mem-first, mem-filter, map_same}
 use Rattle.lists.proofs.Counts.{count_le}
 use Rattle.model.specs.declared.record.CausalGraph.{CausalGraph}
 use Rattle.model.specs.declared.record.EventIndex.{EventIndex}
-use Rattle.model.specs.declared.answers.Pushed.{Pushed}
-use Rattle.model.specs.declared.answers.EventsAnswer.{EventsAnswer}
-use Rattle.model.specs.declared.answers.EventsAnswer.TheVariants.{Events, Refused as RefusedEvents}
 use Rattle.model.specs.declared.answers.Refusal.TheVariants.{Broken}
-use Rattle.model.specs.declared.answers.Outcome.{Outcome}
-use Rattle.model.specs.declared.answers.Outcome.TheVariants.{Done, Refused}
 use Rattle.model.specs.EventGraph.{EventGraph}
 use Rattle.model.specs.Graph.{Graph, start, len, containing, Side, in_run, before, unknown, side, is_held}
 use Rattle.model.specs.Record.{view}
@@ -32,6 +27,9 @@ use Rattle.model.proofs.Siding.{side-run, is_held_lem, held-between}
 use Rattle.model.proofs.Runs.{held-is, held_bounds, run_of}
 use Rattle.model.proofs.Tied.{last_of, Tied, alone-held, in_run_lem}
 use Rattle.model.proofs.Seen.{ParentsLower, start_is, len_tied, first_tied, containing-is}
+use Rattle.std.specs.Prelude.{Ok, Err}
+use Rattle.model.specs.Refusals.{OrRefusal, Outcome}
+use Rattle.model.specs.Answers.{Pushed}
 
 -- A list of which nothing is a member is empty
 no_members : (xs : List ℕ) → ((x : ℕ) → ¬ (mem x xs ≡ true)) → xs ≡ []
@@ -105,23 +103,23 @@ module _ (g : Graph) (l : Log) (t : Tied g l) (lower : ParentsLower l) where
   events_are = ap₂ event_graph_of (fun_ext held_same) (fun_ext parents-same)
 
 -- What an accepted push tells
-tells : EventsAnswer → ℕ → ℕ → Type 0
-tells (Events a b) first end = (a.0 ≡ first) × (b.0 ≡ end)
-tells (RefusedEvents r) first end = Unit {0}
+tells : OrRefusal (EventIndex × EventIndex) → ℕ → ℕ → Type 0
+tells (Ok (a, b)) first end = (a.0 ≡ first) × (b.0 ≡ end)
+tells (Err r) first end = Unit {0}
 
 -- An accepted push tells the log's next event and the end of its own
-pub push-told : (g : CausalGraph) (l : Log) → len (view g) ≡ l.next → (ps : List ℕ) (n : ℕ) (a b : EventIndex) → (push_of g ps n).answer ≡ Events a b →
+pub push-told : (g : CausalGraph) (l : Log) → len (view g) ≡ l.next → (ps : List ℕ) (n : ℕ) (a b : EventIndex) → (push_of g ps n).answer ≡ Ok (a, b) →
     (a.0 ≡ l.next) × (b.0 ≡ l.next + n)
 unfolding push_of push_held_of pushed push_refused tells
-push-told g l same ps n a b e = subst (λ (x : EventsAnswer). tells x l.next (l.next + n)) e (go (broken g) (push_outcome (view g) ps n))
+push-told g l same ps n a b e = subst (λ (x : (OrRefusal (EventIndex × EventIndex))). tells x l.next (l.next + n)) e (go (broken g) (push_outcome (view g) ps n))
   where
     out : Bool → Outcome → Pushed
     out b o = elim b as (λ _. Pushed) [
       | true ↦ push_refused g Broken
-      | false ↦ elim o as (λ _. Pushed) [ Done ↦ pushed (view g) ps n | Refused r ↦ push_refused g r ]
+      | false ↦ elim o as (λ _. Pushed) [ Ok _ ↦ pushed (view g) ps n | Err r ↦ push_refused g r ]
     ]
 
     go : (b : Bool) (o : Outcome) → tells (out b o).answer l.next (l.next + n)
     go true o = tt
-    go false (Refused r) = tt
-    go false Done = (same, ap (λ k. k + n) same)
+    go false (Err r) = tt
+    go false (Ok _) = (same, ap (λ k. k + n) same)

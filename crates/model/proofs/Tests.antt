@@ -4,23 +4,22 @@ use mathlib.Core.Bool.{Bool, true, false, cond, false≢true}
 use mathlib.Core.List.{List, ◌∷◌}
 use Prim.Native.Nat.{ℕ}
 use Rattle.model.specs.declared.answers.Refusal.{Refusal}
-use Rattle.model.specs.declared.answers.Outcome.{Outcome}
-use Rattle.model.specs.declared.answers.Outcome.TheVariants.{Done, Refused}
-use Rattle.model.specs.Refusals.{refusal, first_of}
+use Rattle.model.specs.Refusals.{refusal, first_of, Outcome}
+use Rattle.std.specs.Prelude.{Ok, Err}
 
 abbrev ends_well : Outcome → Bool
-ends_well Done = true
-ends_well (Refused r) = false
+ends_well (Ok _) = true
+ends_well (Err r) = false
 
 -- A refused call is not done
-pub refused_done : (r : Refusal) → Refused r ≡ Done → ⊥
+pub refused_done : (r : Refusal) → ◌≡◌ {A = Outcome} (Err r) (Ok tt) → ⊥
 refused_done r e = false≢true (ap ends_well e)
 
 -- Where no refusal applies, the first does not, and none of the later
-pub passed : (t : Bool × ℕ) (ts : List (Bool × ℕ)) → first_of (t ∷ ts) ≡ Done → (t.0 ≡ false) × (first_of ts ≡ Done)
+pub passed : (t : Bool × ℕ) (ts : List (Bool × ℕ)) → first_of (t ∷ ts) ≡ Ok tt → (t.0 ≡ false) × (first_of ts ≡ Ok tt)
 unfolding first_of
 passed t ts e = go t.0 e
   where
-    go : (b : Bool) → cond b (Refused (refusal t.1)) (first_of ts) ≡ Done → (b ≡ false) × (first_of ts ≡ Done)
+    go : (b : Bool) → cond b (Err (refusal t.1)) (first_of ts) ≡ Ok tt → (b ≡ false) × (first_of ts ≡ Ok tt)
     go true q = absurd (refused_done (refusal t.1) q)
     go false q = (refl, q)

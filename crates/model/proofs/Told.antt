@@ -15,8 +15,6 @@ use Rattle.lists.proofs.Pads.{length_over, take-over, drop-over}
 use Rattle.model.specs.declared.record.CausalGraph.{CausalGraph}
 use Rattle.model.specs.declared.answers.Refusal.{Refusal}
 use Rattle.model.specs.declared.answers.Refusal.TheVariants.{Broken, RowsTooLong, ListTooShort}
-use Rattle.model.specs.declared.answers.Outcome.{Outcome}
-use Rattle.model.specs.declared.answers.Outcome.TheVariants.{Done, Refused}
 use Rattle.model.specs.Graph.{Graph, start}
 use Rattle.model.specs.Record.{view}
 use Rattle.model.specs.Broken.{broken}
@@ -27,6 +25,8 @@ use Rattle.model.specs.Walk.{WalkResult, wrote, unwalked, rows_into, rows_too_lo
 use Rattle.model.specs.Replay.{Replayed, replay_range, replay_ranges, replay_of}
 use Rattle.model.specs.Meaning.{in_span, times_moved, Told}
 use Rattle.model.proofs.Reading.{words-length}
+use Rattle.std.specs.Prelude.{Ok, Err}
+use Rattle.model.specs.Refusals.{Outcome}
 
 module _ (g : Graph) where
   -- All events up to the last run's end
@@ -86,16 +86,16 @@ module _ (g : Graph) where
 
       go : (z t : Bool) → ltb room (length this.1) ≡ t → (o : Outcome) → length later.1 ≤ room - length this.1 →
           length {A = Step} (elim z as (λ _. Replayed) [
-            | true ↦ (Refused ListTooShort, [], rows)
+            | true ↦ (Err ListTooShort, [], rows)
             | false ↦ elim t as (λ _. Replayed) [
-              | true ↦ (Refused ListTooShort, take room this.1, this.2)
-              | false ↦ elim o as (λ _. Replayed) [ Done ↦ (later.0, this.1 ++ later.1, later.2) | Refused r ↦ this ]
+              | true ↦ (Err ListTooShort, take room this.1, this.2)
+              | false ↦ elim o as (λ _. Replayed) [ Ok _ ↦ (later.0, this.1 ++ later.1, later.2) | Err r ↦ this ]
             ]
           ]).1 ≤ room
       go true t e o ih = omega arith
       go false true e o ih = omega (arith, length-take room this.1)
-      go false false e Done ih = omega (arith, length-append this.1 later.1, ltb-false room (length this.1) e)
-      go false false e (Refused r) ih = ltb-false room (length this.1) e
+      go false false e (Ok _) ih = omega (arith, length-append this.1 later.1, ltb-false room (length this.1) e)
+      go false false e (Err r) ih = ltb-false room (length this.1) e
 
   -- A walk of a range inside the graph
   range_told : (a b known first : ℕ) (rows steps : List ℕ) → Told g steps (walk_range g a b known first rows steps)
@@ -119,11 +119,11 @@ unfolding walk_of
 walk_told g a b known first rows steps = go (range_outcome g a b known)
   where
     go : (o : Outcome) → Told (view g) steps (elim o as (λ _. WalkResult) [
-      | Done ↦ walk_range (view g) a b known first rows steps
-      | Refused r ↦ unwalked r rows steps
+      | Ok _ ↦ walk_range (view g) a b known first rows steps
+      | Err r ↦ unwalked r rows steps
     ])
-    go Done = range_told (view g) a b known first rows steps
-    go (Refused r) = unwalked-told (view g) r rows steps
+    go (Ok _) = range_told (view g) a b known first rows steps
+    go (Err r) = unwalked-told (view g) r rows steps
 
 -- Full replays
 pub replay_told : (g : CausalGraph) (rows steps : List ℕ) → Told (view g) steps (replay_of g rows steps)

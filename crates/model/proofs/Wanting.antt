@@ -18,11 +18,8 @@ use Rattle.lists.proofs.Rising.{rising_tail, rising_above, rising-filter, rising
 use Rattle.model.specs.declared.record.CausalGraph.{CausalGraph}
 use Rattle.model.specs.declared.record.EventIndex.{EventIndex}
 use Rattle.model.specs.declared.answers.Written.{Written}
-use Rattle.model.specs.declared.answers.Outcome.{Outcome}
-use Rattle.model.specs.declared.answers.Outcome.TheVariants.{Done, Refused}
-use Rattle.model.specs.declared.answers.EventsAnswer.TheVariants.{Events}
 use Rattle.model.specs.EventGraph.{EventGraph, HappenedBefore, parent, InEvents, Version, maximal, closed, Lower}
-use Rattle.model.specs.Refusals.{number, refusal, first_of}
+use Rattle.model.specs.Refusals.{number, refusal, first_of, Outcome}
 use Rattle.model.specs.Answers.{outcome_number}
 use Rattle.model.specs.Graph.{Graph, len, side, is_held, all_held}
 use Rattle.model.specs.Record.{Sized, view}
@@ -41,6 +38,7 @@ use Rattle.model.proofs.Telling.{events_are, push-told}
 use Rattle.model.proofs.PushedOn.{push_sees, push_logged}
 use Rattle.model.proofs.OwnLog.{held-lower}
 use Rattle.model.proofs.Good.{made_good, made-append}
+use Rattle.std.specs.Prelude.{Ok, Err}
 
 -- Nothing is marked by no ranges
 none-marked : {A : Type 0} (e : ℕ) → mem e [] ≡ true → A
@@ -140,7 +138,7 @@ module _ (g : Graph) (ws : List ℕ) (formed : WellFormed g) where
   )
 
 -- What the tests say where the call is done, and where it is 17
-done_tests : (a b c d e : Bool) → first_of ((a, 1) ∷ (not b, 3) ∷ (not c, 4) ∷ (not d, 17) ∷ (e, 11) ∷ []) ≡ Done →
+done_tests : (a b c d e : Bool) → first_of ((a, 1) ∷ (not b, 3) ∷ (not c, 4) ∷ (not d, 17) ∷ (e, 11) ∷ []) ≡ Ok tt →
     (a ≡ false) × (b ≡ true) × (c ≡ true) × (d ≡ true) × (e ≡ false)
 unfolding first_of outcome_number number
 done_tests true b c d e h = absurd (omega (arith, ap outcome_number h))
@@ -150,7 +148,7 @@ done_tests false true true false e h = absurd (omega (arith, ap outcome_number h
 done_tests false true true true true h = absurd (omega (arith, ap outcome_number h))
 done_tests false true true true false h = (refl, refl, refl, refl, refl)
 
-none_tests : (a b c d e : Bool) → first_of ((a, 1) ∷ (not b, 3) ∷ (not c, 4) ∷ (not d, 17) ∷ (e, 11) ∷ []) ≡ Refused (refusal 17) →
+none_tests : (a b c d e : Bool) → first_of ((a, 1) ∷ (not b, 3) ∷ (not c, 4) ∷ (not d, 17) ∷ (e, 11) ∷ []) ≡ Err (refusal 17) →
     (a ≡ false) × (b ≡ true) × (c ≡ true) × (d ≡ false)
 unfolding first_of outcome_number number
 none_tests true b c d e h = absurd (omega (arith, ap outcome_number h))
@@ -163,8 +161,8 @@ none_tests false true true true false h = absurd (omega (arith, ap outcome_numbe
 module _ (g : CausalGraph) (ws lent : List ℕ) where
   abbrev answered : Outcome → Written × List ℕ
   answered o = elim o as (λ _. Written × List ℕ) [
-    | Done ↦ (record { count = length (wanted_parents (view g) ws); outcome = Done }, over (wanted_parents (view g) ws) lent)
-    | Refused r ↦ unwritten r lent
+    | Ok _ ↦ (record { count = length (wanted_parents (view g) ws); outcome = Ok tt }, over (wanted_parents (view g) ws) lent)
+    | Err r ↦ unwritten r lent
   ]
 
   ends_so : (wanted_parents_of g ws lent).0.outcome ≡ wanted_outcome g ws lent
@@ -172,22 +170,22 @@ module _ (g : CausalGraph) (ws lent : List ℕ) where
   ends_so = go (wanted_outcome g ws lent)
     where
       go : (o : Outcome) → (answered o).0.outcome ≡ o
-      go Done = refl
-      go (Refused r) = refl
+      go (Ok _) = refl
+      go (Err r) = refl
 
   abbrev Tests : Bool → Type 0
   Tests d = (broken g ≡ false) × (ranges ws ≡ true) × (all_held (view g) (events_in ws) ≡ true) × (closed (held_events (view g)) (events_in ws) ≡ d)
 
-  done_all : wanted_outcome g ws lent ≡ Done →
+  done_all : wanted_outcome g ws lent ≡ Ok tt →
       (broken g ≡ false) × (ranges ws ≡ true) × (all_held (view g) (events_in ws) ≡ true) × (closed (held_events (view g)) (events_in ws) ≡ true) ×
       (ltb (length lent) (length (wanted_parents (view g) ws)) ≡ false)
   unfolding wanted_outcome
   done_all h = done_tests (broken g) (ranges ws) (all_held (view g) (events_in ws)) (closed (held_events (view g)) (events_in ws)) _ h
 
-  done_so : ended g ws lent Done → Tests true
+  done_so : ended g ws lent (Ok tt) → Tests true
   done_so h = let t = done_all (sym ends_so ∙ h) in (t.0, t.1, t.2, t.3)
 
-  wanted_written : ended g ws lent Done →
+  wanted_written : ended g ws lent (Ok tt) →
       (take (wanted_parents_of g ws lent).0.count (wanted_parents_of g ws lent).1 ≡ wanted_parents (view g) ws) ×
       (drop (wanted_parents_of g ws lent).0.count (wanted_parents_of g ws lent).1 ≡ drop (wanted_parents_of g ws lent).0.count lent)
   unfolding wanted_parents_of
@@ -201,18 +199,18 @@ module _ (g : CausalGraph) (ws lent : List ℕ) where
   wanted_fits = go (wanted_outcome g ws lent) refl
     where
       go : (o : Outcome) → wanted_outcome g ws lent ≡ o → (answered o).0.count ≤ length lent
-      go Done e = ltb-false (length lent) (length (wanted_parents (view g) ws)) (done_all e).4
-      go (Refused r) e = omega arith
+      go (Ok _) e = ltb-false (length lent) (length (wanted_parents (view g) ws)) (done_all e).4
+      go (Err r) e = omega arith
 
-  none_so : ended g ws lent (Refused (refusal 17)) → Tests false
+  none_so : ended g ws lent (Err (refusal 17)) → Tests false
   unfolding wanted_outcome
   none_so h = none_tests (broken g) (ranges ws) (all_held (view g) (events_in ws)) (closed (held_events (view g)) (events_in ws)) _ (sym ends_so ∙ h)
 
-  so_none : Tests false → ended g ws lent (Refused (refusal 17))
+  so_none : Tests false → ended g ws lent (Err (refusal 17))
   unfolding wanted_outcome first_of
   so_none t = ends_so ∙ rw (t.0, t.1, t.2, t.3)
 
-  call_none : Sized g → ended g ws lent (Refused (refusal 17)) ↔
+  call_none : Sized g → ended g ws lent (Err (refusal 17)) ↔
       ((broken g ≡ false) × (ranges ws ≡ true) × (all_held (view g) (events_in ws) ≡ true) ×
       ((vs : List ℕ) → all_held (view g) vs ≡ true → ¬ Gives (held_events (view g)) vs (events_in ws)))
   call_none sized = (
@@ -221,7 +219,7 @@ module _ (g : CausalGraph) (ws lent : List ℕ) where
   )
 
 wanted_pushed : (f : Fresh) (cs : List Call) (ws lent : List ℕ) (n : ℕ) (a b : EventIndex) → let g : CausalGraph = (made_by f cs).0 in
-    ended g ws lent Done → (push_of g (wanted_parents (view g) ws) n).answer ≡ Events a b →
+    ended g ws lent (Ok tt) → (push_of g (wanted_parents (view g) ws) n).answer ≡ Ok (a, b) →
     (e : ℕ) → HappenedBefore (event_graph (made_by f (cs ++ push (wanted_parents (view g) ws) n ∷ [])).1) e a.0 ↔ (mem e (events_in ws) ≡ true)
 wanted_pushed f cs ws lent n a b done q e =
     let tests = done_so (made_by f cs).0 ws lent done in
@@ -245,11 +243,11 @@ wanted_pushed f cs ws lent n a b done q e =
     (subst (λ (x : ℕ). HappenedBefore (event_graph (log_push l ps n)) e x ↔ (mem e (events_in ws) ≡ true)) (sym first)
     ((λ x. (gives e).0 ((push_sees l low ps n held e).0 x)), (λ m. (push_sees l low ps n held e).1 ((gives e).1 m))))
 
-nothing_wanted : (g : CausalGraph) (lent : List ℕ) → broken g ≡ false → wanted_parents_of g [] lent ≡ (record { count = 0; outcome = Done }, lent)
+nothing_wanted : (g : CausalGraph) (lent : List ℕ) → broken g ≡ false → wanted_parents_of g [] lent ≡ (record { count = 0; outcome = Ok tt }, lent)
 unfolding wanted_parents_of wanted_outcome first_of ranges paired rising events_in all_held all wanted_parents maximal filter closed over
 nothing_wanted g lent h =
     let none : length (wanted_parents (view g) []) ≡ 0 = refl in
-    let done : wanted_outcome g [] lent ≡ Done = rw (h, le-ltb (length lent) (length (wanted_parents (view g) [])) (omega (arith, none))) in
+    let done : wanted_outcome g [] lent ≡ (Ok tt) = rw (h, le-ltb (length lent) (length (wanted_parents (view g) [])) (omega (arith, none))) in
     rw (done, wanted_parents_of) refl
 
 -- What is claimed of the wanted parents

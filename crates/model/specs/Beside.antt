@@ -1,12 +1,10 @@
 -- 01, "Beside it": the concurrency list, in the order of 02's F-2, on every input. (Archive points: specs/Archive.) Assumes nothing.
-use Rattle.std.specs.Prelude.{Bool, not, ◌&&◌, List, [], ◌∷◌, ℕ, length, leb, ltb, eqb}
+use Rattle.std.specs.Prelude.{Bool, not, ◌&&◌, List, [], ◌∷◌, ℕ, length, leb, ltb, eqb, Ok, Err}
 use Rattle.lists.specs.Lists.{filter, mem, upto}
 use Rattle.lists.specs.Areas.{over}
 use Rattle.model.specs.declared.record.CausalGraph.{CausalGraph}
 use Rattle.model.specs.declared.answers.Written.{Written}
-use Rattle.model.specs.declared.answers.Outcome.{Outcome}
-use Rattle.model.specs.declared.answers.Outcome.TheVariants.{Done, Refused}
-use Rattle.model.specs.Refusals.{first_of}
+use Rattle.model.specs.Refusals.{first_of, Outcome}
 use Rattle.model.specs.Graph.{Graph, runs}
 use Rattle.model.specs.Record.{view}
 use Rattle.model.specs.Broken.{broken}
@@ -35,4 +33,4 @@ concurrency_outcome g r lent =
 unfoldable pub concurrency_list_of : CausalGraph → ℕ → List ℕ → Written × List ℕ
 concurrency_list_of g r lent =
     let qs : List ℕ = concurrency_list (view g) r in
-    elim (concurrency_outcome g r lent) [ Done ↦ (record { count = length qs; outcome = Done }, over qs lent) | Refused n ↦ unwritten n lent ]
+    elim (concurrency_outcome g r lent) [ Ok _ ↦ (record { count = length qs; outcome = Ok tt }, over qs lent) | Err n ↦ unwritten n lent ]

@@ -1,15 +1,10 @@
 -- 01, "The book and its program", with 02, F-1: a book as a start and a list of calls, so that demand 3 is about books and what `replay`
 -- prints of them. Assumes nothing.
-use Rattle.std.specs.Prelude.{◌≡◌, Bool, true, false, List, [], ◌∷◌, ◌++◌, map, ℕ, zero, suc, ◌<◌, length, get_or, take, ltb}
+use Rattle.std.specs.Prelude.{◌≡◌, Bool, true, false, List, [], ◌∷◌, ◌++◌, map, ℕ, zero, suc, ◌<◌, length, get_or, take, ltb, Ok, Err}
 use Rattle.std.proofs.Math.Option.{Option, none, some}
 use Rattle.model.specs.declared.record.CausalGraph.{CausalGraph}
-use Rattle.model.specs.declared.answers.BookAnswer.TheVariants.{Whole, Refused as RefusedBook}
-use Rattle.model.specs.declared.answers.Outcome.TheVariants.{Done, Refused}
-use Rattle.model.specs.declared.answers.EventsAnswer.TheVariants.{Events, Refused as RefusedEvents}
-use Rattle.model.specs.declared.answers.BoolAnswer.TheVariants.{Told, Refused as RefusedBool}
-use Rattle.model.specs.declared.answers.RunAnswer.TheVariants.{Run, Refused as RefusedRun}
 use Rattle.model.specs.Limits.{max_book}
-use Rattle.model.specs.Refusals.{refusal}
+use Rattle.model.specs.Refusals.{refusal, OrRefusal}
 use Rattle.model.specs.Fresh.{new_of, after_of}
 use Rattle.model.specs.Walk.{WalkResult}
 use Rattle.model.specs.Book.{take_words, take_counted, book_read, book_of}
@@ -17,6 +12,7 @@ use Rattle.model.specs.Print.{Line, step_line, moved_line, printed}
 use Rattle.model.specs.Log.{Fresh, new, after, Call, push, start_run_at, take_changed_from, Answer, answer, Log, made_by}
 use Rattle.model.specs.PlainSet.{ReplayFollows}
 use Rattle.model.specs.Claim.{Claimed}
+use Rattle.model.specs.declared.answers.BookRefusal.TheVariants.{Refused}
 
 -- "each push: length, parent count, parents": the pushes that bytes hold whole, n at most
 unfoldable pub pushes_in : ℕ → List ℕ → List Call
@@ -28,12 +24,12 @@ pushes_in (suc n) bs = elim (take_words 1 bs) [
 
 -- a call that is refused
 unfoldable pub is_refused : (c : Call) → Answer c → Bool
-is_refused (push ps n) (Events a b) = false
-is_refused (push ps n) (RefusedEvents r) = true
-is_refused (start_run_at at) (Told b) = false
-is_refused (start_run_at at) (RefusedBool r) = true
-is_refused take_changed_from (Run r) = false
-is_refused take_changed_from (RefusedRun r) = true
+is_refused (push ps n) (Ok (a, b)) = false
+is_refused (push ps n) (Err r) = true
+is_refused (start_run_at at) (Ok b) = false
+is_refused (start_run_at at) (Err r) = true
+is_refused take_changed_from (Ok r) = false
+is_refused take_changed_from (Err r) = true
 
 -- "The first refusal ends it": the calls up to the first that is refused, it included
 unfoldable pub tried : CausalGraph → List Call → List Call
@@ -62,7 +58,7 @@ book_start bs = elim (book_header bs) [ none ↦ new | some h ↦ after h.0 h.1 
 unfoldable pub book_calls : List ℕ → List Call
 book_calls bs = elim (book_header bs) [
   | none ↦ []
-  | some h ↦ let r = after_of h.0 h.1 in elim r.outcome [ Done ↦ tried r.graph (pushes_in h.2 h.3) | Refused x ↦ [] ]
+  | some h ↦ let r = after_of h.0 h.1 in elim r.answer [ Ok _ ↦ tried r.graph (pushes_in h.2 h.3) | Err x ↦ [] ]
 ]
 
 -- The plain log of a book's calls
@@ -79,11 +75,11 @@ pub record LinesFollow (l : Log) (lines : List Line) (n : ℕ) : Type 0 where
 -- What holds of every list of bytes
 pub record Books : Type 0 where
   -- 02, F-1: "demand 3 takes in the empty file too, as a list of no calls": it is whole, and `new` with no calls after it
-  pub empty : ((book_of []).answer ≡ Whole) × (book_start [] ≡ new) × (book_calls [] ≡ [])
+  pub empty : ((book_of []).answer ≡ Ok tt) × (book_start [] ≡ new) × (book_calls [] ≡ [])
   -- "the program then prints `moved 0` alone"
   pub empty_prints : printed [] ≡ moved_line 0 ∷ []
   -- "Books of one to eleven bytes keep refusal 14"
-  pub short : (bs : List ℕ) → 0 < length bs → length bs < 12 → book_of bs ≡ book_read new_of (RefusedBook (refusal 14))
+  pub short : (bs : List ℕ) → 0 < length bs → length bs < 12 → book_of bs ≡ book_read new_of (Err (Refused (refusal 14)))
   -- the graph of a book, of a refused one too, is the one that its calls make
   pub made : (bs : List ℕ) → (book_of bs).graph ≡ (made_by (book_start bs) (book_calls bs)).0
   -- so demand 3 holds of what `replay` replays

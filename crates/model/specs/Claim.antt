@@ -1,11 +1,9 @@
 -- Demand 3: one claim over every list of pushes, run starts and change takes from a fresh graph, refused ones included. Assumes nothing.
-use Rattle.std.specs.Prelude.{◌≡◌, Bool, true, false, List, [], ◌∷◌, ◌++◌, ℕ, suc, ◌+◌, ◌≤◌, ◌<◌, length, get_or, ltb}
+use Rattle.std.specs.Prelude.{◌≡◌, Bool, true, false, List, [], ◌∷◌, ◌++◌, ℕ, suc, ◌+◌, ◌≤◌, ◌<◌, length, get_or, ltb, Ok}
 use Rattle.std.proofs.Math.Option.{Option, none, some}
 use Rattle.lists.specs.Lists.{filter}
 use Rattle.model.specs.declared.record.CausalGraph.{CausalGraph}
 use Rattle.model.specs.declared.record.EventIndex.{EventIndex}
-use Rattle.model.specs.declared.answers.Outcome.TheVariants.{Done}
-use Rattle.model.specs.declared.answers.EventsAnswer.TheVariants.{Events}
 use Rattle.model.specs.EventGraph.{VersionOf, CriticalAt}
 use Rattle.model.specs.Graph.{Graph, runs, start, marked, held}
 use Rattle.model.specs.Record.{view}
@@ -33,18 +31,18 @@ pub record Claimed (g : CausalGraph) (l : Log) : Type 0 where
   pub starts : (view g).starts ≡ l.edges ++ l.next ∷ []
   pub events : held_events (view g) ≡ event_graph l
   -- and so are those that an accepted push would tell
-  pub pushes : (ps : List ℕ) (n : ℕ) (a b : EventIndex) → (push_of g ps n).answer ≡ Events a b → (a.0 ≡ l.next) × (b.0 ≡ l.next + n)
+  pub pushes : (ps : List ℕ) (n : ℕ) (a b : EventIndex) → (push_of g ps n).answer ≡ Ok (a, b) → (a.0 ≡ l.next) × (b.0 ≡ l.next + n)
   -- the sets that `moved` is summed over are the runs' ancestors
   pub ancestors : (counted : EventSet) (r : ℕ) → IsAncestors l counted r (ancestors_of l counted r)
   -- "every full replay that is not refused, whatever room it is lent", and whatever that held
-  pub replays : (rows steps : List ℕ) → (replay_of g rows steps).0.outcome ≡ Done → ReplayFollows l (replay_of g rows steps)
+  pub replays : (rows steps : List ℕ) → (replay_of g rows steps).0.outcome ≡ Ok tt → ReplayFollows l (replay_of g rows steps)
   -- "every walk over any range with any known prefix and any `first`"
-  pub walks : (a b known first : ℕ) (rows steps : List ℕ) → (walk_of g a b known first rows steps).0.outcome ≡ Done →
+  pub walks : (a b known first : ℕ) (rows steps : List ℕ) → (walk_of g a b known first rows steps).0.outcome ≡ Ok tt →
       WalkFollows l a b known (walk_of g a b known first rows steps)
   -- it is not empty: with this much room no full replay is refused, and no walk of a known prefix of a range inside the graph
-  pub replay_done : (rows steps : List ℕ) → RowRoom ≤ length rows → StepRoom ≤ length steps → (replay_of g rows steps).0.outcome ≡ Done
+  pub replay_done : (rows steps : List ℕ) → RowRoom ≤ length rows → StepRoom ≤ length steps → (replay_of g rows steps).0.outcome ≡ Ok tt
   pub walk_done : (a b known first : ℕ) (rows steps : List ℕ) → a + known ≤ b → b ≤ run_count l → RowRoom ≤ length rows → StepRoom ≤ length steps →
-      (walk_of g a b known first rows steps).0.outcome ≡ Done
+      (walk_of g a b known first rows steps).0.outcome ≡ Ok tt
 
 -- After every list of calls from every fresh start. Each beginning of a list is a list, so no call of it meets refusal 1 either
 abbrev pub Claim : Type 0

@@ -1,13 +1,11 @@
 -- 01, "lib.rs": `split_at_critical_versions_from`, the cut, on every input. Assumes nothing.
-use Rattle.std.specs.Prelude.{true, false, not, cond, ◌&&◌, List, [], ◌∷◌, map, ℕ, suc, ◌/◌, length, take, leb, ltb, eqb}
+use Rattle.std.specs.Prelude.{true, false, not, cond, ◌&&◌, List, [], ◌∷◌, map, ℕ, suc, ◌/◌, length, take, leb, ltb, eqb, Ok, Err}
 use Rattle.lists.specs.Lists.{filter, concat, mem}
 use Rattle.lists.specs.Areas.{over}
 use Rattle.model.specs.declared.record.CausalGraph.{CausalGraph}
 use Rattle.model.specs.declared.answers.Written.{Written}
 use Rattle.model.specs.declared.answers.Refusal.{Refusal}
-use Rattle.model.specs.declared.answers.Outcome.{Outcome}
-use Rattle.model.specs.declared.answers.Outcome.TheVariants.{Done, Refused}
-use Rattle.model.specs.Refusals.{refusal, first_of}
+use Rattle.model.specs.Refusals.{refusal, first_of, Outcome}
 use Rattle.model.specs.Graph.{Graph, runs, marks}
 use Rattle.model.specs.Record.{view}
 use Rattle.model.specs.Broken.{broken}
@@ -48,14 +46,14 @@ writing size records lent =
     let room = length lent / size in (
       record {
         count = length (take room records);
-        outcome = cond (ltb room (length records)) (Refused (refusal 11)) Done;
+        outcome = cond (ltb room (length records)) (Err (refusal 11)) (Ok tt);
       },
       over (concat (take room records)) lent,
     )
 
 -- Refused before anything is written: "lists untouched", and the count is 0
 unfoldable pub unwritten : Refusal → List ℕ → Written × List ℕ
-unwritten r lent = (record { count = 0; outcome = Refused r }, lent)
+unwritten r lent = (record { count = 0; outcome = Err r }, lent)
 
 -- Refusals 1, 9, 10. "With no runs, any `from` gives an empty list"
 unfoldable pub cut_outcome : CausalGraph → ℕ → Outcome
@@ -66,6 +64,6 @@ cut_outcome g f =
 -- `split_at_critical_versions_from(from)` into a lent list, and the list afterwards
 unfoldable pub cut_of : CausalGraph → ℕ → List ℕ → Written × List ℕ
 cut_of g f lent = elim (cut_outcome g f) [
-  | Done ↦ writing 3 (map range_words (cut_from (view g) f)) lent
-  | Refused r ↦ unwritten r lent
+  | Ok _ ↦ writing 3 (map range_words (cut_from (view g) f)) lent
+  | Err r ↦ unwritten r lent
 ]

@@ -1,14 +1,12 @@
 -- 01, "pushes and run starts": `new` and `after`. Assumes nothing.
-use Rattle.std.specs.Prelude.{not, List, [], ◌∷◌, ℕ, length, ltb}
+use Rattle.std.specs.Prelude.{not, List, [], ◌∷◌, ℕ, length, ltb, Ok, Err}
 use Rattle.lists.specs.Lists.{rising, below}
 use Rattle.model.specs.declared.record.CausalGraph.{CausalGraph}
-use Rattle.model.specs.declared.answers.Made.{Made}
-use Rattle.model.specs.declared.answers.Outcome.{Outcome}
-use Rattle.model.specs.declared.answers.Outcome.TheVariants.{Done, Refused}
 use Rattle.model.specs.Limits.{max_frontier}
-use Rattle.model.specs.Refusals.{first_of}
+use Rattle.model.specs.Refusals.{first_of, Outcome}
 use Rattle.model.specs.Graph.{Graph}
 use Rattle.model.specs.Record.{store}
+use Rattle.model.specs.Answers.{Made}
 
 -- The graph with no runs after the first `events` events, whose frontier is `frontier`; `changed_from` "is 0 in a fresh graph"
 unfoldable pub fresh : ℕ → List ℕ → Graph
@@ -26,6 +24,6 @@ after_outcome events frontier =
 -- `after(events, frontier)`; "a refused `after` gives `new`"
 unfoldable pub after_of : ℕ → List ℕ → Made
 after_of events frontier = elim (after_outcome events frontier) [
-  | Done ↦ record { graph = store (fresh events frontier); outcome = Done }
-  | Refused r ↦ record { graph = new_of; outcome = Refused r }
+  | Ok _ ↦ record { graph = store (fresh events frontier); answer = Ok tt }
+  | Err r ↦ record { graph = new_of; answer = Err r }
 ]

@@ -1,19 +1,15 @@
 -- 01, "Full replay and the plain set": demand 3's calls, and the plain log, which is fed them and their answers and never reads the
 -- graph. Assumes nothing.
-use Rattle.std.specs.Prelude.{Bool, true, false, cond, ◌&&◌, List, [], ◌∷◌, map, ℕ, suc, ◌+◌, ◌-◌, length, get_or, leb, ltb, eqb}
+use Rattle.std.specs.Prelude.{Bool, true, false, cond, ◌&&◌, List, [], ◌∷◌, map, ℕ, suc, ◌+◌, ◌-◌, length, get_or, leb, ltb, eqb, Ok, Err}
 use Rattle.lists.specs.Lists.{filter, same}
 use Rattle.model.specs.declared.record.CausalGraph.{CausalGraph}
-use Rattle.model.specs.declared.answers.Outcome.{Outcome}
-use Rattle.model.specs.declared.answers.Outcome.TheVariants.{Done, Refused}
-use Rattle.model.specs.declared.answers.EventsAnswer.{EventsAnswer}
-use Rattle.model.specs.declared.answers.EventsAnswer.TheVariants.{Events, Refused as RefusedEvents}
-use Rattle.model.specs.declared.answers.BoolAnswer.{BoolAnswer}
-use Rattle.model.specs.declared.answers.BoolAnswer.TheVariants.{Told, Refused as RefusedBool}
-use Rattle.model.specs.declared.answers.RunAnswer.{RunAnswer}
 use Rattle.model.specs.EventGraph.{EventGraph}
 use Rattle.model.specs.Fresh.{new_of, after_of}
 use Rattle.model.specs.Push.{push_of}
 use Rattle.model.specs.Start.{start_run_at_of, take_changed_from_of}
+use Rattle.model.specs.Refusals.{OrRefusal, Outcome}
+use Rattle.model.specs.declared.record.EventIndex.{EventIndex}
+use Rattle.model.specs.declared.record.EventRunIndex.{EventRunIndex}
 
 -- "Fresh: `new`, or `after(events, frontier)`"
 pub data Fresh : Type 0 where
@@ -28,14 +24,14 @@ pub data Call : Type 0 where
 
 -- what each call answers
 abbrev pub Answer : Call → Type 0
-Answer (push ps n) = EventsAnswer
-Answer (start_run_at at) = BoolAnswer
-Answer take_changed_from = RunAnswer
+Answer (push ps n) = OrRefusal (EventIndex × EventIndex)
+Answer (start_run_at at) = OrRefusal Bool
+Answer take_changed_from = OrRefusal EventRunIndex
 
 -- a fresh graph, and how `after` ended
 unfoldable pub begin : Fresh → Outcome × CausalGraph
-begin new = (Done, new_of)
-begin (after events frontier) = let r = after_of events frontier in (r.outcome, r.graph)
+begin new = (Ok tt, new_of)
+begin (after events frontier) = let r = after_of events frontier in (r.answer, r.graph)
 
 -- a call made on a graph: its answer, and the graph it leaves
 unfoldable pub answer : CausalGraph → (c : Call) → Answer c × CausalGraph
@@ -56,8 +52,8 @@ empty_log f = record { first_held = f; next = f; parents = λ e. []; edges = [] 
 
 unfoldable pub begin_log : Fresh → Outcome → Log
 begin_log new o = empty_log 0
-begin_log (after events frontier) Done = empty_log events
-begin_log (after events frontier) (Refused r) = empty_log 0
+begin_log (after events frontier) (Ok _) = empty_log events
+begin_log (after events frontier) (Err r) = empty_log 0
 
 -- an edge put in its place; one that is there stays
 unfoldable pub edge : ℕ → List ℕ → List ℕ
@@ -92,11 +88,11 @@ log_start l at = record { first_held = l.first_held; next = l.next; parents = l.
 
 -- "A refused call, a run start told false and a take change nothing"
 unfoldable pub note : Log → (c : Call) → Answer c → Log
-note l (push ps n) (Events a b) = log_push l ps n
-note l (push ps n) (RefusedEvents r) = l
-note l (start_run_at at) (Told true) = log_start l at
-note l (start_run_at at) (Told false) = l
-note l (start_run_at at) (RefusedBool r) = l
+note l (push ps n) (Ok (a, b)) = log_push l ps n
+note l (push ps n) (Err r) = l
+note l (start_run_at at) (Ok true) = log_start l at
+note l (start_run_at at) (Ok false) = l
+note l (start_run_at at) (Err r) = l
 note l take_changed_from a = l
 
 -- "Each call .. gets the graph that the last one gave back or left": the graph and the log after a list of calls

@@ -1,19 +1,17 @@
 -- 01, "The book and its program": what `replay` prints, as lines and as text. Assumes nothing.
-use Rattle.std.specs.Prelude.{true, false, List, [], ◌∷◌, ◌++◌, map, ℕ, zero, suc, ◌+◌, ◌*◌, ◌/◌, ◌%◌, take, replicate, ltb}
+use Rattle.std.specs.Prelude.{true, false, List, [], ◌∷◌, ◌++◌, map, ℕ, zero, suc, ◌+◌, ◌*◌, ◌/◌, ◌%◌, take, replicate, ltb, Ok, Err}
 use Rattle.std.proofs.Math.Option.{none, some}
 use Prim.Native.Char.{code}
 use Prim.Native.String.{String, [] as end, ◌∷◌ as ◌then◌}
 use Rattle.lists.specs.Lists.{concat}
 use Rattle.model.specs.declared.record.CausalGraph.{CausalGraph}
-use Rattle.model.specs.declared.answers.Outcome.{Outcome}
-use Rattle.model.specs.declared.answers.Outcome.TheVariants.{Done, Refused}
-use Rattle.model.specs.declared.answers.BookAnswer.TheVariants.{Whole, Refused as RefusedBook, PushRefused}
 use Rattle.model.specs.Limits.{lent_rows, lent_steps}
-use Rattle.model.specs.Refusals.{number}
+use Rattle.model.specs.Refusals.{number, Outcome}
 use Rattle.model.specs.Steps.{Step, retreat, advance, opened, apply}
 use Rattle.model.specs.Reader.{said}
 use Rattle.model.specs.Replay.{replay_of}
 use Rattle.model.specs.Book.{book_of}
+use Rattle.model.specs.declared.answers.BookRefusal.TheVariants.{Refused, PushRefused}
 
 -- A line of output
 pub data Line : Type 0 where
@@ -28,8 +26,8 @@ said_steps ws = elim (said ws) [ none ↦ [] | some ss ↦ ss ]
 
 -- "then `moved n`"; "A refused replay prints the steps written, then `refused n`"
 unfoldable pub last_line : Outcome → ℕ → Line
-last_line Done moved = moved_line moved
-last_line (Refused r) moved = refused_line (number r)
+last_line (Ok _) moved = moved_line moved
+last_line (Err r) moved = refused_line (number r)
 
 -- `replay` "lends 4,096 steps and 8,192 row words" and "prints a line per step"
 unfoldable pub replay_lines : CausalGraph → List Line
@@ -42,9 +40,9 @@ unfoldable pub printed : List ℕ → List Line
 printed bytes =
     let b = book_of bytes in
     elim b.answer [
-      | Whole ↦ replay_lines b.graph
-      | RefusedBook r ↦ refused_line (number r) ∷ []
-      | PushRefused r k ↦ push_refused_line (number r) k ∷ []
+      | Ok _ ↦ replay_lines b.graph
+      | Err (Refused r) ↦ refused_line (number r) ∷ []
+      | Err (PushRefused r k) ↦ push_refused_line (number r) k ∷ []
     ]
 
 -- The codes of a text's characters: its bytes, where they are ASCII

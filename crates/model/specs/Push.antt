@@ -1,14 +1,11 @@
 -- 01, "pushes and run starts": `push`, what it answers and the graph it leaves, on every input. Assumes nothing.
-use Rattle.std.specs.Prelude.{true, false, not, cond, ◌&&◌, List, [], ◌∷◌, ◌++◌, map, ℕ, suc, ◌+◌, ◌-◌, min, length, get_or, take, ltb, eqb}
+use Rattle.std.specs.Prelude.{true, false, not, cond, ◌&&◌, List, [], ◌∷◌, ◌++◌, map, ℕ, suc, ◌+◌, ◌-◌, min, length, get_or, take, ltb, eqb, Ok, Err}
 use Rattle.lists.specs.Lists.{filter, mem, same, rising, largest, least}
 use Rattle.model.specs.declared.record.CausalGraph.{CausalGraph}
-use Rattle.model.specs.declared.answers.Pushed.{Pushed}
 use Rattle.model.specs.declared.answers.Refusal.{Refusal}
-use Rattle.model.specs.declared.answers.Outcome.{Outcome}
-use Rattle.model.specs.declared.answers.Outcome.TheVariants.{Done, Refused}
 use Rattle.model.specs.Limits.{max_len, max_runs, max_entries, max_frontier}
-use Rattle.model.specs.Refusals.{refusal, first_of}
-use Rattle.model.specs.Answers.{events_or}
+use Rattle.model.specs.Refusals.{refusal, first_of, Outcome}
+use Rattle.model.specs.Answers.{events_or, Pushed}
 use Rattle.model.specs.Graph.{Graph, runs, start, first_held, len, entries, containing, marks, held, all_known, extends}
 use Rattle.model.specs.Record.{view, store}
 use Rattle.model.specs.Broken.{broken}
@@ -83,15 +80,15 @@ push_outcome g ps n =
 
 -- "takes events from `len`() on": the first new event and the end
 unfoldable pub pushed : Graph → List ℕ → ℕ → Pushed
-pushed g ps n = record { graph = store (push g ps n); answer = events_or Done (len g) (len g + n) }
+pushed g ps n = record { graph = store (push g ps n); answer = events_or (Ok tt) (len g) (len g + n) }
 
 -- "Graph unchanged"
 unfoldable pub push_refused : CausalGraph → Refusal → Pushed
-push_refused g r = record { graph = g; answer = events_or (Refused r) 0 0 }
+push_refused g r = record { graph = g; answer = events_or (Err r) 0 0 }
 
 -- `push(parents, len)` on a graph that is not broken
 unfoldable pub push_held_of : CausalGraph → List ℕ → ℕ → Pushed
-push_held_of g ps n = elim (push_outcome (view g) ps n) [ Done ↦ pushed (view g) ps n | Refused r ↦ push_refused g r ]
+push_held_of g ps n = elim (push_outcome (view g) ps n) [ Ok _ ↦ pushed (view g) ps n | Err r ↦ push_refused g r ]
 
 -- `push(parents, len)`
 unfoldable pub push_of : CausalGraph → List ℕ → ℕ → Pushed

@@ -1,11 +1,10 @@
 -- 01, "Beside it" and refusal 16: the step reader, and what a list of words says. Assumes nothing.
-use Rattle.std.specs.Prelude.{List, [], ◌∷◌, ℕ, zero, suc, ◌+◌, drop}
+use Rattle.std.specs.Prelude.{List, [], ◌∷◌, ℕ, zero, suc, ◌+◌, drop, Ok, Err, Some, None}
+use Rattle.model.specs.Answers.{NextStep}
 use Rattle.std.proofs.Math.Option.{Option, none, some}
-use Rattle.model.specs.Refusals.{refusal}
+use Rattle.model.specs.Refusals.{refusal, OrRefusal}
 use Rattle.model.specs.declared.steps.WalkStep.{WalkStep}
 use Rattle.model.specs.declared.steps.WalkStep.TheVariants.{Retreat, Advance, Apply, Open}
-use Rattle.model.specs.declared.steps.NextStep.{NextStep}
-use Rattle.model.specs.declared.steps.NextStep.TheVariants.{Step as Given, End, Refused}
 use Rattle.model.specs.Steps.{Step, retreat, advance, opened, apply}
 
 -- A step by its kind, first run and end run; none with a kind above 3
@@ -32,10 +31,10 @@ as_step (opened a b) = Open (record { 0 = a }) (record { 0 = b })
 
 -- What the words from `at` on give: a step and the place after it, or the end; 16 leaves the "reader unmoved"
 unfoldable pub next_in : List ℕ → ℕ → NextStep × ℕ
-next_in [] at = (End, at)
-next_in (k ∷ []) at = (End, at)
-next_in (k ∷ a ∷ []) at = (End, at)
-next_in (k ∷ a ∷ b ∷ ws) at = elim (decoded k a b) [ none ↦ (Refused (refusal 16), at) | some s ↦ (Given (as_step s), at + 3) ]
+next_in [] at = ((Ok None), at)
+next_in (k ∷ []) at = ((Ok None), at)
+next_in (k ∷ a ∷ []) at = ((Ok None), at)
+next_in (k ∷ a ∷ b ∷ ws) at = elim (decoded k a b) [ none ↦ (Err (refusal 16), at) | some s ↦ (Ok (Some (as_step s)), at + 3) ]
 
 -- `next` of a step reader over `words` that stands at `at`: what it hands out, and where it then stands
 unfoldable pub next_of : List ℕ → ℕ → NextStep × ℕ

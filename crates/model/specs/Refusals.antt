@@ -1,9 +1,15 @@
 -- 01, "What a refused call gives": the numbers of the table. Assumes nothing.
-use Rattle.std.specs.Prelude.{ℕ, zero, suc, ◌-◌, Bool, cond, List, [], ◌∷◌}
+use Rattle.std.specs.Prelude.{ℕ, zero, suc, ◌-◌, Bool, cond, List, [], ◌∷◌, Result, Ok, Err}
 use Rattle.model.specs.declared.answers.Refusal.{Refusal}
 use Rattle.model.specs.declared.answers.Refusal.TheVariants.{Broken, NoEvents, NotRising, UnknownEvent, TooManyEvents, TooManyRuns, TooManyEntries, FrontierTooLong, Outside, Unmarked, ListTooShort, KnownTooLong, RowsTooLong, BookTooShort, BookTooLong, UnknownKind, NoSuchParents}
-use Rattle.model.specs.declared.answers.Outcome.{Outcome}
-use Rattle.model.specs.declared.answers.Outcome.TheVariants.{Done, Refused}
+
+-- what a call answers: a value, or why it was refused
+abbrev pub OrRefusal : Type 0 → Type 0
+OrRefusal A = Result A Refusal
+
+-- done, or refused
+abbrev pub Outcome : Type 0
+Outcome = OrRefusal (Unit {0})
 
 -- 01's number of each case
 unfoldable pub number : Refusal → ℕ
@@ -58,5 +64,5 @@ refusal n = case_at table (n - 1)
 
 -- Checked in the order shown: the first case that applies, by its number
 unfoldable pub first_of : List (Bool × ℕ) → Outcome
-first_of [] = Done
-first_of (t ∷ ts) = cond t.0 (Refused (refusal t.1)) (first_of ts)
+first_of [] = Ok tt
+first_of (t ∷ ts) = cond t.0 (Err (refusal t.1)) (first_of ts)

@@ -1,14 +1,10 @@
 -- 01, "pushes and run starts": `start_run_at` and `take_changed_from`, on every input. Assumes nothing.
-use Rattle.std.specs.Prelude.{Bool, true, false, not, ◌&&◌, ◌||◌, [], ◌∷◌, ℕ, suc, ◌+◌, ltb, eqb}
+use Rattle.std.specs.Prelude.{Bool, true, false, not, ◌&&◌, ◌||◌, [], ◌∷◌, ℕ, suc, ◌+◌, ltb, eqb, Ok, Err}
 use Rattle.model.specs.declared.record.CausalGraph.{CausalGraph}
-use Rattle.model.specs.declared.answers.Started.{Started}
-use Rattle.model.specs.declared.answers.Taken.{Taken}
 use Rattle.model.specs.declared.answers.Refusal.{Refusal}
-use Rattle.model.specs.declared.answers.Outcome.{Outcome}
-use Rattle.model.specs.declared.answers.Outcome.TheVariants.{Done, Refused}
 use Rattle.model.specs.Limits.{max_runs, max_entries}
-use Rattle.model.specs.Refusals.{refusal, first_of}
-use Rattle.model.specs.Answers.{bool_or, run_or}
+use Rattle.model.specs.Refusals.{refusal, first_of, Outcome}
+use Rattle.model.specs.Answers.{answer_or, run_or, Started, Taken}
 use Rattle.model.specs.Graph.{Graph, runs, start, entries, containing, marked, in_run, before, unknown, side}
 use Rattle.model.specs.Record.{view, store}
 use Rattle.model.specs.Broken.{broken}
@@ -38,11 +34,11 @@ unfoldable pub split_outcome : Graph → Outcome
 split_outcome g = first_of ((ltb max_runs (runs g + 1), 6) ∷ (ltb max_entries (entries g + 1), 7) ∷ [])
 
 unfoldable pub told : CausalGraph → Bool → Started
-told g b = record { graph = g; answer = bool_or Done b }
+told g b = record { graph = g; answer = answer_or (Ok tt) b }
 
 -- "Graph unchanged"
 unfoldable pub start_refused : CausalGraph → Refusal → Started
-start_refused g r = record { graph = g; answer = bool_or (Refused r) false }
+start_refused g r = record { graph = g; answer = answer_or (Err r) false }
 
 -- `start_run_at(at)` on a graph that is not broken
 unfoldable pub start_held_of : CausalGraph → ℕ → Started
@@ -50,7 +46,7 @@ start_held_of g at =
     let a = view g in
     elim (starting a at) [
       | answers b ↦ told g b
-      | splitting ↦ elim (split_outcome a) [ Done ↦ told (store (split a (containing a at) at)) true | Refused r ↦ start_refused g r ]
+      | splitting ↦ elim (split_outcome a) [ Ok _ ↦ told (store (split a (containing a at) at)) true | Err r ↦ start_refused g r ]
     ]
 
 -- `start_run_at(at)`
@@ -63,8 +59,8 @@ taken g = record { starts = g.starts; parents = g.parents; frontier = g.frontier
 
 -- `take_changed_from()` on a graph that is not broken
 unfoldable pub take_held_of : CausalGraph → Taken
-take_held_of g = record { graph = store (taken (view g)); answer = run_or Done g.changed_from.0 }
+take_held_of g = record { graph = store (taken (view g)); answer = run_or (Ok tt) g.changed_from.0 }
 
 -- `take_changed_from()`
 unfoldable pub take_changed_from_of : CausalGraph → Taken
-take_changed_from_of g = elim (broken g) [ true ↦ record { graph = g; answer = run_or (Refused (refusal 1)) 0 } | false ↦ take_held_of g ]
+take_changed_from_of g = elim (broken g) [ true ↦ record { graph = g; answer = run_or (Err (refusal 1)) 0 } | false ↦ take_held_of g ]

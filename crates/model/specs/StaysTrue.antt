@@ -1,8 +1,7 @@
 -- 02, F-4: a run start once told true stays true, and what that rests on. Over the definitions that the calls' contracts cite, by value and
 -- lent. Assumes nothing.
-use Rattle.std.specs.Prelude.{◌≡◌, true, false, List, [], ◌∷◌, ◌++◌, ℕ, ◌≤◌, ◌<◌, get_or}
+use Rattle.std.specs.Prelude.{◌≡◌, true, false, List, [], ◌∷◌, ◌++◌, ℕ, ◌≤◌, ◌<◌, get_or, Ok}
 use Rattle.model.specs.declared.record.CausalGraph.{CausalGraph}
-use Rattle.model.specs.declared.answers.BoolAnswer.TheVariants.{Told}
 use Rattle.model.specs.Graph.{Graph, runs, start, marked}
 use Rattle.model.specs.Record.{view}
 use Rattle.model.specs.Start.{told, start_run_at_of}
@@ -10,7 +9,7 @@ use Rattle.model.specs.Log.{Fresh, Call, start_run_at, made_by}
 
 -- A run start at this event is told true: it is not refused, and not told false
 abbrev pub ToldTrue : CausalGraph → ℕ → Type 0
-ToldTrue g at = (start_run_at_of g at).answer ≡ Told true
+ToldTrue g at = (start_run_at_of g at).answer ≡ Ok true
 
 -- An unmarked run starts at event e
 pub record UnmarkedAt (g : Graph) (e : ℕ) : Type 0 where

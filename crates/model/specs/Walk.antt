@@ -1,14 +1,12 @@
 -- 01, "walk.rs" and "What a refused call gives": `walk`, what it answers and what it leaves in the lent lists, on every input. Assumes
 -- nothing.
-use Rattle.std.specs.Prelude.{Bool, true, false, cond, ◌||◌, List, [], ◌∷◌, ℕ, ◌-◌, ◌/◌, length, take, ltb}
+use Rattle.std.specs.Prelude.{Bool, true, false, cond, ◌||◌, List, [], ◌∷◌, ℕ, ◌-◌, ◌/◌, length, take, ltb, Ok, Err}
 use Rattle.lists.specs.Lists.{concat}
 use Rattle.lists.specs.Areas.{over, fitting}
 use Rattle.model.specs.declared.record.CausalGraph.{CausalGraph}
 use Rattle.model.specs.declared.answers.Walked.{Walked}
 use Rattle.model.specs.declared.answers.Refusal.{Refusal}
-use Rattle.model.specs.declared.answers.Outcome.{Outcome}
-use Rattle.model.specs.declared.answers.Outcome.TheVariants.{Done, Refused}
-use Rattle.model.specs.Refusals.{refusal, first_of}
+use Rattle.model.specs.Refusals.{refusal, first_of, Outcome}
 use Rattle.model.specs.Graph.{Graph, runs}
 use Rattle.model.specs.Record.{view}
 use Rattle.model.specs.Broken.{broken}
@@ -25,7 +23,7 @@ wrote g o ss rows steps = (record { count = length ss; moved = moved_in g ss; ou
 
 -- Refused with no step written: "Count and `moved` are 0"
 unfoldable pub unwalked : Refusal → List ℕ → List ℕ → WalkResult
-unwalked r rows steps = (record { count = 0; moved = 0; outcome = Refused r }, rows, steps)
+unwalked r rows steps = (record { count = 0; moved = 0; outcome = Err r }, rows, steps)
 
 -- "Rows lie in run order from the area's start without gaps"; those that fit, where they do not all
 unfoldable pub rows_into : Range → List ℕ → List ℕ
@@ -37,7 +35,7 @@ rows_too_long w rows = ltb (length rows) (length (concat w.rows))
 
 -- 11: a list of `room` steps holds fewer than there are
 unfoldable pub list_outcome : ℕ → List Step → Outcome
-list_outcome room ss = cond (ltb room (length ss)) (Refused (refusal 11)) Done
+list_outcome room ss = cond (ltb room (length ss)) (Err (refusal 11)) (Ok tt)
 
 -- Refusals 1, 9, 12, before anything is written
 unfoldable pub range_outcome : CausalGraph → ℕ → ℕ → ℕ → Outcome
@@ -59,6 +57,6 @@ walk_range g a b known first rows steps =
 -- `walk(range, known, first)` with a row area and a step list
 unfoldable pub walk_of : CausalGraph → ℕ → ℕ → ℕ → ℕ → List ℕ → List ℕ → WalkResult
 walk_of g a b known first rows steps = elim (range_outcome g a b known) [
-  | Done ↦ walk_range (view g) a b known first rows steps
-  | Refused r ↦ unwalked r rows steps
+  | Ok _ ↦ walk_range (view g) a b known first rows steps
+  | Err r ↦ unwalked r rows steps
 ]

@@ -1,15 +1,12 @@
 -- 02, F-3: the parents that give a wanted version, on every input, and what is claimed of them. Assumes nothing.
-use Rattle.std.specs.Prelude.{◌≡◌, ◌↔◌, Bool, true, false, not, ◌&&◌, List, [], ◌∷◌, ◌++◌, ℕ, ◌-◌, ◌≤◌, length, take, drop, ltb}
+use Rattle.std.specs.Prelude.{◌≡◌, ◌↔◌, Bool, true, false, not, ◌&&◌, List, [], ◌∷◌, ◌++◌, ℕ, ◌-◌, ◌≤◌, length, take, drop, ltb, Ok, Err}
 use Rattle.lists.specs.Lists.{from, mem, rising}
 use Rattle.lists.specs.Areas.{over}
 use Rattle.model.specs.declared.record.CausalGraph.{CausalGraph}
 use Rattle.model.specs.declared.record.EventIndex.{EventIndex}
 use Rattle.model.specs.declared.answers.Written.{Written}
-use Rattle.model.specs.declared.answers.Outcome.{Outcome}
-use Rattle.model.specs.declared.answers.Outcome.TheVariants.{Done, Refused}
-use Rattle.model.specs.declared.answers.EventsAnswer.TheVariants.{Events}
 use Rattle.model.specs.EventGraph.{EventGraph, HappenedBefore, InEvents, Version, maximal, closed}
-use Rattle.model.specs.Refusals.{refusal, first_of}
+use Rattle.model.specs.Refusals.{refusal, first_of, Outcome}
 use Rattle.model.specs.Graph.{Graph, all_held}
 use Rattle.model.specs.Record.{Sized, view}
 use Rattle.model.specs.Broken.{broken}
@@ -51,8 +48,8 @@ wanted_outcome g ws lent =
 -- The wanted parents into a lent list, a word each, and the list afterwards: "a short list gets 11 and stays untouched"
 unfoldable pub wanted_parents_of : CausalGraph → List ℕ → List ℕ → Written × List ℕ
 wanted_parents_of g ws lent = elim (wanted_outcome g ws lent) [
-  | Done ↦ (record { count = length (wanted_parents (view g) ws); outcome = Done }, over (wanted_parents (view g) ws) lent)
-  | Refused r ↦ unwritten r lent
+  | Ok _ ↦ (record { count = length (wanted_parents (view g) ws); outcome = Ok tt }, over (wanted_parents (view g) ws) lent)
+  | Err r ↦ unwritten r lent
 ]
 
 -- "an event pushed on it has seen exactly" these events: Events(V) of the list is the set
@@ -66,25 +63,25 @@ ended g ws lent o = (wanted_parents_of g ws lent).0.outcome ≡ o
 -- What is claimed of the wanted parents. A record is `Sized` as its arrays are: of every value of the code
 pub record Wanted : Type 0 where
   -- done, it gives the marked events: "the rising list of held events, none an ancestor of another, such that .."
-  pub gives : (g : CausalGraph) (ws lent : List ℕ) → Sized g → ended g ws lent Done →
+  pub gives : (g : CausalGraph) (ws lent : List ℕ) → Sized g → ended g ws lent (Ok tt) →
       Version (held_events (view g)) (wanted_parents (view g) ws) × Gives (held_events (view g)) (wanted_parents (view g) ws) (events_in ws)
-  pub rises : (g : CausalGraph) (ws lent : List ℕ) → ended g ws lent Done → rising (wanted_parents (view g) ws) ≡ true
+  pub rises : (g : CausalGraph) (ws lent : List ℕ) → ended g ws lent (Ok tt) → rising (wanted_parents (view g) ws) ≡ true
   -- no other such list does
   pub only : (g : Graph) (ws vs : List ℕ) → ranges ws ≡ true → rising vs ≡ true → Version (held_events g) vs → Gives (held_events g) vs (events_in ws) →
       vs ≡ wanted_parents g ws
   -- 17 comes exactly where, of ranges that are not faulty, all of held events, "no list of held events does that", be it rising or not, with
   -- ancestors of one another in it or not
-  pub none : (g : CausalGraph) (ws lent : List ℕ) → Sized g → ended g ws lent (Refused (refusal 17)) ↔
+  pub none : (g : CausalGraph) (ws lent : List ℕ) → Sized g → ended g ws lent (Err (refusal 17)) ↔
       ((broken g ≡ false) × (ranges ws ≡ true) × (all_held (view g) (events_in ws) ≡ true) ×
       ((vs : List ℕ) → all_held (view g) vs ≡ true → ¬ Gives (held_events (view g)) vs (events_in ws)))
   -- on a graph that calls made, an event pushed on the answer has in the plain log exactly the marked events for ancestors
   pub pushed : (f : Fresh) (cs : List Call) (ws lent : List ℕ) (n : ℕ) (a b : EventIndex) → let g : CausalGraph = (made_by f cs).0 in
-      ended g ws lent Done → (push_of g (wanted_parents (view g) ws) n).answer ≡ Events a b →
+      ended g ws lent (Ok tt) → (push_of g (wanted_parents (view g) ws) n).answer ≡ Ok (a, b) →
       (e : ℕ) → HappenedBefore (event_graph (made_by f (cs ++ push (wanted_parents (view g) ws) n ∷ [])).1) e a.0 ↔ (mem e (events_in ws) ≡ true)
   -- it stands in the list's first words, and what lies behind it keeps its value
-  pub written : (g : CausalGraph) (ws lent : List ℕ) → ended g ws lent Done → let w = wanted_parents_of g ws lent in
+  pub written : (g : CausalGraph) (ws lent : List ℕ) → ended g ws lent (Ok tt) → let w = wanted_parents_of g ws lent in
       (take w.0.count w.1 ≡ wanted_parents (view g) ws) × (drop w.0.count w.1 ≡ drop w.0.count lent)
   -- so many words as it tells are there, done or refused
   pub fits : (g : CausalGraph) (ws lent : List ℕ) → (wanted_parents_of g ws lent).0.count ≤ length lent
   -- "The empty mark gives the empty list"
-  pub nothing : (g : CausalGraph) (lent : List ℕ) → broken g ≡ false → wanted_parents_of g [] lent ≡ (record { count = 0; outcome = Done }, lent)
+  pub nothing : (g : CausalGraph) (lent : List ℕ) → broken g ≡ false → wanted_parents_of g [] lent ≡ (record { count = 0; outcome = Ok tt }, lent)

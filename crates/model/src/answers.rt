@@ -1,12 +1,9 @@
 // What the calls of 01 answer, and 01's number of each refusal.
-ghost use Rattle.std.specs.Prelude.{◌≡◌};
-ghost use Rattle.model.specs.Refusals;
-
 use crate::limits::{MAX_FRONTIER, MAX_RUNS};
-use crate::record::{CausalGraph, EventIndex, EventRunIndex};
+use crate::record::{CausalGraph, EventRunIndex};
 
 // 01, "What a refused call gives": a variant for each row of the table, named by its case.
-#[derive(Clone, Copy)]
+#[derive(Clone, Copy, Debug, PartialEq, Eq)]
 pub enum Refusal {
     Broken,
     NoEvents,
@@ -28,9 +25,14 @@ pub enum Refusal {
 }
 
 // 01's number of a refusal: the one place in code that knows it.
-pub fn number(r: Refusal) -> u32
-    ensures { result ≡ Refusals.number r }
-{
+impl From<Refusal> for u32 {
+    ghost use Rattle.std.specs.Prelude.{◌≡◌};
+    ghost use Rattle.model.specs.Refusals;
+
+    ghost from_gives = { λ r n. n ≡ Refusals.number r };
+
+    #[tactic(auto, unfolding(crate::specs::Refusals::number))]
+    fn from(r: Refusal) -> u32 {
     match r {
         Refusal::Broken => 1,
         Refusal::NoEvents => 2,
@@ -50,75 +52,23 @@ pub fn number(r: Refusal) -> u32
         Refusal::UnknownKind => 16,
         Refusal::NoSuchParents => 17,
     }
+    }
 }
 
-// Done, or refused.
+// Where an event lies: in a run; before the graph; or not yet known.
 #[derive(Clone, Copy)]
-pub enum Outcome {
-    Done,
-    Refused(Refusal),
-}
-
-// An event; a range of events, first and end, exclusive; a run; where an event lies; a truth.
-#[derive(Clone, Copy)]
-pub enum EventAnswer {
-    Event(EventIndex),
-    Refused(Refusal),
-}
-
-#[derive(Clone, Copy)]
-pub enum EventsAnswer {
-    Events(EventIndex, EventIndex),
-    Refused(Refusal),
-}
-
-#[derive(Clone, Copy)]
-pub enum RunAnswer {
-    Run(EventRunIndex),
-    Refused(Refusal),
-}
-
-// In a run; before the graph; or not yet known.
-#[derive(Clone, Copy)]
-pub enum ContainingAnswer {
+pub enum Containing {
     Run(EventRunIndex),
     Before,
     Unknown,
-    Refused(Refusal),
 }
 
+// The graph after a call that may change it, refused or not, and what the call answers: of `after` nothing, of a push the first of the
+// new events and their end, exclusive, of a run start a truth, of a take the run. A refused `after` gives the graph of `new`.
 #[derive(Clone, Copy)]
-pub enum BoolAnswer {
-    Told(bool),
-    Refused(Refusal),
-}
-
-// The graph that `after` makes; refused, that of `new`.
-#[derive(Clone, Copy)]
-pub struct Made {
+pub struct Changed<T> {
     pub graph: CausalGraph,
-    pub outcome: Outcome,
-}
-
-// The graph after a push, and the new events.
-#[derive(Clone, Copy)]
-pub struct Pushed {
-    pub graph: CausalGraph,
-    pub answer: EventsAnswer,
-}
-
-// The graph after a run start, and what was told.
-#[derive(Clone, Copy)]
-pub struct Started {
-    pub graph: CausalGraph,
-    pub answer: BoolAnswer,
-}
-
-// The graph after a take, and the run taken.
-#[derive(Clone, Copy)]
-pub struct Taken {
-    pub graph: CausalGraph,
-    pub answer: RunAnswer,
+    pub answer: Result<T, Refusal>,
 }
 
 // A run's parents, which are runs: `count` of them, then zeros.
@@ -126,7 +76,6 @@ pub struct Taken {
 pub struct ParentRuns {
     pub runs: [u32; MAX_RUNS],
     pub count: usize,
-    pub outcome: Outcome,
 }
 
 // The frontier, which is events: `count` of them, then zeros.
@@ -134,28 +83,26 @@ pub struct ParentRuns {
 pub struct FrontierEvents {
     pub events: [u32; MAX_FRONTIER],
     pub count: usize,
-    pub outcome: Outcome,
 }
 
-// How many whole records were written into a lent list.
+// How many whole records were written into a lent list: where a later one did not fit too, so it stands beside the outcome.
 #[derive(Clone, Copy)]
 pub struct Written {
     pub count: usize,
-    pub outcome: Outcome,
+    pub outcome: Result<(), Refusal>,
 }
 
-// How many steps a walk or a full replay wrote, and how many events its written retreats and advances hold.
+// How many steps a walk or a full replay wrote, and how many events its written retreats and advances hold; refused or not.
 #[derive(Clone, Copy)]
 pub struct Walked {
     pub count: u64,
     pub moved: u64,
-    pub outcome: Outcome,
+    pub outcome: Result<(), Refusal>,
 }
 
-// What became of a book: all of it taken; refused; or its push `k` refused.
+// Why a book was not taken whole: it is refused; or its push `k` is.
 #[derive(Clone, Copy)]
-pub enum BookAnswer {
-    Whole,
+pub enum BookRefusal {
     Refused(Refusal),
     PushRefused(Refusal, u32),
 }
@@ -164,5 +111,5 @@ pub enum BookAnswer {
 #[derive(Clone, Copy)]
 pub struct BookRead {
     pub graph: CausalGraph,
-    pub answer: BookAnswer,
+    pub answer: Result<(), BookRefusal>,
 }

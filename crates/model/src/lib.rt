@@ -9,12 +9,11 @@ pub mod record;
 pub mod steps;
 
 pub use answers::{
-    BookAnswer, BookRead, BoolAnswer, ContainingAnswer, EventAnswer, EventsAnswer, FrontierEvents,
-    Made, Outcome, ParentRuns, Pushed, Refusal, RunAnswer, Started, Taken, Walked, Written, number,
+    BookRead, BookRefusal, Changed, Containing, FrontierEvents, ParentRuns, Refusal, Walked, Written,
 };
 pub use limits::{
     COVER_BITS, LENT_ROWS, LENT_STEPS, MAX_BOOK, MAX_ENTRIES, MAX_FRONTIER, MAX_LEN, MAX_RUNS,
     MAX_STARTS, MAX_WEIGHED,
 };
 pub use record::{CausalGraph, EventIndex, EventRunIndex};
-pub use steps::{NextStep, WalkStep};
+pub use steps::WalkStep;

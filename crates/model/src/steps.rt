@@ -1,5 +1,4 @@
 // Steps, as a step reader hands them out.
-use crate::answers::Refusal;
 use crate::record::EventRunIndex;
 
 // A step of a walk or a full replay: the paper's retreat, advance and apply, over runs (first run and end run,
@@ -10,12 +9,4 @@ pub enum WalkStep {
     Advance(EventRunIndex, EventRunIndex),
     Apply(EventRunIndex),
     Open(EventRunIndex, EventRunIndex),
-}
-
-// What a step reader hands out next.
-#[derive(Clone, Copy)]
-pub enum NextStep {
-    Step(WalkStep),
-    End,
-    Refused(Refusal),
 }

@@ -10,11 +10,8 @@ use Rattle.lists.specs.Lists.{concat}
 use Rattle.lists.specs.Areas.{over}
 use Rattle.lists.proofs.Pads.{take-over}
 use Rattle.model.specs.declared.record.CausalGraph.{CausalGraph}
-use Rattle.model.specs.declared.answers.Outcome.{Outcome}
-use Rattle.model.specs.declared.answers.Outcome.TheVariants.{Done, Refused as Not}
 use Rattle.model.specs.declared.answers.Refusal.{Refusal}
 use Rattle.model.specs.declared.answers.Refusal.TheVariants.{Broken, RowsTooLong, UnknownKind}
-use Rattle.model.specs.declared.steps.NextStep.TheVariants.{End, Refused}
 use Rattle.model.specs.Graph.{Graph}
 use Rattle.model.specs.Record.{view}
 use Rattle.model.specs.Broken.{broken}
@@ -30,13 +27,15 @@ use Rattle.reader.specs.Reading.{next_from, handed, read_all}
 use Rattle.reader.specs.RoundTrip.{just_these, written_in, ReadsBack, RoundTrip}
 use Rattle.reader.proofs.Decoding.{stays}
 use Rattle.reader.proofs.Handing.{reads-said, reads_unsaid}
+use Rattle.std.specs.Prelude.{Ok, Err, None}
+use Rattle.model.specs.Refusals.{Outcome}
 
 -- Words that say steps, or none; the words of steps
 said_read : (ws : List ℕ) (ss : List Step) → said ws ≡ some ss → read_all ws 0 ≡ just_these ss
 unfolding read_all just_these
-said_read ws ss e = reads-said (length ws) ws ws 0 ss refl (omega arith) e ∙ ap (λ (n : ℕ). (map as_step ss, (End, n))) (omega arith)
+said_read ws ss e = reads-said (length ws) ws ws 0 ss refl (omega arith) e ∙ ap (λ (n : ℕ). (map as_step ss, ((Ok None), n))) (omega arith)
 
-unsaid_refused : (ws : List ℕ) → said ws ≡ none → (read_all ws 0).1.0 ≡ Refused UnknownKind
+unsaid_refused : (ws : List ℕ) → said ws ≡ none → (read_all ws 0).1.0 ≡ Err UnknownKind
 unfolding read_all
 unsaid_refused ws e = reads_unsaid (length ws) ws ws 0 refl (omega arith) e
 
@@ -73,9 +72,9 @@ walks_read : (g : CausalGraph) (a b known first : ℕ) (rows steps : List ℕ) �
 unfolding walk_of
 walks_read g a b known first rows steps = go (range_outcome g a b known)
   where
-    go : (o : Outcome) → ReadsBack (elim o as (λ _. WalkResult) [ Done ↦ walk_range (view g) a b known first rows steps | Not r ↦ unwalked r rows steps ])
-    go Done = range_read (view g) a b known first rows steps
-    go (Not r) = unwalked-read r rows steps
+    go : (o : Outcome) → ReadsBack (elim o as (λ _. WalkResult) [ Ok _ ↦ walk_range (view g) a b known first rows steps | Err r ↦ unwalked r rows steps ])
+    go (Ok _) = range_read (view g) a b known first rows steps
+    go (Err r) = unwalked-read r rows steps
 
 -- Full replays
 replays_read : (g : CausalGraph) (rows steps : List ℕ) → ReadsBack (replay_of g rows steps)
@@ -89,7 +88,7 @@ replays_read g rows steps = go (broken g)
     go true = unwalked-read Broken rows steps
     go false = wrote-read (view g) all.0 all.1 all.2 steps
 
-unmoved : (r : StepReader) (x : Refusal) → (next_from r).0 ≡ Refused x → next_from r ≡ (Refused UnknownKind, r)
+unmoved : (r : StepReader) (x : Refusal) → (next_from r).0 ≡ Err x → next_from r ≡ (Err UnknownKind, r)
 unmoved r x e = ap (handed r) (stays r.words.now r.at x e)
 
 pub round_trip : RoundTrip

@@ -1,13 +1,13 @@
 -- 01, "Beside it": "A step reader is made over a written list and hands out its steps in turn; under three words left is the end". What
 -- stands at a place is `next_of` of the model. Assumes nothing.
-use Rattle.std.specs.Prelude.{List, [], ◌∷◌, ℕ, zero, suc, length}
+use Rattle.std.specs.Prelude.{List, [], ◌∷◌, ℕ, zero, suc, length, Ok, Err, Some, None}
+use Rattle.model.specs.Answers.{NextStep}
 use Rattle.std.specs.Borrow.{Bor}
 use Rattle.model.specs.declared.steps.WalkStep.{WalkStep}
-use Rattle.model.specs.declared.steps.NextStep.{NextStep}
-use Rattle.model.specs.declared.steps.NextStep.TheVariants.{Step as Given, End, Refused}
 use Rattle.model.specs.Reader.{next_of}
 use Rattle.reader.specs.declared.StepAt.{StepAt}
 use Rattle.reader.specs.declared.StepReader.{StepReader}
+use Rattle.model.specs.Refusals.{OrRefusal}
 
 -- An answer, and the place where the reader then stands
 abbrev pub step_at : NextStep → ℕ → StepAt
@@ -32,11 +32,11 @@ HandedOut = List WalkStep × (NextStep × ℕ)
 -- An answer, and what is handed out from the place beside it: the end and a refusal stop
 unfoldable pub before : NextStep × ℕ → (ℕ → HandedOut) → HandedOut
 before n later = elim n.0 [
-  | Given s ↦
+  | Ok (Some s) ↦
       let out = later n.1 in
       (s ∷ out.0, out.1)
-  | End ↦ ([], n)
-  | Refused r ↦ ([], n)
+  | Ok None ↦ ([], n)
+  | Err r ↦ ([], n)
 ]
 
 -- `next` again and again from `at` on, for at most `fuel` steps

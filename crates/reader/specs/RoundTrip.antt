@@ -1,10 +1,9 @@
 -- What is written as steps is read as the same steps, and refusal 16 leaves the "reader unmoved". Assumes nothing.
-use Rattle.std.specs.Prelude.{◌≡◌, List, map, ℕ, ◌*◌, length, take}
+use Rattle.std.specs.Prelude.{◌≡◌, List, map, ℕ, ◌*◌, length, take, Ok, Err, None}
 use Rattle.std.proofs.Math.Option.{none, some}
 use Rattle.model.specs.declared.record.CausalGraph.{CausalGraph}
 use Rattle.model.specs.declared.answers.Refusal.{Refusal}
 use Rattle.model.specs.declared.answers.Refusal.TheVariants.{UnknownKind}
-use Rattle.model.specs.declared.steps.NextStep.TheVariants.{End, Refused}
 use Rattle.model.specs.Steps.{Step, words}
 use Rattle.model.specs.Walk.{WalkResult, walk_of}
 use Rattle.model.specs.Replay.{replay_of}
@@ -14,7 +13,7 @@ use Rattle.reader.specs.Reading.{next_from, HandedOut, read_all}
 
 -- Just these steps, then the end
 unfoldable pub just_these : List Step → HandedOut
-just_these ss = (map as_step ss, (End, 3 * length ss))
+just_these ss = (map as_step ss, ((Ok None), 3 * length ss))
 
 -- The part of the step list that the answer counts: three words a step
 unfoldable pub written_in : WalkResult → List ℕ
@@ -35,6 +34,6 @@ pub record RoundTrip : Type 0 where
   pub replays_read : (g : CausalGraph) (rows steps : List ℕ) → ReadsBack (replay_of g rows steps)
   -- every list of words: the steps that it says, or else refusal 16
   pub said_read : (ws : List ℕ) (ss : List Step) → said ws ≡ some ss → read_all ws 0 ≡ just_these ss
-  pub unsaid_refused : (ws : List ℕ) → said ws ≡ none → (read_all ws 0).1.0 ≡ Refused UnknownKind
+  pub unsaid_refused : (ws : List ℕ) → said ws ≡ none → (read_all ws 0).1.0 ≡ Err UnknownKind
   -- "step reader at kind above 3": "reader unmoved"
-  pub unmoved : (r : StepReader) (x : Refusal) → (next_from r).0 ≡ Refused x → next_from r ≡ (Refused UnknownKind, r)
+  pub unmoved : (r : StepReader) (x : Refusal) → (next_from r).0 ≡ Err x → next_from r ≡ (Err UnknownKind, r)

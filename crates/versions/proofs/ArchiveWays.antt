@@ -23,7 +23,6 @@ use Rattle.lists.proofs.Pads.{get_pad}
 use Rattle.model.specs.declared.record.CausalGraph.{CausalGraph}
 use Rattle.model.specs.declared.answers.Written.{Written}
 use Rattle.model.specs.declared.answers.Refusal.TheVariants.{Broken}
-use Rattle.model.specs.declared.answers.Outcome.TheVariants.{Refused}
 use Rattle.model.specs.Graph.{Graph, runs, start}
 use Rattle.model.specs.Record.{view}
 use Rattle.model.specs.Broken.{broken, Held}
@@ -46,6 +45,7 @@ use Rattle.versions.proofs.FirstChildren.{head_is}
 use Rattle.versions.proofs.HeadCounting.{all-heads, count-is, count_fits}
 use Rattle.versions.proofs.ByHeads.{last_mem, last_most, parted_iff}
 use Rattle.versions.proofs.Points.{points_of}
+use Rattle.std.specs.Prelude.{Err}
 
 module _ (g : CausalGraph) (held : Held g) where
   abbrev G : Graph
@@ -205,7 +205,7 @@ module _ (g : CausalGraph) (lent : List ℕ) where
       ap (λ (t : Bool). elim t as (λ _. Written × List ℕ) [ true ↦ unwritten Broken lent | false ↦ writing 1 (map (λ e. e ∷ []) (archive_points (view g))) lent ]) e
 
   -- Refused
-  pub archive_broken : broken g ≡ true → (record { count = 0; outcome = Refused Broken }, lent) ≡ archive_points_of g lent
+  pub archive_broken : broken g ≡ true → (record { count = 0; outcome = Err Broken }, lent) ≡ archive_points_of g lent
   unfolding unwritten
   archive_broken e = sym (archive_is true e)
 

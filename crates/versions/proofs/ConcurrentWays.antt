@@ -17,7 +17,6 @@ use Rattle.lists.proofs.Pads.{get_pad, length-pad}
 use Rattle.model.specs.declared.record.CausalGraph.{CausalGraph}
 use Rattle.model.specs.declared.answers.Refusal.{Refusal}
 use Rattle.model.specs.declared.answers.Refusal.TheVariants.{Broken, Outside, ListTooShort}
-use Rattle.model.specs.declared.answers.Outcome.TheVariants.{Done, Refused}
 use Rattle.model.specs.Refusals.{first_of}
 use Rattle.model.specs.Graph.{runs}
 use Rattle.model.specs.Record.{view}
@@ -33,6 +32,7 @@ use Rattle.graph.proofs.Views.{facts, runs-view}
 use Rattle.graph.proofs.Writing.{words_fit}
 use Rattle.graph.proofs.Entries.{parents-below, row-view}
 use Rattle.versions.proofs.Comparing.{flags_are}
+use Rattle.std.specs.Prelude.{Ok, Err}
 
 -- room for each run's flag
 pub kept-room : (k : Kept) (r n : ℕ) → k ≡ kept_in [] → n ≤ 512 → n ≤ length (set k.items r 1)
@@ -63,22 +63,22 @@ module _ (g : CausalGraph) (held : Held g) (r : ℕ) where
 
 module _ (g : CausalGraph) (r : ℕ) (lent : List ℕ) where
   -- Refused
-  concurrent_refused : (n : Refusal) → concurrency_outcome g r lent ≡ Refused n → (record { count = 0; outcome = Refused n }, lent) ≡ concurrency_list_of g r lent
+  concurrent_refused : (n : Refusal) → concurrency_outcome g r lent ≡ Err n → (record { count = 0; outcome = Err n }, lent) ≡ concurrency_list_of g r lent
   unfolding concurrency_list_of unwritten
   concurrent_refused n e = rw (e, concurrency_list_of) refl
 
-  pub concurrent_broken : broken g ≡ true → (record { count = 0; outcome = Refused Broken }, lent) ≡ concurrency_list_of g r lent
+  pub concurrent_broken : broken g ≡ true → (record { count = 0; outcome = Err Broken }, lent) ≡ concurrency_list_of g r lent
   unfolding concurrency_outcome first_of
   concurrent_broken e = concurrent_refused Broken (rw e)
 
   module _ (held : Held g) where
-    pub concurrent_outside : g.run_count ≤ r → (record { count = 0; outcome = Refused Outside }, lent) ≡ concurrency_list_of g r lent
+    pub concurrent_outside : g.run_count ≤ r → (record { count = 0; outcome = Err Outside }, lent) ≡ concurrency_list_of g r lent
     unfolding concurrency_outcome first_of
     concurrent_outside h = concurrent_refused Outside (rw (not-broken g held, runs-view g held, le-leb g.run_count r h))
 
     module _ (lt : r < g.run_count) (flags : List ℕ) (f : Flags (view g) r flags) where
       pub concurrent_short : length lent < length (free flags g.run_count) →
-          (record { count = 0; outcome = Refused ListTooShort }, lent) ≡ concurrency_list_of g r lent
+          (record { count = 0; outcome = Err ListTooShort }, lent) ≡ concurrency_list_of g r lent
       unfolding concurrency_outcome first_of
       concurrent_short s =
           concurrent_refused ListTooShort
@@ -89,6 +89,6 @@ module _ (g : CausalGraph) (r : ℕ) (lent : List ℕ) where
           (p, l) ≡ put_all 1 (blank, lent) (map (λ q. q ∷ []) (free flags g.run_count)) → (written_of p, l) ≡ concurrency_list_of g r lent
       unfolding concurrency_list_of concurrency_outcome first_of
       concurrent_done s p l e =
-          let done : concurrency_outcome g r lent ≡ Done =
+          let done : concurrency_outcome g r lent ≡ (Ok tt) =
           rw (not-broken g held, runs-view g held, lt-leb g.run_count r lt, ← free_list g held r flags f, le-ltb (length lent) (length (free flags g.run_count)) s) in
           words_fit (free flags g.run_count) lent p l s e ∙ rw (free_list g held r flags f, done, concurrency_list_of) refl

@@ -14,7 +14,6 @@ use Rattle.lists.proofs.Keeping.{kept_list, kept-count}
 use Rattle.model.specs.declared.record.CausalGraph.{CausalGraph}
 use Rattle.model.specs.declared.answers.Refusal.{Refusal}
 use Rattle.model.specs.declared.answers.Refusal.TheVariants.{Broken, NotRising, UnknownEvent, NoSuchParents, ListTooShort}
-use Rattle.model.specs.declared.answers.Outcome.TheVariants.{Done, Refused}
 use Rattle.model.specs.EventGraph.{closed}
 use Rattle.model.specs.Refusals.{first_of}
 use Rattle.model.specs.Graph.{Graph, runs, start, all_held}
@@ -35,6 +34,7 @@ use Rattle.graph.proofs.Entries.{row-view}
 use Rattle.versions.specs.Ranges.{words_within, clear_in, Ends, flag_marked, marked_whole, tops, Starts}
 use Rattle.versions.proofs.RangeWords.{held-within}
 use Rattle.versions.proofs.MarkedRuns.{closed_clear, closed-runs, tops_are}
+use Rattle.std.specs.Prelude.{Ok, Err}
 
 -- The starts of a record's runs
 pub starts_of : (g : CausalGraph) → Held g → Starts g.starts g.run_count
@@ -51,11 +51,11 @@ starts_of g held = record {
 
 module _ (g : CausalGraph) (ws lent : List ℕ) where
   -- Refused
-  wanted_refused : (n : Refusal) → wanted_outcome g ws lent ≡ Refused n → (record { count = 0; outcome = Refused n }, lent) ≡ wanted_parents_of g ws lent
+  wanted_refused : (n : Refusal) → wanted_outcome g ws lent ≡ Err n → (record { count = 0; outcome = Err n }, lent) ≡ wanted_parents_of g ws lent
   unfolding wanted_parents_of unwritten
   wanted_refused n e = rw (e, wanted_parents_of) refl
 
-  pub wanted_broken : broken g ≡ true → (record { count = 0; outcome = Refused Broken }, lent) ≡ wanted_parents_of g ws lent
+  pub wanted_broken : broken g ≡ true → (record { count = 0; outcome = Err Broken }, lent) ≡ wanted_parents_of g ws lent
   unfolding wanted_outcome first_of
   wanted_broken e = wanted_refused Broken (rw e)
 
@@ -66,7 +66,7 @@ module _ (g : CausalGraph) (ws lent : List ℕ) where
     abbrev n : ℕ
     n = g.run_count
 
-    pub wanted_faulty : ranges ws ≡ false → (record { count = 0; outcome = Refused NotRising }, lent) ≡ wanted_parents_of g ws lent
+    pub wanted_faulty : ranges ws ≡ false → (record { count = 0; outcome = Err NotRising }, lent) ≡ wanted_parents_of g ws lent
     unfolding wanted_outcome first_of
     wanted_faulty e = wanted_refused NotRising (rw (not-broken g held, e))
 
@@ -76,12 +76,12 @@ module _ (g : CausalGraph) (ws lent : List ℕ) where
       held-is = held-within ws words G ∙ rw (first-view g held, len-view g held)
 
       pub wanted_unknown : words_within (get_or g.starts 0 0) (get_or g.starts n 0) ws ≡ false →
-          (record { count = 0; outcome = Refused UnknownEvent }, lent) ≡ wanted_parents_of g ws lent
+          (record { count = 0; outcome = Err UnknownEvent }, lent) ≡ wanted_parents_of g ws lent
       unfolding wanted_outcome first_of
       wanted_unknown e = wanted_refused UnknownEvent (rw (not-broken g held, words, held-is, e))
 
       module _ (marked : all_held G (events_in ws) ≡ true) where
-        no_parents : closed (held_events G) (events_in ws) ≡ false → (record { count = 0; outcome = Refused NoSuchParents }, lent) ≡ wanted_parents_of g ws lent
+        no_parents : closed (held_events G) (events_in ws) ≡ false → (record { count = 0; outcome = Err NoSuchParents }, lent) ≡ wanted_parents_of g ws lent
         unfolding wanted_outcome first_of
         no_parents e = wanted_refused NoSuchParents (rw (not-broken g held, words, marked, e))
 
@@ -90,7 +90,7 @@ module _ (g : CausalGraph) (ws lent : List ℕ) where
 
         -- 17, a range begins inside a run
         pub wanted_inside : all (clear_in g.starts ws) (upto n) ≡ false →
-            (record { count = 0; outcome = Refused NoSuchParents }, lent) ≡ wanted_parents_of g ws lent
+            (record { count = 0; outcome = Err NoSuchParents }, lent) ≡ wanted_parents_of g ws lent
         wanted_inside e = no_parents (not_so (closed (held_events G) (events_in ws)) (λ k.
             false_true (sym e ∙ ap (λ (m : ℕ). all (clear_in g.starts ws) (upto m)) (sym (runs-view g held)) ∙ closed_clear G held.formed g.starts same ws words marked k)))
 
@@ -121,7 +121,7 @@ module _ (g : CausalGraph) (ws lent : List ℕ) where
 
           -- 17, a parent run of a run with marked events is not marked whole
           pub wanted_parted : all (marked_whole flags ends g.starts) (upto n) ≡ false →
-              (record { count = 0; outcome = Refused NoSuchParents }, lent) ≡ wanted_parents_of g ws lent
+              (record { count = 0; outcome = Err NoSuchParents }, lent) ≡ wanted_parents_of g ws lent
           wanted_parted e = no_parents (whole_is ∙ e)
 
           module _ (whole : all (marked_whole flags ends g.starts) (upto n) ≡ true) (k : Kept) (found : k ≡ kept_in (tops flags ends n)) where
@@ -134,7 +134,7 @@ module _ (g : CausalGraph) (ws lent : List ℕ) where
             count-is : k.count ≡ length (wanted_parents G ws)
             count-is = kept-count k (tops flags ends n) found ∙ ap length are
 
-            pub wanted_short : length lent < k.count → (record { count = 0; outcome = Refused ListTooShort }, lent) ≡ wanted_parents_of g ws lent
+            pub wanted_short : length lent < k.count → (record { count = 0; outcome = Err ListTooShort }, lent) ≡ wanted_parents_of g ws lent
             unfolding wanted_outcome first_of
             wanted_short lt =
                 wanted_refused ListTooShort
@@ -145,7 +145,7 @@ module _ (g : CausalGraph) (ws lent : List ℕ) where
                 (p, l) ≡ put_all 1 (blank, lent) (map (λ x. x ∷ []) (take k.count k.items)) → (written_of p, l) ≡ wanted_parents_of g ws lent
             unfolding wanted_parents_of wanted_outcome first_of
             wanted_done le p l e =
-                let done : wanted_outcome g ws lent ≡ Done =
+                let done : wanted_outcome g ws lent ≡ (Ok tt) =
                 rw (not-broken g held, words, marked, whole_is, whole, le-ltb (length lent) (length (wanted_parents G ws)) (omega (arith, count-is))) in
                 let listed : take k.count k.items ≡ wanted_parents G ws = kept_list k (tops flags ends n) found ∙ are in
                 words_fit (wanted_parents G ws) lent p l (omega (arith, count-is)) (e ∙ ap (λ (xs : List ℕ). put_all 1 (blank, lent) (map (λ x. x ∷ []) xs)) listed) ∙

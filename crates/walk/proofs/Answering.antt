@@ -9,8 +9,6 @@ use Rattle.lists.specs.Lists.{bit}
 use Rattle.lists.specs.Areas.{over}
 use Rattle.lists.proofs.Truth.{false_true}
 use Rattle.model.specs.declared.answers.Refusal.TheVariants.{RowsTooLong, ListTooShort}
-use Rattle.model.specs.declared.answers.Outcome.{Outcome}
-use Rattle.model.specs.declared.answers.Outcome.TheVariants.{Done, Refused}
 use Rattle.model.specs.Graph.{Graph}
 use Rattle.model.specs.Choice.{Range, range_of}
 use Rattle.model.specs.Steps.{Step, steps_of, words, moved_in}
@@ -21,6 +19,8 @@ use Rattle.moves.specs.Moves.{recs}
 use Rattle.moves.proofs.Closing.{going}
 use Rattle.moves.proofs.Written.{written_is}
 use Rattle.walk.specs.Walked.{State, ranged, walked_in, outcome_of, walked_of, result_of}
+use Rattle.std.specs.Prelude.{Ok, Err}
+use Rattle.model.specs.Refusals.{Outcome}
 
 -- What is written of some steps: the list, how many, the events moved, whether all
 pub written-parts : (g : Graph) (ss : List Step) (area : List ℕ) → let room : ℕ = length area / 3 in
@@ -63,11 +63,11 @@ walked-steps st w a known first out rows steps e = go (rows_too_long w rows) e
     go false e = refl
 
 -- The outcome by what is short
-pub outcome_rows : (o : Out) → outcome_of (ranged o 1) ≡ Refused RowsTooLong
+pub outcome_rows : (o : Out) → outcome_of (ranged o 1) ≡ Err RowsTooLong
 unfolding outcome_of
 outcome_rows o = refl
 
-pub outcome_list : (o : Out) (t : Bool) → o.short ≡ bit t → outcome_of (ranged o 0) ≡ cond t (Refused ListTooShort) Done
+pub outcome_list : (o : Out) (t : Bool) → o.short ≡ bit t → outcome_of (ranged o 0) ≡ cond t (Err ListTooShort) (Ok tt)
 unfolding outcome_of
 outcome_list o true e = rw e
 outcome_list o false e = rw e

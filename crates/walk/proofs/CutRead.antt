@@ -14,9 +14,7 @@ use Rattle.lists.proofs.Truth.{eq_or-not}
 use Rattle.model.specs.declared.record.CausalGraph.{CausalGraph}
 use Rattle.model.specs.declared.answers.Written.{Written}
 use Rattle.model.specs.declared.answers.Refusal.TheVariants.{ListTooShort}
-use Rattle.model.specs.declared.answers.Outcome.{Outcome}
-use Rattle.model.specs.declared.answers.Outcome.TheVariants.{Done, Refused}
-use Rattle.model.specs.Refusals.{first_of}
+use Rattle.model.specs.Refusals.{first_of, Outcome}
 use Rattle.model.specs.Graph.{runs, first_held, marked}
 use Rattle.model.specs.Record.{view}
 use Rattle.model.specs.Broken.{Held}
@@ -28,6 +26,7 @@ use Rattle.model.proofs.RoomsReplay.{Laid, cut_laid}
 use Rattle.graph.proofs.Views.{facts, runs-view}
 use Rattle.walk.specs.CutRecords.{range_by, ranges_in, Tiled}
 use Rattle.walk.proofs.Arrays.{arrays_of}
+use Rattle.std.specs.Prelude.{Ok, Err}
 
 -- A range's kind, first run and end run
 kind : HistoryRange → ℕ
@@ -153,11 +152,11 @@ module _ (g : CausalGraph) (held : Held g) where
   first-marked = marked-first (view g) held.formed 0 (omega arith)
 
   -- The whole history can be cut
-  cut_outcome_lem : cut_outcome g 0 ≡ Done
+  cut_outcome_lem : cut_outcome g 0 ≡ Ok tt
   unfolding cut_outcome first_of
   cut_outcome_lem = go (eq_or-not (runs (view g)) 0)
     where
-      go : (runs (view g) ≡ 0) ⊎ (runs (view g) ≡ 0 → ⊥) → cut_outcome g 0 ≡ Done
+      go : (runs (view g) ≡ 0) ⊎ (runs (view g) ≡ 0 → ⊥) → cut_outcome g 0 ≡ Ok tt
       go (inl z) = rw (not-broken g held, le-ltb 0 (runs (view g)) (omega arith))
       go (inr n) = rw (
         not-broken g held,
@@ -171,7 +170,7 @@ module _ (g : CausalGraph) (held : Held g) where
   ranges-few = omega (arith, laid_le 0 ranges (runs (view g)) (cut_laid (view g) 0), (facts g held).runs, runs-view g held)
 
   -- A list of 512 records holds all ranges
-  pub cut_all : (lent : List ℕ) → length lent ≡ 1536 → cut_of g 0 lent ≡ (record { count = length ranges; outcome = Done }, over (ranges_words ranges) lent)
+  pub cut_all : (lent : List ℕ) → length lent ≡ 1536 → cut_of g 0 lent ≡ (record { count = length ranges; outcome = Ok tt }, over (ranges_words ranges) lent)
   unfolding cut_of
   cut_all lent size = go (cut_outcome g 0) cut_outcome_lem
     where
@@ -184,20 +183,20 @@ module _ (g : CausalGraph) (held : Held g) where
       fits : take (length lent / 3) (map range_words ranges) ≡ map range_words ranges
       fits = take_all (length lent / 3) (map range_words ranges) few
 
-      all-written : writing 3 (map range_words ranges) lent ≡ (record { count = length ranges; outcome = Done }, over (ranges_words ranges) lent)
+      all-written : writing 3 (map range_words ranges) lent ≡ (record { count = length ranges; outcome = Ok tt }, over (ranges_words ranges) lent)
       all-written = unfold writing in (λ i. (
         record {
           count = (ap length fits ∙ length-map ranges range_words) i;
-          outcome = ap (λ t. cond t (Refused ListTooShort) Done) (le-ltb (length lent / 3) (length (map range_words ranges)) few) i;
+          outcome = ap (λ t. cond t (Err ListTooShort) (Ok tt)) (le-ltb (length lent / 3) (length (map range_words ranges)) few) i;
         },
         over (concat (fits i)) lent,
       ))
 
-      go : (o : Outcome) → o ≡ Done →
-          ◌≡◌ {A = Written × List ℕ} (elim o as (λ _. Written × List ℕ) [ Done ↦ writing 3 (map range_words ranges) lent | Refused r ↦ unwritten r lent ])
-          (record { count = length ranges; outcome = Done }, over (ranges_words ranges) lent)
+      go : (o : Outcome) → o ≡ Ok tt →
+          ◌≡◌ {A = Written × List ℕ} (elim o as (λ _. Written × List ℕ) [ Ok _ ↦ writing 3 (map range_words ranges) lent | Err r ↦ unwritten r lent ])
+          (record { count = length ranges; outcome = Ok tt }, over (ranges_words ranges) lent)
       go o e =
-          ap (λ (o : Outcome). elim o as (λ _. Written × List ℕ) [ Done ↦ writing 3 (map range_words ranges) lent | Refused r ↦ unwritten r lent ]) e ∙ all-written
+          ap (λ (o : Outcome). elim o as (λ _. Written × List ℕ) [ Ok _ ↦ writing 3 (map range_words ranges) lent | Err r ↦ unwritten r lent ]) e ∙ all-written
 
   -- so the list afterwards is these ranges
   module _ (lent cut : List ℕ) (w : Written) (size : length lent ≡ 1536) (e : (w, cut) ≡ cut_of g 0 lent) where

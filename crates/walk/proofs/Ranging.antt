@@ -14,8 +14,6 @@ use Rattle.lists.specs.Areas.{over}
 use Rattle.lists.proofs.Truth.{lt_or_le, eq_or-not}
 use Rattle.model.specs.declared.answers.Refusal.{Refusal}
 use Rattle.model.specs.declared.answers.Refusal.TheVariants.{RowsTooLong, ListTooShort}
-use Rattle.model.specs.declared.answers.Outcome.{Outcome}
-use Rattle.model.specs.declared.answers.Outcome.TheVariants.{Done, Refused}
 use Rattle.model.specs.Graph.{Graph}
 use Rattle.model.specs.Cut.{HistoryRange, linear, concurrent}
 use Rattle.model.specs.Choice.{Range, range_of}
@@ -28,6 +26,8 @@ use Rattle.moves.proofs.Closing.{going}
 use Rattle.moves.proofs.Written.{emit_then, open_is, applies_are}
 use Rattle.walk.specs.Walked.{State, ranged, out_of, outcome_of, opening, open_of, replay_on, replay_all}
 use Rattle.walk.proofs.Answering.{written-parts, walked-rows, walked-steps, outcome_rows, outcome_list}
+use Rattle.std.specs.Prelude.{Ok, Err}
+use Rattle.model.specs.Refusals.{Outcome}
 
 -- The cases of the definition
 module _ (g : Graph) (c : HistoryRange) (cs : List HistoryRange) (room : ℕ) (rows : List ℕ) where
@@ -39,10 +39,10 @@ module _ (g : Graph) (c : HistoryRange) (cs : List HistoryRange) (room : ℕ) (r
 
   form : Bool → Bool → Outcome → Replayed
   form t u o = elim t [
-    | true ↦ (Refused ListTooShort, [], rows)
+    | true ↦ (Err ListTooShort, [], rows)
     | false ↦ elim u [
-      | true ↦ (Refused ListTooShort, take room this.1, this.2)
-      | false ↦ elim o [ Done ↦ (later.0, this.1 ++ later.1, later.2) | Refused r ↦ this ]
+      | true ↦ (Err ListTooShort, take room this.1, this.2)
+      | false ↦ elim o [ Ok _ ↦ (later.0, this.1 ++ later.1, later.2) | Err r ↦ this ]
     ]
   ]
 
@@ -50,19 +50,19 @@ module _ (g : Graph) (c : HistoryRange) (cs : List HistoryRange) (room : ℕ) (r
   unfolding replay_ranges form
   is_form = refl
 
-  ranges_full : room ≡ 0 → replay_ranges g (c ∷ cs) room rows ≡ (Refused ListTooShort, [], rows)
+  ranges_full : room ≡ 0 → replay_ranges g (c ∷ cs) room rows ≡ (Err ListTooShort, [], rows)
   ranges_full e = is_form ∙ ap (λ t. form t (ltb room (length this.1)) this.0) (eq-eqb room 0 e) ∙ (unfold form in refl)
 
-  ranges_cut : (room ≡ 0 → ⊥) → room < length this.1 → replay_ranges g (c ∷ cs) room rows ≡ (Refused ListTooShort, take room this.1, this.2)
+  ranges_cut : (room ≡ 0 → ⊥) → room < length this.1 → replay_ranges g (c ∷ cs) room rows ≡ (Err ListTooShort, take room this.1, this.2)
   ranges_cut n lt =
       is_form ∙ ap₂ (λ (t u : Bool). form t u this.0) (ne_eqb room 0 n) (lt-ltb room (length this.1) lt) ∙ (unfold form in refl)
 
-  ranges_on : (room ≡ 0 → ⊥) → length this.1 ≤ room → this.0 ≡ Done → replay_ranges g (c ∷ cs) room rows ≡ (later.0, this.1 ++ later.1, later.2)
+  ranges_on : (room ≡ 0 → ⊥) → length this.1 ≤ room → this.0 ≡ Ok tt → replay_ranges g (c ∷ cs) room rows ≡ (later.0, this.1 ++ later.1, later.2)
   ranges_on n le d =
       is_form ∙ ap₂ (λ (t u : Bool). form t u this.0) (ne_eqb room 0 n) (le-ltb room (length this.1) le) ∙
       (ap (form false false) d ∙ (unfold form in refl))
 
-  ranges_refused : (room ≡ 0 → ⊥) → length this.1 ≤ room → (r : Refusal) → this.0 ≡ Refused r → replay_ranges g (c ∷ cs) room rows ≡ this
+  ranges_refused : (room ≡ 0 → ⊥) → length this.1 ≤ room → (r : Refusal) → this.0 ≡ Err r → replay_ranges g (c ∷ cs) room rows ≡ this
   ranges_refused n le r d =
       is_form ∙ ap₂ (λ (t u : Bool). form t u this.0) (ne_eqb room 0 n) (le-ltb room (length this.1) le) ∙
       (ap (form false false) d ∙ (unfold form in refl))
@@ -179,7 +179,7 @@ module _ (g : Graph) (ws : List ℕ) where
     pub outcome : outcome_of t.0 ≡ r.0
 
   -- of steps all of which the list had to take, rows in order
-  ends_with : (done ss : List Step) (rows : List ℕ) (o : Outcome) → length done ≤ room → cond (ltb room (length (done ++ ss))) (Refused ListTooShort) Done ≡ o →
+  ends_with : (done ss : List Step) (rows : List ℕ) (o : Outcome) → length done ≤ room → cond (ltb room (length (done ++ ss))) (Err ListTooShort) (Ok tt) ≡ o →
       Ends done (o, take (room - length done) ss, rows) (state_at (done ++ ss) rows)
   ends_with done ss rows o le e =
       let q = wrote-is (done ++ ss) in
@@ -194,7 +194,7 @@ module _ (g : Graph) (ws : List ℕ) where
 
   -- rows were too long after Open
   ends-rows : (done : List Step) (a b : ℕ) (rows : List ℕ) → length done < room →
-      Ends done (Refused RowsTooLong, opened a b ∷ [], rows) (ranged (wrote (done ++ opened a b ∷ [])).0 1, rows, (wrote (done ++ opened a b ∷ [])).1)
+      Ends done (Err RowsTooLong, opened a b ∷ [], rows) (ranged (wrote (done ++ opened a b ∷ [])).0 1, rows, (wrote (done ++ opened a b ∷ [])).1)
   ends-rows done a b rows lt =
       let size : length (done ++ opened a b ∷ []) ≤ room = omega (arith, length-append done (opened a b ∷ [])) in
       let q = wrote-is (done ++ opened a b ∷ []) in
@@ -219,7 +219,7 @@ module _ (g : Graph) (ws : List ℕ) where
 
   -- A range whose steps are all written after Open
   module _ (done : List Step) (rows : List ℕ) (c : HistoryRange) (cs : List HistoryRange) (ss : List Step) (rows' : List ℕ)
-      (some : length done < room) (is : replay_range g c rows ≡ (Done, ss, rows')) (on : replay_on st (range_of g) (state_at done rows) c ≡ state_at (done ++ ss) rows')
+      (some : length done < room) (is : replay_range g c rows ≡ (Ok tt, ss, rows')) (on : replay_on st (range_of g) (state_at done rows) c ≡ state_at (done ++ ss) rows')
       (rest : length (done ++ ss) ≤ room → Ends (done ++ ss) (replay_ranges g cs (room - length (done ++ ss)) rows') (replay_all st (range_of g) (state_at (done ++ ss) rows') cs)) where
     range_done : Ends done (replay_ranges g (c ∷ cs) (room - length done) rows) (replay_all st (range_of g) (state_at done rows) (c ∷ cs))
     range_done = go (lt_or_le (room - length done) (length ss))
@@ -236,12 +236,12 @@ module _ (g : Graph) (ws : List ℕ) where
         go : (room - length done < length ss) ⊎ (length ss ≤ room - length done) → Ends done (replay_ranges g (c ∷ cs) (room - length done) rows) (replay_all st (range_of g) (state_at done rows) (c ∷ cs))
         go (inl lt) =
             let short : room < length (done ++ ss) = omega (arith, length-append done ss) in
-            let r : replay_ranges g (c ∷ cs) (room - length done) rows ≡ (Refused ListTooShort, take (room - length done) ss, rows') =
+            let r : replay_ranges g (c ∷ cs) (room - length done) rows ≡ (Err ListTooShort, take (room - length done) ss, rows') =
             ranges_cut g c cs (room - length done) rows left (omega (arith, ap length first)) ∙
-            ap (λ (x : Replayed). (Refused ListTooShort, take (room - length done) x.1, x.2)) is in
+            ap (λ (x : Replayed). (Err ListTooShort, take (room - length done) x.1, x.2)) is in
             subst (λ (x : Replayed). Ends done x (replay_all st (range_of g) (state_at done rows) (c ∷ cs))) (sym r)
-            (subst (Ends done (Refused ListTooShort, take (room - length done) ss, rows')) (sym (there ∙ stays-short st (range_of g) (state_at (done ++ ss) rows') cs refl (full (done ++ ss) short)))
-            (ends_with done ss rows' (Refused ListTooShort) (omega arith) (ap (λ t. cond t (Refused ListTooShort) Done) (lt-ltb room (length (done ++ ss)) short))))
+            (subst (Ends done (Err ListTooShort, take (room - length done) ss, rows')) (sym (there ∙ stays-short st (range_of g) (state_at (done ++ ss) rows') cs refl (full (done ++ ss) short)))
+            (ends_with done ss rows' (Err ListTooShort) (omega arith) (ap (λ t. cond t (Err ListTooShort) (Ok tt)) (lt-ltb room (length (done ++ ss)) short))))
         go (inr le) =
             let fit : length (done ++ ss) ≤ room = omega (arith, length-append done ss) in
             let k : room - length done - length ss ≡ room - length (done ++ ss) = omega (arith, length-append done ss) in
@@ -272,12 +272,12 @@ module _ (g : Graph) (ws : List ℕ) where
       ap (λ (y : Writing). (ranged y.0 0, rows, y.1)) o in
       let there : replay_all st (range_of g) (state_at done rows) (c ∷ cs) ≡ (ranged x.0 0, rows, x.1) =
       all-next (state_at done rows) c cs ∙ (ap (λ (y : State). replay_all st (range_of g) y cs) on ∙ stays-short st (range_of g) (ranged x.0 0, rows, x.1) cs refl (full (done ++ opened a b ∷ []) long)) in
-      let r : replay_ranges g (c ∷ cs) (room - length done) rows ≡ (Refused ListTooShort, [], rows) = ranges_full g c cs (room - length done) rows z in
+      let r : replay_ranges g (c ∷ cs) (room - length done) rows ≡ (Err ListTooShort, [], rows) = ranges_full g c cs (room - length done) rows z in
       let none : take (room - length done) (opened a b ∷ []) ≡ [] = rw z in
       subst (λ (y : Replayed). Ends done y (replay_all st (range_of g) (state_at done rows) (c ∷ cs))) (sym r)
-      (subst (Ends done (Refused ListTooShort, [], rows)) (sym there)
-      (subst (λ (l : List Step). Ends done (Refused ListTooShort, l, rows) (ranged x.0 0, rows, x.1)) none
-      (ends_with done (opened a b ∷ []) rows (Refused ListTooShort) (omega arith) (ap (λ t. cond t (Refused ListTooShort) Done) (lt-ltb room (length (done ++ opened a b ∷ [])) long)))))
+      (subst (Ends done (Err ListTooShort, [], rows)) (sym there)
+      (subst (λ (l : List Step). Ends done (Err ListTooShort, l, rows) (ranged x.0 0, rows, x.1)) none
+      (ends_with done (opened a b ∷ []) rows (Err ListTooShort) (omega arith) (ap (λ t. cond t (Err ListTooShort) (Ok tt)) (lt-ltb room (length (done ++ opened a b ∷ [])) long)))))
     where
       all-next : (s : State) (c : HistoryRange) (cs : List HistoryRange) → replay_all st (range_of g) s (c ∷ cs) ≡ replay_all st (range_of g) (replay_on st (range_of g) s c) cs
       all-next s c cs = unfold replay_all in refl
@@ -316,20 +316,20 @@ module _ (g : Graph) (ws : List ℕ) where
 
   -- The definition of a concurrent range
   concurrent_is : (a b : ℕ) (rows : List ℕ) (t : Bool) → rows_too_long (range_of g a b) rows ≡ t →
-      replay_range g (concurrent a b) rows ≡ cond t (Refused RowsTooLong, opened a b ∷ [], rows_into (range_of g a b) rows)
-      (Done, opened a b ∷ steps_of (range_of g a b) a 0 0, rows_into (range_of g a b) rows)
+      replay_range g (concurrent a b) rows ≡ cond t (Err RowsTooLong, opened a b ∷ [], rows_into (range_of g a b) rows)
+      (Ok tt, opened a b ∷ steps_of (range_of g a b) a 0 0, rows_into (range_of g a b) rows)
   concurrent_is a b rows t e = is ∙ (ap form e ∙ same t)
     where
       form : Bool → Replayed
       form t = elim t [
-        | true ↦ (Refused RowsTooLong, opened a b ∷ [], rows_into (range_of g a b) rows)
-        | false ↦ (Done, opened a b ∷ steps_of (range_of g a b) a 0 0, rows_into (range_of g a b) rows)
+        | true ↦ (Err RowsTooLong, opened a b ∷ [], rows_into (range_of g a b) rows)
+        | false ↦ (Ok tt, opened a b ∷ steps_of (range_of g a b) a 0 0, rows_into (range_of g a b) rows)
       ]
 
       is : replay_range g (concurrent a b) rows ≡ form (rows_too_long (range_of g a b) rows)
       is = unfold replay_range in refl
 
-      same : (t : Bool) → form t ≡ cond t (Refused RowsTooLong, opened a b ∷ [], rows_into (range_of g a b) rows) (Done, opened a b ∷ steps_of (range_of g a b) a 0 0, rows_into (range_of g a b) rows)
+      same : (t : Bool) → form t ≡ cond t (Err RowsTooLong, opened a b ∷ [], rows_into (range_of g a b) rows) (Ok tt, opened a b ∷ steps_of (range_of g a b) a 0 0, rows_into (range_of g a b) rows)
       same true = refl
       same false = refl
 
@@ -344,16 +344,16 @@ module _ (g : Graph) (ws : List ℕ) where
       all-next (concurrent a b) ∙ (ap (λ (y : State). replay_all st (range_of g) y cs) (rows_on done a b rows lt e) ∙ stays-rows st (range_of g) t cs one) in
       let is = concurrent_is a b rows true e in
       let size : length (replay_range g (concurrent a b) rows).1 ≡ 1 = ap (λ (y : Replayed). length y.1) is in
-      let r : replay_ranges g (concurrent a b ∷ cs) (room - length done) rows ≡ (Refused RowsTooLong, opened a b ∷ [], rows_into (range_of g a b) rows) =
+      let r : replay_ranges g (concurrent a b ∷ cs) (room - length done) rows ≡ (Err RowsTooLong, opened a b ∷ [], rows_into (range_of g a b) rows) =
       ranges_refused g (concurrent a b) cs (room - length done) rows (λ z. omega arith) (omega (arith, size)) RowsTooLong (ap (λ (y : Replayed). y.0) is) ∙ is in
       subst (λ (y : Replayed). Ends done y (replay_all st (range_of g) (state_at done rows) (concurrent a b ∷ cs))) (sym r)
-      (subst (Ends done (Refused RowsTooLong, opened a b ∷ [], rows_into (range_of g a b) rows)) (sym there) (ends-rows done a b (rows_into (range_of g a b) rows) lt))
+      (subst (Ends done (Err RowsTooLong, opened a b ∷ [], rows_into (range_of g a b) rows)) (sym there) (ends-rows done a b (rows_into (range_of g a b) rows) lt))
     where
       all-next : (c : HistoryRange) → replay_all st (range_of g) (state_at done rows) (c ∷ cs) ≡ replay_all st (range_of g) (replay_on st (range_of g) (state_at done rows) c) cs
       all-next c = unfold replay_all in refl
 
   -- No range is left
-  no_ranges : (k : ℕ) (rows : List ℕ) → replay_ranges g [] k rows ≡ (Done, [], rows)
+  no_ranges : (k : ℕ) (rows : List ℕ) → replay_ranges g [] k rows ≡ (Ok tt, [], rows)
   unfolding replay_ranges
   no_ranges k rows = refl
 
@@ -366,11 +366,11 @@ module _ (g : Graph) (ws : List ℕ) where
       Ends done (replay_ranges g cs (room - length done) rows) (replay_all st (range_of g) (state_at done rows) cs)
   ranges_end [] done rows le =
       let none : take {A = Step} (room - length done) [] ≡ [] = take-nil (room - length done) in
-      let e = ends_with done [] rows Done le (ap (λ t. cond t (Refused ListTooShort) Done) (le-ltb room (length (done ++ [])) (omega (arith, length-append done [])))) in
+      let e = ends_with done [] rows (Ok tt) le (ap (λ t. cond t (Err ListTooShort) (Ok tt)) (le-ltb room (length (done ++ [])) (omega (arith, length-append done [])))) in
       subst (λ (x : Replayed). Ends done x (replay_all st (range_of g) (state_at done rows) [])) (sym (no_ranges (room - length done) rows))
-      (subst (Ends done (Done, [], rows)) (sym (none_done (state_at done rows)))
-      (subst (λ (l : List Step). Ends done (Done, l, rows) (state_at done rows)) none
-      (subst (λ (l : List Step). Ends done (Done, take (room - length done) [], rows) (state_at l rows)) (append-nil done) e)))
+      (subst (Ends done (Ok tt, [], rows)) (sym (none_done (state_at done rows)))
+      (subst (λ (l : List Step). Ends done (Ok tt, l, rows) (state_at done rows)) none
+      (subst (λ (l : List Step). Ends done (Ok tt, take (room - length done) [], rows) (state_at l rows)) (append-nil done) e)))
   ranges_end (linear a b ∷ cs) done rows le = go (eq_or-not (length done) room)
       (λ ss fit. ranges_end cs (done ++ ss) rows fit)
     where

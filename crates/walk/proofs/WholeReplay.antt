@@ -9,7 +9,6 @@ use lib.Dec.{eqb}
 use Rattle.model.specs.declared.record.CausalGraph.{CausalGraph}
 use Rattle.model.specs.declared.answers.Walked.{Walked}
 use Rattle.model.specs.declared.answers.Refusal.TheVariants.{Broken}
-use Rattle.model.specs.declared.answers.Outcome.TheVariants.{Refused}
 use Rattle.model.specs.Graph.{runs}
 use Rattle.model.specs.Record.{view}
 use Rattle.model.specs.Broken.{broken, Held}
@@ -30,6 +29,7 @@ use Rattle.walk.proofs.Answering.{result_eq}
 use Rattle.walk.proofs.Ranging.{replay_ends}
 use Rattle.walk.proofs.CutRead.{laid_le}
 use Rattle.walk.proofs.WholeWalk.{walked_same, answer_of}
+use Rattle.std.specs.Prelude.{Err}
 
 -- A range that is opened alike is replayed alike
 on_same : (st st' : List ℕ) (range range' : ℕ → ℕ → Range) (s : State) (c : HistoryRange) →
@@ -98,7 +98,7 @@ module _ (g : CausalGraph) (held : Held g) where
 
 -- A broken graph is refused
 pub replay_broken : (g : CausalGraph) (rows steps : List ℕ) → broken g ≡ true →
-    (record { count = 0; moved = 0; outcome = Refused Broken }, rows, steps) ≡ replay_of g rows steps
+    (record { count = 0; moved = 0; outcome = Err Broken }, rows, steps) ≡ replay_of g rows steps
 unfolding replay_of unwalked
 replay_broken g rows steps e = sym (ap (λ (b : Bool). elim b as (λ _. WalkResult) [
   | true ↦ unwalked Broken rows steps

@@ -12,8 +12,6 @@ use Rattle.model.specs.declared.record.CausalGraph.{CausalGraph}
 use Rattle.model.specs.declared.answers.Walked.{Walked}
 use Rattle.model.specs.declared.answers.Refusal.{Refusal}
 use Rattle.model.specs.declared.answers.Refusal.TheVariants.{RowsTooLong, ListTooShort}
-use Rattle.model.specs.declared.answers.Outcome.{Outcome}
-use Rattle.model.specs.declared.answers.Outcome.TheVariants.{Done, Refused}
 use Rattle.model.specs.Graph.{runs}
 use Rattle.model.specs.Record.{view, Sized}
 use Rattle.model.specs.Broken.{broken, Held}
@@ -32,6 +30,8 @@ use Rattle.walk.specs.Ranges.{range_in}
 use Rattle.walk.specs.Walked.{State, ranged, unwritten, walked_in, outcome_of, walked_of, result_of}
 use Rattle.walk.proofs.Arrays.{starts-same, range_view}
 use Rattle.walk.proofs.Answering.{walk_result}
+use Rattle.std.specs.Prelude.{Ok, Err}
+use Rattle.model.specs.Refusals.{Outcome}
 
 -- Runs that start alike are walked alike
 pub walked_same : (st st' : List ℕ) → ((i : ℕ) → get_or st i 0 ≡ get_or st' i 0) → (w : Range) (a known first : ℕ) (out : Out) (rows steps : List ℕ) →
@@ -45,20 +45,20 @@ walked_same st st' h w a known first out rows steps =
 
 -- The answer by what was refused
 outcome_form : Bool → Bool → Outcome
-outcome_form t u = elim t [ true ↦ elim u [ true ↦ Done | false ↦ Refused ListTooShort ] | false ↦ Refused RowsTooLong ]
+outcome_form t u = elim t [ true ↦ elim u [ true ↦ Ok tt | false ↦ Err ListTooShort ] | false ↦ Err RowsTooLong ]
 
 told : (r : Ranged) (t u : Bool) → eqb r.rows 0 ≡ t → eqb r.short 0 ≡ u → record { count = r.count; moved = r.moved; outcome = outcome_form t u } ≡ walked_of r
 told r t u p q = unfold walked_of outcome_of outcome_form in (ap₂ (λ (t u : Bool). record { count = r.count; moved = r.moved; outcome = outcome_form t u }) (sym p) (sym q))
 
-pub told-rows : (r : Ranged) → (r.rows ≡ 0 → ⊥) → record { count = r.count; moved = r.moved; outcome = Refused RowsTooLong } ≡ walked_of r
+pub told-rows : (r : Ranged) → (r.rows ≡ 0 → ⊥) → record { count = r.count; moved = r.moved; outcome = Err RowsTooLong } ≡ walked_of r
 unfolding outcome_form
 told-rows r n = told r false (eqb r.short 0) (ne_eqb r.rows 0 n) refl
 
-pub told-short : (r : Ranged) → r.rows ≡ 0 → (r.short ≡ 0 → ⊥) → record { count = r.count; moved = r.moved; outcome = Refused ListTooShort } ≡ walked_of r
+pub told-short : (r : Ranged) → r.rows ≡ 0 → (r.short ≡ 0 → ⊥) → record { count = r.count; moved = r.moved; outcome = Err ListTooShort } ≡ walked_of r
 unfolding outcome_form
 told-short r e n = told r true false (eq-eqb r.rows 0 e) (ne_eqb r.short 0 n)
 
-pub told-done : (r : Ranged) → r.rows ≡ 0 → r.short ≡ 0 → record { count = r.count; moved = r.moved; outcome = Done } ≡ walked_of r
+pub told-done : (r : Ranged) → r.rows ≡ 0 → r.short ≡ 0 → record { count = r.count; moved = r.moved; outcome = Ok tt } ≡ walked_of r
 unfolding outcome_form
 told-done r e f = told r true true (eq-eqb r.rows 0 e) (eq-eqb r.short 0 f)
 
@@ -80,14 +80,14 @@ module _ (g : CausalGraph) (a b known first : ℕ) (rows steps : List ℕ) where
       walk_result (view g) a b known first rows steps
 
   -- Refused before anything is written
-  pub walk_refused : (o : Outcome) → o ≡ range_outcome g a b known → (r : Refusal) → o ≡ Refused r →
-      (record { count = 0; moved = 0; outcome = Refused r }, rows, steps) ≡ walk_of g a b known first rows steps
+  pub walk_refused : (o : Outcome) → o ≡ range_outcome g a b known → (r : Refusal) → o ≡ Err r →
+      (record { count = 0; moved = 0; outcome = Err r }, rows, steps) ≡ walk_of g a b known first rows steps
   unfolding walk_of unwalked
   walk_refused o q r e = ap
-      (λ (o : Outcome). elim o as (λ _. WalkResult) [ Done ↦ walk_range (view g) a b known first rows steps | Refused r ↦ unwalked r rows steps ]) (sym e ∙ q)
+      (λ (o : Outcome). elim o as (λ _. WalkResult) [ Ok _ ↦ walk_range (view g) a b known first rows steps | Err r ↦ unwalked r rows steps ]) (sym e ∙ q)
 
   -- Not refused: the graph is held, and the range lies inside it
-  pub walk_inside : Sized g → (o : Outcome) → o ≡ range_outcome g a b known → o ≡ Done → Held g × (a ≤ b) × (b ≤ g.run_count) × (known ≤ b - a)
+  pub walk_inside : Sized g → (o : Outcome) → o ≡ range_outcome g a b known → o ≡ Ok tt → Held g × (a ≤ b) × (b ≤ g.run_count) × (known ≤ b - a)
   unfolding range_outcome
   walk_inside sized o q e =
       let f₁ = passed (broken g, 1) ((ltb b a || ltb (runs (view g)) b, 9) ∷ (ltb (b - a) known, 12) ∷ []) (sym q ∙ e) in
@@ -100,5 +100,5 @@ module _ (g : CausalGraph) (a b known first : ℕ) (rows steps : List ℕ) where
         omega (arith, ltb-false (b - a) known f₃.0),
       )
 
-  pub walk_done : (o : Outcome) → o ≡ range_outcome g a b known → o ≡ Done → walk_range (view g) a b known first rows steps ≡ walk_of g a b known first rows steps
+  pub walk_done : (o : Outcome) → o ≡ range_outcome g a b known → o ≡ Ok tt → walk_range (view g) a b known first rows steps ≡ walk_of g a b known first rows steps
   walk_done o q e = sym (walk_done-is g a b known first rows steps (sym q ∙ e))

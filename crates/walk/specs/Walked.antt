@@ -1,9 +1,7 @@
 -- What a range, or several, came to: what is written in the step list and in the row area. Assumes nothing.
-use Rattle.std.specs.Prelude.{true, false, List, [], ◌∷◌, ℕ, ◌-◌, eqb}
+use Rattle.std.specs.Prelude.{true, false, List, [], ◌∷◌, ℕ, ◌-◌, eqb, Ok, Err}
 use Rattle.model.specs.declared.answers.Walked.{Walked}
 use Rattle.model.specs.declared.answers.Refusal.TheVariants.{RowsTooLong, ListTooShort}
-use Rattle.model.specs.declared.answers.Outcome.{Outcome}
-use Rattle.model.specs.declared.answers.Outcome.TheVariants.{Done, Refused}
 use Rattle.model.specs.Cut.{HistoryRange, linear, concurrent}
 use Rattle.model.specs.Choice.{Range}
 use Rattle.model.specs.Steps.{steps_of}
@@ -12,6 +10,7 @@ use Rattle.moves.specs.declared.writing.Out.{Out}
 use Rattle.moves.specs.Emit.{Writing, step_of, emit_one, emit, applies}
 use Rattle.moves.specs.Moves.{recs}
 use Rattle.walk.specs.declared.walking.Ranged.{Ranged}
+use Rattle.model.specs.Refusals.{Outcome}
 
 -- What is written, the row area, the step list
 abbrev pub State : Type 0
@@ -40,8 +39,8 @@ walked_in st w a known first out rows steps = elim (rows_too_long w rows) [
 -- The outcome: rows too long, the list too short, or neither
 unfoldable pub outcome_of : Ranged → Outcome
 outcome_of r = elim (eqb r.rows 0) [
-  | true ↦ elim (eqb r.short 0) [ true ↦ Done | false ↦ Refused ListTooShort ]
-  | false ↦ Refused RowsTooLong
+  | true ↦ elim (eqb r.short 0) [ true ↦ Ok tt | false ↦ Err ListTooShort ]
+  | false ↦ Err RowsTooLong
 ]
 
 unfoldable pub walked_of : Ranged → Walked

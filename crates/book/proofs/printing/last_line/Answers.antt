@@ -1,9 +1,9 @@
 -- `book::printing::last_line` meets its contract: the outcome decides. Assumes nothing.
 use mathlib.Core.Path.{sym, subst}
-use Rattle.model.specs.declared.answers.Outcome.{Outcome}
 use Rattle.model.specs.Print.{ascii, last_line, line_text, say}
 use Rattle.book.specs.Output.{Shows, ended}
 use Rattle.book.proofs.printing.last_line.Goals as goal
+use Rattle.model.specs.Refusals.{Outcome}
 
 pub returns-in-Done : goal.returns-in-Done
 unfolding ascii last_line ended line_text say

@@ -2,7 +2,6 @@
 use mathlib.Core.Path.{refl, sym, ap, ◌∙◌}
 use mathlib.Core.Bool.{false}
 use borrow.Author.Rules.{rules}
-use Rattle.model.specs.declared.answers.Outcome.TheVariants.{Done}
 use Rattle.model.specs.Answers.{containing_or}
 use Rattle.model.specs.Lookups.{containing_of}
 use Rattle.model.proofs.Stored.{held_of}
@@ -10,6 +9,7 @@ use Rattle.graph.proofs.Views.{facts}
 use Rattle.graph.proofs.Placing.{side-view}
 use Rattle.graph.proofs.Looking.{look_broken, look_done}
 use Rattle.graph.proofs.lookups.containing.Goals as goal
+use Rattle.std.specs.Prelude.{Ok}
 
 pub returns-then-is_broken : goal.returns-then-is_broken
 unfolding containing_of
@@ -27,4 +27,4 @@ returns c =
     let g = c.args.g in
     let whole = sym c.is_broken.ensures ∙ c.if-is_broken.false in
     let held = held_of g (search rules) whole in
-    rw (look_done g whole false refl) (c.containing_in.ensures ∙ ap (containing_or Done) (side-view g held c.args.event.0))
+    rw (look_done g whole false refl) (c.containing_in.ensures ∙ ap (containing_or (Ok tt)) (side-view g held c.args.event.0))

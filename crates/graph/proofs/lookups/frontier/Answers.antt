@@ -3,13 +3,13 @@ use mathlib.Core.Path.{refl, sym, ◌∙◌}
 use borrow.Author.Rules.{rules}
 use Rattle.model.specs.Record.{view}
 use Rattle.model.specs.declared.answers.FrontierEvents.{FrontierEvents}
-use Rattle.model.specs.declared.answers.Outcome.TheVariants.{Done}
 use Rattle.model.specs.Answers.{listed, frontier_or}
 use Rattle.model.specs.Lookups.{frontier_of}
 use Rattle.model.proofs.Stored.{held_of}
 use Rattle.graph.proofs.Views.{tips_view, frontier-pad}
 use Rattle.graph.proofs.Looking.{look_broken, look_done, listed-done}
 use Rattle.graph.proofs.lookups.frontier.Goals as goal
+use Rattle.std.specs.Prelude.{Ok}
 
 pub returns-then-is_broken : goal.returns-then-is_broken
 unfolding frontier_of frontier_or listed
@@ -23,5 +23,5 @@ returns c =
     let whole = sym c.is_broken.ensures ∙ c.if-is_broken.false in
     let held = held_of g (search rules) whole in
     rw (look_done g whole _ refl)
-    (listed-done {A = FrontierEvents} (λ es n. record { events = es; count = n; outcome = Done }) g.frontier g.frontier_count (view g).frontier
+    (listed-done {A = FrontierEvents} (λ es n. record { events = es; count = n; outcome = Ok tt }) g.frontier g.frontier_count (view g).frontier
     (frontier-pad g held) (sym (tips_view g held)))

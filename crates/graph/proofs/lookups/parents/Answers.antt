@@ -9,13 +9,13 @@ use Rattle.lists.specs.Areas.{pad, part}
 use Rattle.model.specs.Graph.{runs}
 use Rattle.model.specs.Record.{view}
 use Rattle.model.specs.declared.answers.ParentRuns.{ParentRuns}
-use Rattle.model.specs.declared.answers.Outcome.TheVariants.{Done}
 use Rattle.model.specs.Answers.{listed, parent_runs_or}
 use Rattle.model.specs.Lookups.{parents_of}
 use Rattle.model.proofs.Stored.{held_of}
 use Rattle.graph.proofs.Views.{facts, runs-view}
 use Rattle.graph.proofs.Looking.{look_broken, look_outside, look_done, group_bounds, group_end, group_view, group_short, group_count, listed-done}
 use Rattle.graph.proofs.lookups.parents.Goals as goal
+use Rattle.std.specs.Prelude.{Ok}
 
 pub returns-then-is_broken : goal.returns-then-is_broken
 unfolding parents_of parent_runs_or listed
@@ -91,4 +91,4 @@ returns c =
     let items = c.padded-runs.ensures ∙ ap (pad 512) (sym (group_view g held r c.if-g-n.false)) in
     let count = group_count g held r c.if-g-n.false in
     rw (look_done g whole _ inside)
-    (listed-done {A = ParentRuns} (λ rs n. record { runs = rs; count = n; outcome = Done }) _ _ (get_or (view g).parents r []) items count)
+    (listed-done {A = ParentRuns} (λ rs n. record { runs = rs; count = n; outcome = Ok tt }) _ _ (get_or (view g).parents r []) items count)
