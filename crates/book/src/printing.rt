@@ -7,7 +7,7 @@ ghost use Rattle.model.specs.Reader.{decoded};
 ghost use Rattle.book.specs.Output;
 ghost use Rattle.book.specs.Output.{max_line, shown, Shows, Adds, step_bytes, word_lines, put_line, put_lines};
 
-use model::{EventRunIndex, Outcome, Refusal};
+use model::{EventRunIndex, Refusal};
 
 // How many bytes a line has room for: no line of 01's is longer.
 pub(crate) const MAX_LINE: usize = 64;
@@ -179,12 +179,12 @@ pub(crate) fn push_refused_line(r: Refusal, k: u32) -> Line
 }
 
 // The line after a replay's steps.
-pub(crate) fn last_line(outcome: Outcome, moved: u64) -> Line
+pub(crate) fn last_line(outcome: Result<(), Refusal>, moved: u64) -> Line
     ensures { Shows result (Output.ended (last_line outcome moved)) }
 {
     match outcome {
-        Outcome::Done => one(b"moved ", moved),
-        Outcome::Refused(r) => refused_line(r),
+        Ok(()) => one(b"moved ", moved),
+        Err(r) => refused_line(r),
     }
 }
 

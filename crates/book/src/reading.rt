@@ -7,10 +7,7 @@ ghost use Rattle.model.specs.Book.{word, words_of, read_pushes, read_header, boo
 ghost use Rattle.model.specs.Fresh.{new_of};
 ghost use Rattle.book.specs.Turns.{stopped, tried_at, headed, Turned};
 
-use model::{
-    BookAnswer, BookRead, CausalGraph, EventIndex, EventsAnswer, MAX_BOOK, Made, Outcome, Pushed,
-    Refusal,
-};
+use model::{BookRead, BookRefusal, CausalGraph, Changed, EventIndex, MAX_BOOK, Refusal};
 
 // How far the pushes were taken: the graph made so far, and the place of the next push, in words. Once one is refused, `answer` says why.
 #[derive(Clone, Copy)]
@@ -18,7 +15,7 @@ pub(crate) struct Turn {
     pub(crate) graph: CausalGraph,
     pub(crate) at: usize,
     pub(crate) is_refused: bool,
-    pub(crate) answer: BookAnswer,
+    pub(crate) answer: Result<(), BookRefusal>,
 }
 
 fn wide(b: u8) -> u32
@@ -65,28 +62,28 @@ fn ends_early(g: CausalGraph) -> Turn
         graph: g,
         at: 0,
         is_refused: true,
-        answer: BookAnswer::Refused(Refusal::BookTooShort),
+        answer: Err(BookRefusal::Refused(Refusal::BookTooShort)),
     }
 }
 
 // Push `k` was tried; the next one stands at `at`.
-fn tried(pushed: Pushed, at: usize, k: u32) -> Turn
+fn tried(pushed: Changed<(EventIndex, EventIndex)>, at: usize, k: u32) -> Turn
     ensures { result ≡ tried_at pushed at k }
 {
     let g = pushed.graph;
     let answer = pushed.answer;
     match answer {
-        EventsAnswer::Events(_, _) => Turn {
+        Ok(_) => Turn {
             graph: g,
             at: at,
             is_refused: false,
-            answer: BookAnswer::Whole,
+            answer: Ok(()),
         },
-        EventsAnswer::Refused(r) => Turn {
+        Err(r) => Turn {
             graph: g,
             at: at,
             is_refused: true,
-            answer: BookAnswer::PushRefused(r, k),
+            answer: Err(BookRefusal::PushRefused(r, k)),
         },
     }
 }
@@ -113,7 +110,7 @@ fn take_push(t: Turn, bytes: &[u8], words: &[u32], k: u32) -> Turn
     tried(pushed, end, k)
 }
 
-fn answered(g: CausalGraph, answer: BookAnswer) -> BookRead
+fn answered(g: CausalGraph, answer: Result<(), BookRefusal>) -> BookRead
     ensures { result ≡ record { graph = g; answer = answer } }
 {
     BookRead {
@@ -130,9 +127,9 @@ fn finish(t: Turn, bytes: &[u8]) -> BookRead
     let g = t.graph;
     let at = t.at;
     if bytes.len() == 4 * at {
-        return answered(g, BookAnswer::Whole);
+        return answered(g, Ok(()));
     }
-    answered(g, BookAnswer::Refused(Refusal::BookTooLong))
+    answered(g, Err(BookRefusal::Refused(Refusal::BookTooLong)))
 }
 
 // Takes `count` pushes, the first at place `from`.
@@ -146,7 +143,7 @@ fn pushes(g: CausalGraph, bytes: &[u8], words: &[u32], count: u32, from: usize) 
         graph: g,
         at: from,
         is_refused: false,
-        answer: BookAnswer::Whole,
+        answer: Ok(()),
     };
     let mut k = 0;
     while k < count {
@@ -162,7 +159,7 @@ fn pushes(g: CausalGraph, bytes: &[u8], words: &[u32], count: u32, from: usize) 
 }
 
 // The header was tried; `count` pushes stand from place `from` on.
-fn begin(made: Made, bytes: &[u8], words: &[u32], count: u32, from: usize) -> BookRead
+fn begin(made: Changed<()>, bytes: &[u8], words: &[u32], count: u32, from: usize) -> BookRead
     requires held { Held made.graph }
     requires from_in_bounds { from ≤ length words.now }
     requires words_value { words.now ≡ words_of (length bytes.now / 4) bytes.now }
@@ -171,13 +168,13 @@ fn begin(made: Made, bytes: &[u8], words: &[u32], count: u32, from: usize) -> Bo
     let g = made.graph;
     let outcome = made.outcome;
     match outcome {
-        Outcome::Done => pushes(g, bytes, words, count, from),
-        Outcome::Refused(r) => answered(g, BookAnswer::Refused(r)),
+        Ok(()) => pushes(g, bytes, words, count, from),
+        Err(r) => answered(g, Err(BookRefusal::Refused(r))),
     }
 }
 
 // Nothing was made: a new graph, and what is answered.
-fn fresh(answer: BookAnswer) -> BookRead
+fn fresh(answer: Result<(), BookRefusal>) -> BookRead
     ensures { result ≡ record { graph = new_of; answer = answer } }
 {
     answered(graph::fresh::new(), answer)
@@ -190,11 +187,11 @@ fn read_words(bytes: &[u8], words: &[u32]) -> BookRead
 {
     let n = words.len();
     if n < 3 {
-        return fresh(BookAnswer::Refused(Refusal::BookTooShort));
+        return fresh(Err(BookRefusal::Refused(Refusal::BookTooShort)));
     }
     let count = words[1] as usize;
     if n - 3 < count {
-        return fresh(BookAnswer::Refused(Refusal::BookTooShort));
+        return fresh(Err(BookRefusal::Refused(Refusal::BookTooShort)));
     }
     let end = 2 + count;
     let made = graph::fresh::after(EventIndex(words[0]), &words[2..end]);
@@ -206,10 +203,10 @@ pub fn read(bytes: &[u8]) -> BookRead
     ensures { result ≡ book_of bytes.now }
 {
     if bytes.len() == 0 {
-        return fresh(BookAnswer::Whole);
+        return fresh(Ok(()));
     }
     if MAX_BOOK < bytes.len() {
-        return fresh(BookAnswer::Refused(Refusal::BookTooLong));
+        return fresh(Err(BookRefusal::Refused(Refusal::BookTooLong)));
     }
     let n = bytes.len() / 4;
     let mut words = no_words();

@@ -6,7 +6,7 @@ ghost use Rattle.model.specs.Print.{replay_lines, printed};
 ghost use Rattle.book.specs.Output.{printing, lines_of};
 
 use crate::printing::Printed;
-use model::{BookAnswer, BookRead, CausalGraph, LENT_ROWS, LENT_STEPS};
+use model::{BookRead, BookRefusal, CausalGraph, LENT_ROWS, LENT_STEPS};
 
 // How many bytes the lines of any book take at most.
 pub const MAX_TEXT: usize = 131072;
@@ -47,12 +47,12 @@ fn lines(read: BookRead, out: &mut [u8]) -> Printed
     let g = read.graph;
     let answer = read.answer;
     match answer {
-        BookAnswer::Whole => replay_lines(g, out),
-        BookAnswer::Refused(r) => {
+        Ok(()) => replay_lines(g, out),
+        Err(BookRefusal::Refused(r)) => {
             let line = crate::printing::refused_line(r);
             crate::printing::put_line(out, crate::printing::blank(), line)
         }
-        BookAnswer::PushRefused(r, k) => {
+        Err(BookRefusal::PushRefused(r, k)) => {
             let line = crate::printing::push_refused_line(r, k);
             crate::printing::put_line(out, crate::printing::blank(), line)
         }

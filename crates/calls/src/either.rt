@@ -4,9 +4,9 @@ ghost use Rattle.model.specs.Push.{push_of};
 ghost use Rattle.model.specs.Start.{start_run_at_of, take_changed_from_of};
 
 use crate::lending;
-use model::{CausalGraph, EventIndex, Pushed, Started, Taken};
+use model::{CausalGraph, Changed, EventIndex, EventRunIndex};
 
-pub fn push(lent: bool, g: CausalGraph, parents: &[u32], len: u32) -> Pushed
+pub fn push(lent: bool, g: CausalGraph, parents: &[u32], len: u32) -> Changed<(EventIndex, EventIndex)>
     ensures { result ≡ push_of g parents.now len }
 {
     if lent {
@@ -15,7 +15,7 @@ pub fn push(lent: bool, g: CausalGraph, parents: &[u32], len: u32) -> Pushed
     graph::pushing::push(g, parents, len)
 }
 
-pub fn start_run_at(lent: bool, g: CausalGraph, at: EventIndex) -> Started
+pub fn start_run_at(lent: bool, g: CausalGraph, at: EventIndex) -> Changed<bool>
     ensures { result ≡ start_run_at_of g at.0 }
 {
     if lent {
@@ -24,7 +24,7 @@ pub fn start_run_at(lent: bool, g: CausalGraph, at: EventIndex) -> Started
     graph::starting::start_run_at(g, at)
 }
 
-pub fn take_changed_from(lent: bool, g: CausalGraph) -> Taken
+pub fn take_changed_from(lent: bool, g: CausalGraph) -> Changed<EventRunIndex>
     ensures { result ≡ take_changed_from_of g }
 {
     if lent {

@@ -15,7 +15,7 @@ ghost use Rattle.calls.specs.Words.{list_in, start_size, start_of};
 ghost use Rattle.calls.specs.Words.{call_operation, call_size, call_of, calls_after, called_by, graph_after, EveryList};
 ghost use Rattle.calls.specs.Again.{StartsAgain};
 
-use model::{BoolAnswer, CausalGraph, EventIndex};
+use model::{CausalGraph, EventIndex, Refusal};
 
 // The word at a place; past the end, 0.
 fn get(words: &[u32], i: usize) -> u32
@@ -182,9 +182,9 @@ pub fn every_list()
 // What two run starts at one event answered, the graph that the later one was given, and the one that it left.
 #[derive(Clone, Copy)]
 pub struct StartedAgain {
-    pub first: BoolAnswer,
+    pub first: Result<bool, Refusal>,
     pub given: CausalGraph,
-    pub again: BoolAnswer,
+    pub again: Result<bool, Refusal>,
     pub left: CausalGraph,
 }
 

@@ -80,44 +80,44 @@ fresh-stored events frontier starts heads parents tips seen marked a b c d e f =
 -- The ways out of `after`
 module _ (events : ℕ) (frontier : List ℕ) (made : CausalGraph) where
   refuses : (r : Refusal) → made ≡ new_of → after_outcome events frontier ≡ Err r →
-      ◌≡◌ {A = Made} (record { graph = made; outcome = Err r }) (after_of events frontier)
+      ◌≡◌ {A = Made} (record { graph = made; answer = Err r }) (after_of events frontier)
   unfolding after_of
   refuses r n e = sym (go (after_outcome events frontier) e)
     where
       go : (o : Outcome) → o ≡ Err r →
           ◌≡◌ {A = Made}
           (elim o as (λ _. Made) [
-            | Ok _ ↦ record { graph = store (fresh events frontier); outcome = Ok tt }
-            | Err q ↦ record { graph = new_of; outcome = Err q }
+            | Ok _ ↦ record { graph = store (fresh events frontier); answer = Ok tt }
+            | Err q ↦ record { graph = new_of; answer = Err q }
           ])
-          (record { graph = made; outcome = Err r })
+          (record { graph = made; answer = Err r })
       go o q = rw (q, n)
 
   pub after_unordered : made ≡ new_of → rising frontier ≡ false →
-      ◌≡◌ {A = Made} (record { graph = made; outcome = Err NotRising }) (after_of events frontier)
+      ◌≡◌ {A = Made} (record { graph = made; answer = Err NotRising }) (after_of events frontier)
   unfolding after_outcome first_of
   after_unordered n e = refuses NotRising n (rw e)
 
   pub after-unknown : made ≡ new_of → rising frontier ≡ true → below events frontier ≡ false →
-      ◌≡◌ {A = Made} (record { graph = made; outcome = Err UnknownEvent }) (after_of events frontier)
+      ◌≡◌ {A = Made} (record { graph = made; answer = Err UnknownEvent }) (after_of events frontier)
   unfolding after_outcome first_of
   after-unknown n e k = refuses UnknownEvent n (rw (e, k))
 
   pub after-long : made ≡ new_of → rising frontier ≡ true → below events frontier ≡ true → 512 < length frontier →
-      ◌≡◌ {A = Made} (record { graph = made; outcome = Err FrontierTooLong }) (after_of events frontier)
+      ◌≡◌ {A = Made} (record { graph = made; answer = Err FrontierTooLong }) (after_of events frontier)
   unfolding after_outcome first_of
   after-long n e k l = refuses FrontierTooLong n (rw (e, k, lt-ltb 512 (length frontier) l))
 
   pub after-done : made ≡ store (fresh events frontier) → rising frontier ≡ true → below events frontier ≡ true → length frontier ≤ 512 →
-      ◌≡◌ {A = Made} (record { graph = made; outcome = Ok tt }) (after_of events frontier)
+      ◌≡◌ {A = Made} (record { graph = made; answer = Ok tt }) (after_of events frontier)
   unfolding after_of after_outcome first_of
   after-done n e k l = sym (go (after_outcome events frontier) (rw (e, k, le-ltb 512 (length frontier) l)))
     where
       go : (o : Outcome) → o ≡ Ok tt →
           ◌≡◌ {A = Made}
           (elim o as (λ _. Made) [
-            | Ok _ ↦ record { graph = store (fresh events frontier); outcome = Ok tt }
-            | Err q ↦ record { graph = new_of; outcome = Err q }
+            | Ok _ ↦ record { graph = store (fresh events frontier); answer = Ok tt }
+            | Err q ↦ record { graph = new_of; answer = Err q }
           ])
-          (record { graph = made; outcome = Ok tt })
+          (record { graph = made; answer = Ok tt })
       go o q = rw (q, n)

@@ -12,7 +12,7 @@ use Rattle.lists.specs.Lists.{bit, count}
 use Rattle.lists.proofs.Truth.{bit_le}
 use Rattle.lists.proofs.Counts.{count_next, count_end}
 use Rattle.model.specs.declared.answers.Refusal.{Refusal}
-use Rattle.model.specs.Answers.{containing_or}
+use Rattle.model.specs.Answers.{containing_at}
 use Rattle.model.specs.Graph.{Side, in_run, before, unknown, is_held, is_known}
 use Rattle.graph.specs.declared.pushing.ParentCounts.{ParentCounts}
 use Rattle.graph.specs.Loops.{side_in, needs_in, count_parent, count_parents}
@@ -45,7 +45,7 @@ module _ (xs : List ℕ) (n : ℕ) (t : ParentCounts) (p : ℕ) where
       ∙ is-counted (in_run r) (not ended) f.there (needs_found xs n p r f ∙ ap not (sym e))
 
   -- not yet known
-  pub count-unknown : {a : (OrRefusal Containing)} → a ≡ containing_or (Ok tt) (side_in xs n p) → a ≡ Ok Unknown →
+  pub count-unknown : {a : Containing} → a ≡ containing_at (side_in xs n p) → a ≡ Unknown →
       ◌≡◌ {A = ParentCounts} (record { unknown = t.unknown + 1; held = t.held; splits = t.splits }) (count_parent xs n t p)
   unfolding is_held is_known
   count-unknown e q =
@@ -54,7 +54,7 @@ module _ (xs : List ℕ) (n : ℕ) (t : ParentCounts) (p : ℕ) where
       ∙ is-counted unknown false s (needs_not xs n p (ap is_held s))
 
   -- before the graph
-  pub count-before : {a : (OrRefusal Containing)} → a ≡ containing_or (Ok tt) (side_in xs n p) → (a ≡ Ok Before) ⊎ ((x : Refusal) × (a ≡ Err x)) → t ≡ count_parent xs n t p
+  pub count-before : {a : Containing} → a ≡ containing_at (side_in xs n p) → a ≡ Before → t ≡ count_parent xs n t p
   unfolding is_held is_known
   count-before e o =
       let s = told-before (side_in xs n p) e o in

@@ -12,7 +12,7 @@ use Rattle.lists.proofs.Truth.{lt_or_le}
 use Rattle.model.specs.declared.record.CausalGraph.{CausalGraph}
 use Rattle.model.specs.declared.record.EventRunIndex.{EventRunIndex}
 use Rattle.model.specs.declared.answers.Refusal.{Refusal}
-use Rattle.model.specs.Answers.{containing_or}
+use Rattle.model.specs.Answers.{containing_at}
 use Rattle.model.specs.Graph.{first_held, len, Side, in_run, before, unknown, side, is_held}
 use Rattle.model.specs.Record.{view}
 use Rattle.model.specs.Broken.{Held}
@@ -70,37 +70,34 @@ unfolding is_held
 found_held f = ap is_held f.there
 
 -- The code's answer, by its variants: a run; none, by the numbers of the others
-pub told-run : (s : Side) (r : EventRunIndex) → containing_or (Ok tt) s ≡ Ok (Run r) → s ≡ in_run r.0
-told-run (in_run k) r q = ap (λ (a : (OrRefusal Containing)). in_run (run_of a)) q
+pub told-run : (s : Side) (r : EventRunIndex) → containing_at s ≡ Run r → s ≡ in_run r.0
+told-run (in_run k) r q = ap (λ (a : Containing). in_run (run_of a)) q
   where
-    run_of : OrRefusal Containing → ℕ
-    run_of (Ok (Run n)) = n.0
-    run_of (Ok Before) = 0
-    run_of (Ok Unknown) = 0
-    run_of (Err x) = 0
+    run_of : Containing → ℕ
+    run_of (Run n) = n.0
+    run_of Before = 0
+    run_of Unknown = 0
 told-run before r q = absurd (let z : ◌≡◌ {A = ℕ} 0 1 = cc in omega arith)
 told-run unknown r q = absurd (let z : ◌≡◌ {A = ℕ} 0 1 = cc in omega arith)
 
-pub told-unknown : (s : Side) → containing_or (Ok tt) s ≡ Ok Unknown → s ≡ unknown
+pub told-unknown : (s : Side) → containing_at s ≡ Unknown → s ≡ unknown
 told-unknown (in_run k) q = absurd (let z : ◌≡◌ {A = ℕ} 0 1 = cc in omega arith)
 told-unknown before q = absurd (let z : ◌≡◌ {A = ℕ} 0 1 = cc in omega arith)
 told-unknown unknown q = refl
 
-pub found : (xs : List ℕ) (n e : ℕ) {a : (OrRefusal Containing)} (r : EventRunIndex) → a ≡ containing_or (Ok tt) (side_in xs n e) → a ≡ Ok (Run r) → Found xs n e r.0
+pub found : (xs : List ℕ) (n e : ℕ) {a : Containing} (r : EventRunIndex) → a ≡ containing_at (side_in xs n e) → a ≡ Run r → Found xs n e r.0
 found xs n e r q t = found_in xs n e r.0 (told-run (side_in xs n e) r (sym q ∙ t))
 
-pub told-out : (s : Side) {a : (OrRefusal Containing)} → a ≡ containing_or (Ok tt) s → ((x : EventRunIndex) → a ≡ Ok (Run x) → ⊥) → is_held s ≡ false
+pub told-out : (s : Side) {a : Containing} → a ≡ containing_at s → ((x : EventRunIndex) → a ≡ Run x → ⊥) → is_held s ≡ false
 unfolding is_held
 told-out (in_run r) q o = absurd (o (record { 0 = r }) q)
 told-out before q o = refl
 told-out unknown q o = refl
 
-pub told-before : (s : Side) {a : (OrRefusal Containing)} → a ≡ containing_or (Ok tt) s → (a ≡ Ok Before) ⊎ ((x : Refusal) × (a ≡ Err x)) → s ≡ before
-told-before (in_run r) q (inl z) = absurd (let w : ◌≡◌ {A = ℕ} 0 1 = cc in omega arith)
-told-before (in_run r) q (inr z) = absurd (let e = z.1 in let w : ◌≡◌ {A = ℕ} 0 1 = cc in omega arith)
+pub told-before : (s : Side) {a : Containing} → a ≡ containing_at s → a ≡ Before → s ≡ before
+told-before (in_run r) q z = absurd (let w : ◌≡◌ {A = ℕ} 0 1 = cc in omega arith)
 told-before before q o = refl
-told-before unknown q (inl z) = absurd (let w : ◌≡◌ {A = ℕ} 0 1 = cc in omega arith)
-told-before unknown q (inr z) = absurd (let e = z.1 in let w : ◌≡◌ {A = ℕ} 0 1 = cc in omega arith)
+told-before unknown q z = absurd (let w : ◌≡◌ {A = ℕ} 0 1 = cc in omega arith)
 
 -- The side by the arrays of a record that is held is the graph's
 pub side-view : (g : CausalGraph) → Held g → (e : ℕ) → side_in g.starts g.run_count e ≡ side (view g) e

@@ -4,7 +4,7 @@ ghost use Rattle.model.specs.Broken.{Held};
 ghost use Rattle.model.specs.Cut.{cut_of, ranges_from};
 ghost use Rattle.graph.specs.Cutting.{blank, put as put_record, written_of, pending, join_on, put_ranges, cut_on};
 
-use model::{CausalGraph, EventRunIndex, Outcome, Refusal, Written};
+use model::{CausalGraph, EventRunIndex, Refusal, Written};
 
 // How many records were written, and 1 once one did not fit.
 #[derive(Clone, Copy)]
@@ -41,12 +41,12 @@ pub fn written(p: Put) -> Written
     if p.short == 0 {
         return Written {
             count: p.count,
-            outcome: Outcome::Done,
+            outcome: Ok(()),
         };
     }
     Written {
         count: p.count,
-        outcome: Outcome::Refused(Refusal::ListTooShort),
+        outcome: Err(Refusal::ListTooShort),
     }
 }
 
@@ -134,20 +134,20 @@ pub fn cut_held(g: CausalGraph, from: EventRunIndex, list: &mut [u32]) -> Writte
     if runs == 0 {
         return Written {
             count: 0,
-            outcome: Outcome::Done,
+            outcome: Ok(()),
         };
     }
     if runs <= from.0 as usize {
         return Written {
             count: 0,
-            outcome: Outcome::Refused(Refusal::Outside),
+            outcome: Err(Refusal::Outside),
         };
     }
     let n = g.mark_count;
     if !lists::is_among(&g.critical_versions, n, from.0) {
         return Written {
             count: 0,
-            outcome: Outcome::Refused(Refusal::Unmarked),
+            outcome: Err(Refusal::Unmarked),
         };
     }
     let at = lists::last_at_most(&g.critical_versions, n, from.0);
@@ -172,7 +172,7 @@ pub fn split_at_critical_versions_from(
     if crate::broken::is_broken(g) {
         return Written {
             count: 0,
-            outcome: Outcome::Refused(Refusal::Broken),
+            outcome: Err(Refusal::Broken),
         };
     }
     cut_held(g, from, list)
@@ -185,7 +185,7 @@ pub fn split_at_critical_versions(g: CausalGraph, list: &mut [u32]) -> Written
     if crate::broken::is_broken(g) {
         return Written {
             count: 0,
-            outcome: Outcome::Refused(Refusal::Broken),
+            outcome: Err(Refusal::Broken),
         };
     }
     cut_held(g, EventRunIndex(0), list)

@@ -8,10 +8,7 @@ ghost use Rattle.model.specs.Fresh;
 ghost use Rattle.model.specs.Fresh.{new_of, after_of};
 
 use lists::MAX_KEPT;
-use model::{
-    CausalGraph, EventIndex, EventRunIndex, MAX_ENTRIES, MAX_FRONTIER, MAX_RUNS, MAX_STARTS, Made,
-    Outcome, Refusal,
-};
+use model::{CausalGraph, Changed, EventIndex, EventRunIndex, MAX_ENTRIES, MAX_FRONTIER, MAX_RUNS, MAX_STARTS, Refusal};
 
 // Arrays of zeros.
 fn no_starts() -> [u32; MAX_STARTS]
@@ -77,29 +74,29 @@ pub fn new() -> CausalGraph
 }
 
 // A graph of the events after the first `events`, which every later event has seen and whose frontier is `frontier`.
-pub fn after(events: EventIndex, frontier: &[u32]) -> Made
+pub fn after(events: EventIndex, frontier: &[u32]) -> Changed<()>
     ensures { result ≡ after_of events.0 frontier.now }
 {
     if !lists::is_rising(frontier, frontier.len()) {
-        return Made {
+        return Changed {
             graph: new(),
-            outcome: Outcome::Refused(Refusal::NotRising),
+            answer: Err(Refusal::NotRising),
         };
     }
     if !lists::all_below(frontier, frontier.len(), events.0) {
-        return Made {
+        return Changed {
             graph: new(),
-            outcome: Outcome::Refused(Refusal::UnknownEvent),
+            answer: Err(Refusal::UnknownEvent),
         };
     }
     if MAX_FRONTIER < frontier.len() {
-        return Made {
+        return Changed {
             graph: new(),
-            outcome: Outcome::Refused(Refusal::FrontierTooLong),
+            answer: Err(Refusal::FrontierTooLong),
         };
     }
-    Made {
+    Changed {
         graph: fresh_held(events, frontier),
-        outcome: Outcome::Done,
+        answer: Ok(()),
     }
 }

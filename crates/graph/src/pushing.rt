@@ -10,10 +10,7 @@ ghost use Rattle.model.specs.Push.{grown, joined, lowered, push_held_of, push_of
 ghost use Rattle.graph.specs.Loops.{side_in, count_parent, count_parents, OwnFits, add_own, own_all, Joins, lower_all, assembled};
 
 use lists::Kept;
-use model::{
-    CausalGraph, ContainingAnswer, EventIndex, EventRunIndex, EventsAnswer, MAX_ENTRIES,
-    MAX_FRONTIER, MAX_LEN, MAX_RUNS, Pushed, Refusal,
-};
+use model::{CausalGraph, Changed, Containing, EventIndex, EventRunIndex, MAX_ENTRIES, MAX_FRONTIER, MAX_LEN, MAX_RUNS, Refusal};
 
 // Of a new run's parents so far, in one width: how many entries there are with theirs, and the largest of the first held event and what
 // their runs have seen.
@@ -93,7 +90,7 @@ fn count_parent(starts: &[u32], runs: usize, t: ParentCounts, p: EventIndex) -> 
     ensures { result ≡ count_parent starts.now runs t p.0 }
 {
     match crate::lookups::containing_in(starts, runs, p) {
-        ContainingAnswer::Run(run) => {
+        Containing::Run(run) => {
             let next = run.0 as usize + 1;
             let ended = crate::broken::is_next(p, EventIndex(starts[next]));
             ParentCounts {
@@ -102,12 +99,12 @@ fn count_parent(starts: &[u32], runs: usize, t: ParentCounts, p: EventIndex) -> 
                 splits: t.splits + one(!ended),
             }
         }
-        ContainingAnswer::Unknown => ParentCounts {
+        Containing::Unknown => ParentCounts {
             unknown: t.unknown + 1,
             held: t.held,
             splits: t.splits,
         },
-        ContainingAnswer::Before | ContainingAnswer::Refused(_) => t,
+        Containing::Before => t,
     }
 }
 
@@ -174,7 +171,7 @@ fn add_own<'a>(
     requires p_bound { t.count + bit (is_held (side_in starts.now runs p.0)) ≤ max_entries }
     ensures { (items.new, result) ≡ add_own starts.now seen.now runs (items.old, t) p.0 }
 {
-    let ContainingAnswer::Run(run) = crate::lookups::containing_in(starts, runs, p) else {
+    let Containing::Run(run) = crate::lookups::containing_in(starts, runs, p) else {
         return t;
     };
     let place = run.0 as usize;
@@ -326,7 +323,7 @@ fn join(g: CausalGraph, ps: &[u32], n: u32, start: EventIndex) -> CausalGraph
 }
 
 // A push whose parents are known events, rising, and whose events fit: growth, or refusals 6, 7, 8, or a new run.
-fn push_known(g: CausalGraph, ps: &[u32], n: u32, start: EventIndex, counts: ParentCounts) -> Pushed
+fn push_known(g: CausalGraph, ps: &[u32], n: u32, start: EventIndex, counts: ParentCounts) -> Changed<(EventIndex, EventIndex)>
     requires held { Held g }
     requires start_value { start.0 ≡ len (view g) }
     requires ps_value { rising ps.now ≡ true }
@@ -339,35 +336,35 @@ fn push_known(g: CausalGraph, ps: &[u32], n: u32, start: EventIndex, counts: Par
     let end = start.0 + n;
     if extends_in(&g.starts, g.run_count, ps) {
         let grown = grow_last(g, n, start);
-        return Pushed {
+        return Changed {
             graph: grown,
-            answer: EventsAnswer::Events(start, EventIndex(end)),
+            answer: Ok((start, EventIndex(end))),
         };
     }
     if over(MAX_RUNS, g.run_count + 1, counts.splits) {
-        return Pushed {
+        return Changed {
             graph: g,
-            answer: EventsAnswer::Refused(Refusal::TooManyRuns),
+            answer: Err(Refusal::TooManyRuns),
         };
     }
     if over(MAX_ENTRIES, g.entry_count + counts.splits, counts.held) {
-        return Pushed {
+        return Changed {
             graph: g,
-            answer: EventsAnswer::Refused(Refusal::TooManyEntries),
+            answer: Err(Refusal::TooManyEntries),
         };
     }
     let left = lists::keep_all(&g.frontier, g.frontier_count, ps);
     if MAX_FRONTIER < left.count + 1 {
-        return Pushed {
+        return Changed {
             graph: g,
-            answer: EventsAnswer::Refused(Refusal::FrontierTooLong),
+            answer: Err(Refusal::FrontierTooLong),
         };
     }
     let parted = crate::splitting::split_all(g, ps, counts.splits);
     let joined = join(parted, ps, n, start);
-    Pushed {
+    Changed {
         graph: joined,
-        answer: EventsAnswer::Events(start, EventIndex(end)),
+        answer: Ok((start, EventIndex(end))),
     }
 }
 
@@ -379,48 +376,48 @@ fn is_too_far(start: EventIndex, len: u32) -> bool
 }
 
 // `push` on a graph that is known not to be broken, for a caller that made it.
-pub fn push_held(g: CausalGraph, parents: &[u32], len: u32) -> Pushed
+pub fn push_held(g: CausalGraph, parents: &[u32], len: u32) -> Changed<(EventIndex, EventIndex)>
     requires { Held g }
     ensures { result ≡ push_held_of g parents.now len }
 {
     let runs = g.run_count;
     let start = g.starts[runs];
     if len == 0 {
-        return Pushed {
+        return Changed {
             graph: g,
-            answer: EventsAnswer::Refused(Refusal::NoEvents),
+            answer: Err(Refusal::NoEvents),
         };
     }
     if !lists::is_rising(parents, parents.len()) {
-        return Pushed {
+        return Changed {
             graph: g,
-            answer: EventsAnswer::Refused(Refusal::NotRising),
+            answer: Err(Refusal::NotRising),
         };
     }
     let counts = count_parents(&g.starts, runs, parents);
     if 0 < counts.unknown {
-        return Pushed {
+        return Changed {
             graph: g,
-            answer: EventsAnswer::Refused(Refusal::UnknownEvent),
+            answer: Err(Refusal::UnknownEvent),
         };
     }
     if is_too_far(EventIndex(start), len) {
-        return Pushed {
+        return Changed {
             graph: g,
-            answer: EventsAnswer::Refused(Refusal::TooManyEvents),
+            answer: Err(Refusal::TooManyEvents),
         };
     }
     push_known(g, parents, len, EventIndex(start), counts)
 }
 
 // Appends a chain of `len` events whose first has `parents`, and answers the first of them and the end.
-pub fn push(g: CausalGraph, parents: &[u32], len: u32) -> Pushed
+pub fn push(g: CausalGraph, parents: &[u32], len: u32) -> Changed<(EventIndex, EventIndex)>
     ensures { result ≡ push_of g parents.now len }
 {
     if crate::broken::is_broken(g) {
-        return Pushed {
+        return Changed {
             graph: g,
-            answer: EventsAnswer::Refused(Refusal::Broken),
+            answer: Err(Refusal::Broken),
         };
     }
     push_held(g, parents, len)

@@ -2,7 +2,7 @@
 ghost use Rattle.std.specs.Prelude.{◌≡◌};
 ghost use Rattle.model.specs.Walk.{range_outcome};
 
-use model::{CausalGraph, EventRunIndex, Outcome, Refusal};
+use model::{CausalGraph, EventRunIndex, Refusal};
 
 // Whether a graph is not broken, a range of its runs lies inside it, and `known` is at most the range's length: refusals 1, 9, 12.
 // Where the outcome is Done the graph is held, so its arrays may be read as they are.
@@ -11,22 +11,22 @@ pub fn range_outcome(
     first: EventRunIndex,
     end: EventRunIndex,
     known: u32,
-) -> Outcome
+) -> Result<(), Refusal>
     ensures { result ≡ range_outcome g first.0 end.0 known }
 {
     if crate::broken::is_broken(g) {
-        return Outcome::Refused(Refusal::Broken);
+        return Err(Refusal::Broken);
     }
     let from = first.0;
     let to = end.0;
     if to < from {
-        return Outcome::Refused(Refusal::Outside);
+        return Err(Refusal::Outside);
     }
     if g.run_count < to as usize {
-        return Outcome::Refused(Refusal::Outside);
+        return Err(Refusal::Outside);
     }
     if to - from < known {
-        return Outcome::Refused(Refusal::KnownTooLong);
+        return Err(Refusal::KnownTooLong);
     }
-    Outcome::Done
+    Ok(())
 }

@@ -8,9 +8,7 @@ ghost use Rattle.model.specs.Split;
 ghost use Rattle.model.specs.Split.{split, split_after};
 ghost use Rattle.graph.specs.Loops.{Room, parts, SplitFits, split_in, AfterFits, after_in, with_parts};
 
-use model::{
-    CausalGraph, ContainingAnswer, EventIndex, EventRunIndex, MAX_ENTRIES, MAX_RUNS, MAX_STARTS,
-};
+use model::{CausalGraph, Containing, EventIndex, EventRunIndex, MAX_ENTRIES, MAX_RUNS, MAX_STARTS};
 
 // What a split run's second part has seen: all before it, if the first had.
 fn seen_from(s: EventIndex, start: EventIndex, at: EventIndex) -> EventIndex
@@ -129,7 +127,7 @@ fn split_after(
     ensures { parts starts.new heads.new parents.new seen.new result ≡
         after_in (parts starts.old heads.old parents.old seen.old c) p.0 }
 {
-    let ContainingAnswer::Run(run) = crate::lookups::containing_in(starts, c.runs, p) else {
+    let Containing::Run(run) = crate::lookups::containing_in(starts, c.runs, p) else {
         return c;
     };
     let next = run.0 as usize + 1;

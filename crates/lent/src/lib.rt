@@ -6,10 +6,10 @@ ghost use Rattle.std.specs.Prelude.{◌≡◌};
 ghost use Rattle.model.specs.Push.{push_of};
 ghost use Rattle.model.specs.Start.{start_run_at_of, take_changed_from_of};
 
-use model::{BoolAnswer, CausalGraph, EventIndex, EventsAnswer, RunAnswer};
+use model::{CausalGraph, EventIndex, EventRunIndex, Refusal};
 
 // `push` on a lent graph.
-pub fn push(g: &mut CausalGraph, parents: &[u32], len: u32) -> EventsAnswer
+pub fn push(g: &mut CausalGraph, parents: &[u32], len: u32) -> Result<(EventIndex, EventIndex), Refusal>
     ensures { record { graph = g.new; answer = result } ≡ push_of g.old parents.now len }
 {
     let pushed = graph::pushing::push(*g, parents, len);
@@ -18,7 +18,7 @@ pub fn push(g: &mut CausalGraph, parents: &[u32], len: u32) -> EventsAnswer
 }
 
 // `start_run_at` on a lent graph.
-pub fn start_run_at(g: &mut CausalGraph, at: EventIndex) -> BoolAnswer
+pub fn start_run_at(g: &mut CausalGraph, at: EventIndex) -> Result<bool, Refusal>
     ensures { record { graph = g.new; answer = result } ≡ start_run_at_of g.old at.0 }
 {
     let started = graph::starting::start_run_at(*g, at);
@@ -27,7 +27,7 @@ pub fn start_run_at(g: &mut CausalGraph, at: EventIndex) -> BoolAnswer
 }
 
 // `take_changed_from` on a lent graph.
-pub fn take_changed_from(g: &mut CausalGraph) -> RunAnswer
+pub fn take_changed_from(g: &mut CausalGraph) -> Result<EventRunIndex, Refusal>
     ensures { record { graph = g.new; answer = result } ≡ take_changed_from_of g.old }
 {
     let taken = graph::starting::take_changed_from(*g);

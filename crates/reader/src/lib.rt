@@ -6,16 +6,16 @@ ghost use Rattle.model.specs.Reader.{next_of};
 ghost use Rattle.reader.specs.Reading.{step_at, reader_at, next_from};
 ghost use Rattle.reader.specs.RoundTrip.{RoundTrip};
 
-use model::{EventRunIndex, NextStep, Refusal, WalkStep};
+use model::{EventRunIndex, Refusal, WalkStep};
 
 // What a reader at a place of a written list hands out, and the place where it then stands.
 #[derive(Clone, Copy)]
 pub struct StepAt {
-    pub step: NextStep,
+    pub step: Result<Option<WalkStep>, Refusal>,
     pub at: usize,
 }
 
-fn answer(step: NextStep, at: usize) -> StepAt
+fn answer(step: Result<Option<WalkStep>, Refusal>, at: usize) -> StepAt
     ensures { result ≡ step_at step at }
 {
     StepAt { step, at }
@@ -27,21 +27,21 @@ pub fn step_at(words: &[u32], at: usize) -> StepAt
 {
     let n = words.len();
     if n < 3 {
-        return answer(NextStep::End, at);
+        return answer(Ok(None), at);
     }
     if n - 3 < at {
-        return answer(NextStep::End, at);
+        return answer(Ok(None), at);
     }
     let kind = words[at];
     let a = EventRunIndex(words[at + 1]);
     let b = EventRunIndex(words[at + 2]);
     let past = at + 3;
     match kind {
-        0 => answer(NextStep::Step(WalkStep::Retreat(a, b)), past),
-        1 => answer(NextStep::Step(WalkStep::Advance(a, b)), past),
-        2 => answer(NextStep::Step(WalkStep::Apply(a)), past),
-        3 => answer(NextStep::Step(WalkStep::Open(a, b)), past),
-        _ => answer(NextStep::Refused(Refusal::UnknownKind), at),
+        0 => answer(Ok(Some(WalkStep::Retreat(a, b))), past),
+        1 => answer(Ok(Some(WalkStep::Advance(a, b))), past),
+        2 => answer(Ok(Some(WalkStep::Apply(a))), past),
+        3 => answer(Ok(Some(WalkStep::Open(a, b))), past),
+        _ => answer(Err(Refusal::UnknownKind), at),
     }
 }
 
@@ -60,7 +60,7 @@ pub fn new<'a>(words: &'a [u32]) -> StepReader<'a>
 }
 
 // The next step, and the reader moves past it. At the end and at an unknown kind it stays.
-pub fn next<'s, 'a>(r: &'s mut StepReader<'a>) -> NextStep
+pub fn next<'s, 'a>(r: &'s mut StepReader<'a>) -> Result<Option<WalkStep>, Refusal>
     ensures { (result, r.new) ≡ next_from r.old }
 {
     let got = step_at(r.words, r.at);

@@ -15,7 +15,7 @@ ghost use Rattle.versions.specs.Heads.{noted, note_all, first_children, is_head,
 use crate::words::put_one;
 use graph::cut::Put;
 use lists::Kept;
-use model::{CausalGraph, EventRunIndex, MAX_RUNS, Outcome, Refusal, Written};
+use model::{CausalGraph, EventRunIndex, MAX_RUNS, Refusal, Written};
 
 // A run's first child once `child` is noted as one, where `first` was the first so far (0 where it had none).
 fn noted(first: u32, child: EventRunIndex) -> u32
@@ -217,7 +217,7 @@ pub fn archive_points(g: CausalGraph, list: &mut [u32]) -> Written
     if graph::broken::is_broken(g) {
         return Written {
             count: 0,
-            outcome: Outcome::Refused(Refusal::Broken),
+            outcome: Err(Refusal::Broken),
         };
     }
     archive_held(g, list)

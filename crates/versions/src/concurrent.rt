@@ -12,7 +12,7 @@ ghost use Rattle.versions.specs.Flags.{flag_all, flag_parents, flag_down, flagge
 
 use crate::words::put_one;
 use graph::cut::Put;
-use model::{CausalGraph, EventRunIndex, MAX_RUNS, Outcome, Refusal, Written};
+use model::{CausalGraph, EventRunIndex, MAX_RUNS, Refusal, Written};
 
 // Flags the numbers of a part of a list.
 pub(crate) fn flag_part(flags: &mut [u32], items: &[u32], from: usize, to: usize)
@@ -213,7 +213,7 @@ fn concurrent_held(g: CausalGraph, run: EventRunIndex, list: &mut [u32]) -> Writ
     if n <= run.0 as usize {
         return Written {
             count: 0,
-            outcome: Outcome::Refused(Refusal::Outside),
+            outcome: Err(Refusal::Outside),
         };
     }
     let flags = flags_of(g, run);
@@ -221,7 +221,7 @@ fn concurrent_held(g: CausalGraph, run: EventRunIndex, list: &mut [u32]) -> Writ
     if list.len() < k {
         return Written {
             count: 0,
-            outcome: Outcome::Refused(Refusal::ListTooShort),
+            outcome: Err(Refusal::ListTooShort),
         };
     }
     let p = put_all_free(&flags, n, list);
@@ -235,7 +235,7 @@ pub fn concurrent_runs(g: CausalGraph, run: EventRunIndex, list: &mut [u32]) -> 
     if graph::broken::is_broken(g) {
         return Written {
             count: 0,
-            outcome: Outcome::Refused(Refusal::Broken),
+            outcome: Err(Refusal::Broken),
         };
     }
     concurrent_held(g, run, list)

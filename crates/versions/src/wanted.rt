@@ -18,7 +18,7 @@ use crate::concurrent::flag_part;
 use crate::ranges::{all_clear, are_ranges, are_within, marked_ends};
 use crate::words::put_all;
 use lists::Kept;
-use model::{CausalGraph, EventIndex, MAX_RUNS, Outcome, Refusal, Written};
+use model::{CausalGraph, EventIndex, MAX_RUNS, Refusal, Written};
 
 // Flags the numbers of a part of a list, if `end` is not 0.
 fn flag_if(end: u32, flags: &mut [u32], items: &[u32], from: usize, to: usize)
@@ -135,7 +135,7 @@ fn wanted_held(g: CausalGraph, ranges: &[u32], list: &mut [u32]) -> Written
     if !all_clear(&g.starts, n, ranges) {
         return Written {
             count: 0,
-            outcome: Outcome::Refused(Refusal::NoSuchParents),
+            outcome: Err(Refusal::NoSuchParents),
         };
     }
     let ends = marked_ends(&g.starts, n, ranges);
@@ -143,14 +143,14 @@ fn wanted_held(g: CausalGraph, ranges: &[u32], list: &mut [u32]) -> Written
     if !all_whole(&flags, &ends, &g.starts, n) {
         return Written {
             count: 0,
-            outcome: Outcome::Refused(Refusal::NoSuchParents),
+            outcome: Err(Refusal::NoSuchParents),
         };
     }
     let found = top_events(&flags, &ends, n);
     if list.len() < found.count {
         return Written {
             count: 0,
-            outcome: Outcome::Refused(Refusal::ListTooShort),
+            outcome: Err(Refusal::ListTooShort),
         };
     }
     let p = put_all(&found.items, found.count, list);
@@ -165,13 +165,13 @@ pub fn wanted_parents(g: CausalGraph, ranges: &[u32], list: &mut [u32]) -> Writt
     if graph::broken::is_broken(g) {
         return Written {
             count: 0,
-            outcome: Outcome::Refused(Refusal::Broken),
+            outcome: Err(Refusal::Broken),
         };
     }
     if !are_ranges(ranges) {
         return Written {
             count: 0,
-            outcome: Outcome::Refused(Refusal::NotRising),
+            outcome: Err(Refusal::NotRising),
         };
     }
     if !are_within(
@@ -181,7 +181,7 @@ pub fn wanted_parents(g: CausalGraph, ranges: &[u32], list: &mut [u32]) -> Writt
     ) {
         return Written {
             count: 0,
-            outcome: Outcome::Refused(Refusal::UnknownEvent),
+            outcome: Err(Refusal::UnknownEvent),
         };
     }
     wanted_held(g, ranges, list)

@@ -8,7 +8,7 @@ ghost use Rattle.walk.specs.CutRecords.{range_by, ranges_in, runs_of, Tiled};
 
 use crate::walking::Ranged;
 use crate::{areas, walking};
-use model::{CausalGraph, EventRunIndex, Outcome, Refusal, Walked};
+use model::{CausalGraph, EventRunIndex, Refusal, Walked};
 use moves::writing;
 use moves::writing::Out;
 use tables::covers::CoverWord;
@@ -192,7 +192,7 @@ pub fn replay(g: CausalGraph, rows: &mut [u32], steps: &mut [u32]) -> Walked
         return Walked {
             count: 0,
             moved: 0,
-            outcome: Outcome::Refused(Refusal::Broken),
+            outcome: Err(Refusal::Broken),
         };
     }
     replay_held(g, rows, steps)

@@ -11,7 +11,7 @@ ghost use Rattle.walk.specs.Walked.{unwritten, walked_in, walked_of};
 
 use crate::{areas, visiting};
 use graph::ranges;
-use model::{CausalGraph, EventRunIndex, Outcome, Refusal, Walked};
+use model::{CausalGraph, EventRunIndex, Refusal, Walked};
 use moves::writing::Out;
 use tables::covers::CoverWord;
 use tables::rows::Area;
@@ -186,20 +186,20 @@ pub(crate) fn walked(r: Ranged) -> Walked
         return Walked {
             count: r.count,
             moved: r.moved,
-            outcome: Outcome::Refused(Refusal::RowsTooLong),
+            outcome: Err(Refusal::RowsTooLong),
         };
     }
     if r.short != 0 {
         return Walked {
             count: r.count,
             moved: r.moved,
-            outcome: Outcome::Refused(Refusal::ListTooShort),
+            outcome: Err(Refusal::ListTooShort),
         };
     }
     Walked {
         count: r.count,
         moved: r.moved,
-        outcome: Outcome::Done,
+        outcome: Ok(()),
     }
 }
 
@@ -295,11 +295,11 @@ pub fn walk(
 {
     let o = ranges::range_outcome(g, first_run, end_run, known);
     match o {
-        Outcome::Refused(r) => Walked {
+        Err(r) => Walked {
             count: 0,
             moved: 0,
-            outcome: Outcome::Refused(r),
+            outcome: Err(r),
         },
-        Outcome::Done => walk_held(g, first_run, end_run, known, first, rows, steps),
+        Ok(()) => walk_held(g, first_run, end_run, known, first, rows, steps),
     }
 }

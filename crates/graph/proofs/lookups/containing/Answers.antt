@@ -2,7 +2,7 @@
 use mathlib.Core.Path.{refl, sym, ap, ◌∙◌}
 use mathlib.Core.Bool.{false}
 use borrow.Author.Rules.{rules}
-use Rattle.model.specs.Answers.{containing_or}
+use Rattle.model.specs.Answers.{containing_at}
 use Rattle.model.specs.Lookups.{containing_of}
 use Rattle.model.proofs.Stored.{held_of}
 use Rattle.graph.proofs.Views.{facts}
@@ -27,4 +27,4 @@ returns c =
     let g = c.args.g in
     let whole = sym c.is_broken.ensures ∙ c.if-is_broken.false in
     let held = held_of g (search rules) whole in
-    rw (look_done g whole false refl) (c.containing_in.ensures ∙ ap (containing_or (Ok tt)) (side-view g held c.args.event.0))
+    rw (look_done g whole false refl) (ap Ok (c.containing_in.ensures ∙ ap containing_at (side-view g held c.args.event.0)))

@@ -3,7 +3,7 @@
 use mathlib.Core.Path.{sym, ap, ◌∙◌}
 use Prim.Native.Nat.{ℕ}
 use native.Mathlib.Omega.{arith}
-use Rattle.model.specs.Answers.{containing_or}
+use Rattle.model.specs.Answers.{containing_at}
 use Rattle.model.specs.Graph.{in_run}
 use Rattle.graph.proofs.Placing.{last-low, in_before, in_unknown, in_run_lem}
 use Rattle.graph.proofs.lookups.containing_in.Goals as goal
@@ -12,12 +12,12 @@ use Rattle.std.specs.Prelude.{Ok}
 pub returns-then-event-starts : goal.returns-then-event-starts
 returns-then-event-starts c =
     let a = c.args in
-    ap (containing_or (Ok tt)) (sym (in_before a.starts.now a.runs a.event.0 c.if-event-starts.true))
+    ap (containing_at) (sym (in_before a.starts.now a.runs a.event.0 c.if-event-starts.true))
 
 pub returns-then-starts-runs : goal.returns-then-starts-runs
 returns-then-starts-runs c =
     let a = c.args in
-    ap (containing_or (Ok tt)) (sym (in_unknown a.starts.now a.runs a.event.0 c.if-event-starts.false c.if-starts-runs.true))
+    ap (containing_at) (sym (in_unknown a.starts.now a.runs a.event.0 c.if-event-starts.false c.if-starts-runs.true))
 
 pub overflow_cast-result : goal.overflow_cast-result
 overflow_cast-result c =
@@ -27,4 +27,4 @@ overflow_cast-result c =
 pub returns : goal.returns
 returns c =
     let a = c.args in
-    ap (λ (r : ℕ). containing_or (Ok tt) (in_run r)) c.last_at_most-run.ensures ∙ ap (containing_or (Ok tt)) (sym (in_run_lem a.starts.now a.runs a.event.0 c.if-event-starts.false c.if-starts-runs.false))
+    ap (λ (r : ℕ). containing_at (in_run r)) c.last_at_most-run.ensures ∙ ap (containing_at) (sym (in_run_lem a.starts.now a.runs a.event.0 c.if-event-starts.false c.if-starts-runs.false))

@@ -9,26 +9,27 @@ use Rattle.lists.specs.Areas.{pad, part}
 use Rattle.model.specs.Graph.{runs}
 use Rattle.model.specs.Record.{view}
 use Rattle.model.specs.declared.answers.ParentRuns.{ParentRuns}
-use Rattle.model.specs.Answers.{listed, parent_runs_or}
+use Rattle.model.specs.Answers.{runs_listed}
 use Rattle.model.specs.Lookups.{parents_of}
 use Rattle.model.proofs.Stored.{held_of}
 use Rattle.graph.proofs.Views.{facts, runs-view}
 use Rattle.graph.proofs.Looking.{look_broken, look_outside, look_done, group_bounds, group_end, group_view, group_short, group_count, listed-done}
 use Rattle.graph.proofs.lookups.parents.Goals as goal
 use Rattle.std.specs.Prelude.{Ok}
+use Rattle.model.specs.Refusals.{OrRefusal}
 
 pub returns-then-is_broken : goal.returns-then-is_broken
-unfolding parents_of parent_runs_or listed
+unfolding parents_of runs_listed
 returns-then-is_broken c =
-    rw (look_broken c.args.g (sym c.is_broken.ensures ∙ c.if-is_broken.true)) c.no_parents.ensures
+    rw (look_broken c.args.g (sym c.is_broken.ensures ∙ c.if-is_broken.true))
 
 pub returns-then-g-n : goal.returns-then-g-n
-unfolding parents_of parent_runs_or listed
+unfolding parents_of runs_listed
 returns-then-g-n c =
     let g = c.args.g in
     let whole = sym c.is_broken.ensures ∙ c.if-is_broken.false in
     let held = held_of g (search rules) whole in
-    rw (look_outside g whole _ (le-leb (runs (view g)) c.args.run.0 (omega (arith, runs-view g held, c.if-g-n.true)))) c.no_parents-then-g-n.ensures
+    rw (look_outside g whole _ (le-leb (runs (view g)) c.args.run.0 (omega (arith, runs-view g held, c.if-g-n.true))))
 
 pub bounds-g-n : goal.bounds-g-n
 bounds-g-n c =
@@ -81,7 +82,7 @@ overflow_sub-result c =
     (group_bounds g held c.args.run.0 c.if-g-n.false).0
 
 pub returns : goal.returns
-unfolding parents_of parent_runs_or listed part
+unfolding parents_of runs_listed part
 returns c =
     let g = c.args.g in
     let r = c.args.run.0 in
@@ -91,4 +92,4 @@ returns c =
     let items = c.padded-runs.ensures ∙ ap (pad 512) (sym (group_view g held r c.if-g-n.false)) in
     let count = group_count g held r c.if-g-n.false in
     rw (look_done g whole _ inside)
-    (listed-done {A = ParentRuns} (λ rs n. record { runs = rs; count = n; outcome = Ok tt }) _ _ (get_or (view g).parents r []) items count)
+    (listed-done {A = OrRefusal ParentRuns} (λ rs n. Ok (record { runs = rs; count = n })) _ _ (get_or (view g).parents r []) items count)
