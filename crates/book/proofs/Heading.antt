@@ -33,11 +33,11 @@ by_outcome : Made → ℕ → List ℕ → Outcome → BookRead
 by_outcome m n bs o = elim o [ Ok _ ↦ read_pushes n 0 m.graph bs | Err refusal ↦ book_read m.graph (Err (Refused refusal)) ]
 
 module _ (m : Made) (n : ℕ) (bs : List ℕ) where
-  pub headed-done : (b : BookRead) → m.outcome ≡ Ok tt → b ≡ read_pushes n 0 m.graph bs → b ≡ headed m n bs
+  pub headed-done : (b : BookRead) → m.answer ≡ Ok tt → b ≡ read_pushes n 0 m.graph bs → b ≡ headed m n bs
   unfolding headed by_outcome
   headed-done b e q = q ∙ sym (ap (by_outcome m n bs) e)
 
-  pub headed_refused : (r : Refusal) → m.outcome ≡ Err r → book_read m.graph (Err (Refused r)) ≡ headed m n bs
+  pub headed_refused : (r : Refusal) → m.answer ≡ Err r → book_read m.graph (Err (Refused r)) ≡ headed m n bs
   unfolding headed by_outcome
   headed_refused r e = sym (ap (by_outcome m n bs) e)
 

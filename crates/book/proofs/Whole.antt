@@ -22,7 +22,7 @@ use Rattle.model.specs.Steps.{Step, retreat, advance, opened, apply, step_words,
 use Rattle.model.specs.Walk.{WalkResult, wrote}
 use Rattle.model.specs.Replay.{Replayed, replay_range, replay_ranges, replay_of}
 use Rattle.model.specs.Reader.{decoded, said}
-use Rattle.model.specs.Print.{Line as PrintLine, step_line, refused_line, push_refused_line, said_steps, last_line, replay_lines, printed}
+use Rattle.model.specs.Print.{Line as PrintLine, step_line, refused_line, push_refused_line, refusal_line, said_steps, last_line, replay_lines, printed}
 use Rattle.model.specs.Book.{book_of}
 use Rattle.model.specs.Refusals.{number, Outcome}
 use Rattle.model.proofs.Stored.{not-broken}
@@ -163,8 +163,7 @@ line_printed out out₁ b r l x eb S er =
 unfoldable pub by_answer : CausalGraph → Result (Unit {0}) BookRefusal → List PrintLine
 by_answer g a = elim a [
   | Ok _ ↦ replay_lines g
-  | Err (Refused r) ↦ refused_line (number r) ∷ []
-  | Err (PushRefused r k) ↦ push_refused_line (number r) k ∷ []
+  | Err r ↦ refusal_line r ∷ []
 ]
 
 module _ (b : BookRead) where
@@ -172,13 +171,9 @@ module _ (b : BookRead) where
   unfolding lines_of by_answer
   lines_whole e = sym (ap (by_answer b.graph) e)
 
-  pub lines_refused : (r : Refusal) → b.answer ≡ Err (Refused r) → refused_line (number r) ∷ [] ≡ lines_of b
+  pub lines_refused : (r : BookRefusal) → b.answer ≡ Err r → refusal_line r ∷ [] ≡ lines_of b
   unfolding lines_of by_answer
   lines_refused r e = sym (ap (by_answer b.graph) e)
-
-  pub lines_push : (r : Refusal) (k : ℕ) → b.answer ≡ Err (PushRefused r k) → push_refused_line (number r) k ∷ [] ≡ lines_of b
-  unfolding lines_of by_answer
-  lines_push r k e = sym (ap (by_answer b.graph) e)
 
 pub printed-is : (bytes : List ℕ) → lines_of (book_of bytes) ≡ printed bytes
 unfolding lines_of printed

@@ -7,7 +7,7 @@ use Rattle.model.specs.Steps.{Step}
 use Rattle.model.specs.Reader.{decoded}
 use Rattle.model.specs.declared.answers.BookRead.{BookRead}
 use Rattle.model.specs.Refusals.{number}
-use Rattle.model.specs.Print.{Line as PrintLine, step_line, refused_line, push_refused_line, ascii, line_text, text, replay_lines}
+use Rattle.model.specs.Print.{Line as PrintLine, step_line, refused_line, push_refused_line, refusal_line, ascii, line_text, text, replay_lines}
 use Rattle.book.specs.declared.printing.Line.{Line}
 use Rattle.book.specs.declared.printing.Printed.{Printed}
 use Rattle.model.specs.declared.answers.BookRefusal.TheVariants.{Refused, PushRefused}
@@ -74,6 +74,5 @@ printing ls out =
 unfoldable pub lines_of : BookRead → List PrintLine
 lines_of b = elim b.answer [
   | Ok _ ↦ replay_lines b.graph
-  | Err (Refused r) ↦ refused_line (number r) ∷ []
-  | Err (PushRefused r k) ↦ push_refused_line (number r) k ∷ []
+  | Err r ↦ refusal_line r ∷ []
 ]

@@ -22,7 +22,7 @@ tried_at p at k = elim p.answer [
 
 -- the header was tried, `n` pushes stand in the bytes after it
 unfoldable pub headed : Made → ℕ → List ℕ → BookRead
-headed m n bs = elim m.outcome [
+headed m n bs = elim m.answer [
   | Ok _ ↦ read_pushes n 0 m.graph bs
   | Err refusal ↦ book_read m.graph (Err (Refused refusal))
 ]

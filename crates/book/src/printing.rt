@@ -2,12 +2,12 @@
 ghost use Rattle.std.specs.Prelude.{◌≡◌, false, [], ◌++◌, ◌+◌, ◌<◌, ◌≤◌, length, drop, take, replicate};
 ghost use Rattle.model.specs.Refusals;
 ghost use Rattle.model.specs.Print;
-ghost use Rattle.model.specs.Print.{ascii, last_line, refused_line, push_refused_line};
+ghost use Rattle.model.specs.Print.{ascii, last_line, refused_line, push_refused_line, refusal_line};
 ghost use Rattle.model.specs.Reader.{decoded};
 ghost use Rattle.book.specs.Output;
 ghost use Rattle.book.specs.Output.{max_line, shown, Shows, Adds, step_bytes, word_lines, put_line, put_lines};
 
-use model::{EventRunIndex, Refusal};
+use model::{BookRefusal, EventRunIndex, Refusal};
 
 // How many bytes a line has room for: no line of 01's is longer.
 pub(crate) const MAX_LINE: usize = 64;
@@ -161,21 +161,31 @@ fn step_line(kind: u32, a: EventRunIndex, b: EventRunIndex) -> Line
 fn number_of(r: Refusal) -> u64
     ensures { result ≡ Refusals.number r }
 {
-    wide(model::number(r))
+    wide(u32::from(r))
 }
 
-pub(crate) fn refused_line(r: Refusal) -> Line
+fn refused_line(r: Refusal) -> Line
     ensures { Shows result (Output.ended (refused_line (Refusals.number r))) }
 {
     one(b"refused ", number_of(r))
 }
 
-pub(crate) fn push_refused_line(r: Refusal, k: u32) -> Line
+fn push_refused_line(r: Refusal, k: u32) -> Line
     ensures { Shows result (Output.ended (push_refused_line (Refusals.number r) k)) }
 {
     let named = text(empty(), b"refused ");
     let told = text(number(named, number_of(r)), b" push ");
     text(number(told, wide(k)), b"\n")
+}
+
+// The line of a book that is refused.
+pub(crate) fn refusal_line(r: BookRefusal) -> Line
+    ensures { Shows result (Output.ended (refusal_line r)) }
+{
+    match r {
+        BookRefusal::Refused(r) => refused_line(r),
+        BookRefusal::PushRefused(r, k) => push_refused_line(r, k),
+    }
 }
 
 // The line after a replay's steps.

@@ -56,7 +56,7 @@ fn decode(bytes: &[u8], n: usize, words: &mut [u32])
 }
 
 fn ends_early(g: CausalGraph) -> Turn
-    ensures { result ≡ stopped g (BookAnswer.Refused Refusal.BookTooShort) }
+    ensures { result ≡ stopped g (Err (BookRefusal.Refused Refusal.BookTooShort)) }
 {
     Turn {
         graph: g,
@@ -166,8 +166,8 @@ fn begin(made: Changed<()>, bytes: &[u8], words: &[u32], count: u32, from: usize
     ensures { result ≡ headed made count (drop (4 * from) bytes.now) }
 {
     let g = made.graph;
-    let outcome = made.outcome;
-    match outcome {
+    let answer = made.answer;
+    match answer {
         Ok(()) => pushes(g, bytes, words, count, from),
         Err(r) => answered(g, Err(BookRefusal::Refused(r))),
     }

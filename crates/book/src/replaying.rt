@@ -6,7 +6,7 @@ ghost use Rattle.model.specs.Print.{replay_lines, printed};
 ghost use Rattle.book.specs.Output.{printing, lines_of};
 
 use crate::printing::Printed;
-use model::{BookRead, BookRefusal, CausalGraph, LENT_ROWS, LENT_STEPS};
+use model::{BookRead, CausalGraph, LENT_ROWS, LENT_STEPS};
 
 // How many bytes the lines of any book take at most.
 pub const MAX_TEXT: usize = 131072;
@@ -48,12 +48,8 @@ fn lines(read: BookRead, out: &mut [u8]) -> Printed
     let answer = read.answer;
     match answer {
         Ok(()) => replay_lines(g, out),
-        Err(BookRefusal::Refused(r)) => {
-            let line = crate::printing::refused_line(r);
-            crate::printing::put_line(out, crate::printing::blank(), line)
-        }
-        Err(BookRefusal::PushRefused(r, k)) => {
-            let line = crate::printing::push_refused_line(r, k);
+        Err(refusal) => {
+            let line = crate::printing::refusal_line(refusal);
             crate::printing::put_line(out, crate::printing::blank(), line)
         }
     }

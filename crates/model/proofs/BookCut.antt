@@ -10,7 +10,7 @@ use Rattle.lists.proofs.Truth.{lt_or_le}
 use Rattle.model.specs.declared.answers.BookRead.{BookRead}
 use Rattle.model.specs.Refusals.{number}
 use Rattle.model.specs.Book.{book_of}
-use Rattle.model.specs.Print.{Line, refused_line, push_refused_line, replay_lines, printed}
+use Rattle.model.specs.Print.{Line, refused_line, push_refused_line, refusal_line, replay_lines, printed}
 use Rattle.model.proofs.BookMade.{book-long}
 use Rattle.std.specs.Prelude.{Ok, Err}
 use Rattle.model.specs.declared.answers.BookRefusal.TheVariants.{Refused, PushRefused}
@@ -27,8 +27,7 @@ book_cut bs = go (lt_or_le 65536 (length bs))
 lines_of : BookRead → List Line
 lines_of b = elim b.answer [
   | Ok _ ↦ replay_lines b.graph
-  | Err (Refused r) ↦ refused_line (number r) ∷ []
-  | Err (PushRefused r k) ↦ push_refused_line (number r) k ∷ []
+  | Err r ↦ refusal_line r ∷ []
 ]
 
 -- and so is what is printed

@@ -13,7 +13,7 @@ use Rattle.model.specs.Steps.{Step, words}
 use Rattle.model.specs.Walk.{WalkResult}
 use Rattle.model.specs.Replay.{replay_of}
 use Rattle.model.specs.Book.{book_of}
-use Rattle.model.specs.Print.{Line, step_line, moved_line, refused_line, push_refused_line, said_steps, last_line, replay_lines, printed}
+use Rattle.model.specs.Print.{Line, step_line, moved_line, refused_line, push_refused_line, refusal_line, said_steps, last_line, replay_lines, printed}
 use Rattle.model.specs.Log.{Log}
 use Rattle.model.specs.PlainSet.{ReplayFollows}
 use Rattle.model.specs.Claim.{Claimed}
@@ -88,8 +88,7 @@ book-prints bs lines n = go (book_of bs).answer
   where
     go : (a : (Result (Unit {0}) BookRefusal)) → elim a as (λ _. List Line) [
       | Ok _ ↦ replay_lines (book_of bs).graph
-      | Err (Refused r) ↦ refused_line (number r) ∷ []
-      | Err (PushRefused r k) ↦ push_refused_line (number r) k ∷ []
+      | Err r ↦ refusal_line r ∷ []
     ] ≡ lines ++ moved_line n ∷ [] → LinesFollow (book_log bs) lines n
     go (Ok _) e = replay_prints (book_of bs).graph (book_log bs) (book-claimed bs) lines n e
     go (Err (Refused r)) e = absurd (not-moved (refused_line (number r)) n refl (ends [] lines (refused_line (number r)) (moved_line n) e).1)

@@ -11,6 +11,7 @@ use Rattle.model.specs.Steps.{Step, retreat, advance, opened, apply}
 use Rattle.model.specs.Reader.{said}
 use Rattle.model.specs.Replay.{replay_of}
 use Rattle.model.specs.Book.{book_of}
+use Rattle.model.specs.declared.answers.BookRefusal.{BookRefusal}
 use Rattle.model.specs.declared.answers.BookRefusal.TheVariants.{Refused, PushRefused}
 
 -- A line of output
@@ -35,14 +36,18 @@ replay_lines g =
     let r = replay_of g (replicate lent_rows 0) (replicate (3 * lent_steps) 0) in
     map step_line (said_steps (take (3 * r.0.count) r.2)) ++ last_line r.0.outcome r.0.moved ∷ []
 
--- What is printed of a book: "`refused n` is printed, with ` push k`, k from 0, where a push gave 2 to 8"
+-- "`refused n` is printed, with ` push k`, k from 0, where a push gave 2 to 8"
+abbrev pub refusal_line : BookRefusal → Line
+refusal_line (Refused r) = refused_line (number r)
+refusal_line (PushRefused r k) = push_refused_line (number r) k
+
+-- What is printed of a book
 unfoldable pub printed : List ℕ → List Line
 printed bytes =
     let b = book_of bytes in
     elim b.answer [
       | Ok _ ↦ replay_lines b.graph
-      | Err (Refused r) ↦ refused_line (number r) ∷ []
-      | Err (PushRefused r k) ↦ push_refused_line (number r) k ∷ []
+      | Err r ↦ refusal_line r ∷ []
     ]
 
 -- The codes of a text's characters: its bytes, where they are ASCII

@@ -5,14 +5,14 @@ use Rattle.book.specs.Output.{Shows, ended}
 use Rattle.book.proofs.printing.last_line.Goals as goal
 use Rattle.model.specs.Refusals.{Outcome}
 
-pub returns-in-Done : goal.returns-in-Done
+pub returns-in-Ok : goal.returns-in-Ok
 unfolding ascii last_line ended line_text say
-returns-in-Done c =
+returns-in-Ok c =
     let a = c.args in
-    subst (λ (o : Outcome). Shows c.one.result (ended (last_line o a.moved))) (sym c.in-Done.is) c.one.ensures
+    subst (λ (o : Outcome). Shows c.one.result (ended (last_line o a.moved))) (sym c.in-Ok.is) c.one.ensures
 
-pub returns-in-Refused : goal.returns-in-Refused
+pub returns-in-Err : goal.returns-in-Err
 unfolding last_line
-returns-in-Refused c =
+returns-in-Err c =
     let a = c.args in
-    subst (λ (o : Outcome). Shows c.refused_line.result (ended (last_line o a.moved))) (sym c.in-Refused.is) c.refused_line.ensures
+    subst (λ (o : Outcome). Shows c.refused_line.result (ended (last_line o a.moved))) (sym c.in-Err.is) c.refused_line.ensures

@@ -6,13 +6,13 @@ use lib.ListN.{drop}
 use Rattle.book.proofs.Heading.{headed-done, headed_refused}
 use Rattle.book.proofs.reading.begin.Goals as goal
 
-pub returns-in-Done : goal.returns-in-Done
-returns-in-Done c =
+pub returns-in-Ok : goal.returns-in-Ok
+returns-in-Ok c =
     let a = c.args in
-    headed-done a.made a.count (drop (4 * a.from) a.bytes.now) _ c.in-Done.is c.pushes.ensures
+    headed-done a.made a.count (drop (4 * a.from) a.bytes.now) _ c.in-Ok.is c.pushes.ensures
 
-pub returns-in-Refused : goal.returns-in-Refused
+pub returns-in-Err : goal.returns-in-Err
 unfolding book_read
-returns-in-Refused c =
+returns-in-Err c =
     let a = c.args in
-    c.answered.ensures ∙ headed_refused a.made a.count (drop (4 * a.from) a.bytes.now) _ c.in-Refused.is
+    c.answered.ensures ∙ headed_refused a.made a.count (drop (4 * a.from) a.bytes.now) _ c.in-Err.is

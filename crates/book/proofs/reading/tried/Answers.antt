@@ -2,12 +2,12 @@
 use Rattle.book.proofs.Turning.{tried-taken, tried_refused}
 use Rattle.book.proofs.reading.tried.Goals as goal
 
-pub returns-in-Events : goal.returns-in-Events
-returns-in-Events c =
+pub returns-in-Ok : goal.returns-in-Ok
+returns-in-Ok c =
     let a = c.args in
-    tried-taken a.pushed a.at a.k _ _ c.in-Events.is
+    tried-taken a.pushed a.at a.k _ _ c.in-Ok.is
 
-pub returns-in-Refused : goal.returns-in-Refused
-returns-in-Refused c =
+pub returns-in-Err : goal.returns-in-Err
+returns-in-Err c =
     let a = c.args in
-    tried_refused a.pushed a.at a.k _ c.in-Refused.is
+    tried_refused a.pushed a.at a.k _ c.in-Err.is
