@@ -6,7 +6,7 @@ ghost use Rattle.std.specs.Prelude.{length};
 ghost use Rattle.stdio.specs.Reads.{Came};
 
 use book::replaying::MAX_TEXT;
-use model::MAX_BOOK;
+use model::{MAX_BOOK};
 use std::io;
 use std::process::ExitCode;
 use stdio::{Filled, Reading};

@@ -6,7 +6,7 @@
 // ranges' words, and these. At most 16,384 words. A failed read or write ends it with an error.
 mod script;
 
-use model::{CausalGraph, EventsAnswer, MAX_RUNS, MAX_STARTS, Outcome, Written};
+use model::{CausalGraph, EventIndex, MAX_RUNS, MAX_STARTS, Refusal, Written};
 use script::{BYTES, Bytes, WORDS, Words};
 use std::io;
 use stdio::Filled;
@@ -37,18 +37,18 @@ type Rows = [u32; MAX_ROWS];
 type Steps = [u32; MAX_STEPS];
 
 // 1 if a push was refused.
-fn is_refused(answer: EventsAnswer) -> u64 {
+fn is_refused(answer: Result<(EventIndex, EventIndex), Refusal>) -> u64 {
     match answer {
-        EventsAnswer::Events(_, _) => 0,
-        EventsAnswer::Refused(_) => 1,
+        Ok(_) => 0,
+        Err(_) => 1,
     }
 }
 
 // 1 if a replay or a list was refused.
-fn is_undone(outcome: Outcome) -> u64 {
+fn is_undone(outcome: Result<(), Refusal>) -> u64 {
     match outcome {
-        Outcome::Done => 0,
-        Outcome::Refused(_) => 1,
+        Ok(()) => 0,
+        Err(_) => 1,
     }
 }
 

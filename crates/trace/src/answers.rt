@@ -1,14 +1,11 @@
 // The calls' answers as the values of a line: the refusal's number or 0, then up to two, 0 where there are none.
 use crate::lines::Said;
 use crate::{lines, words};
-use model::{
-    BoolAnswer, ContainingAnswer, EventAnswer, EventsAnswer, Outcome, Refusal, RunAnswer, Walked,
-    Written, number,
-};
+use model::{Containing, EventIndex, EventRunIndex, Refusal, Walked, Written};
 
 // A refused call: its number, and no values.
 fn refused(pattern: u32, r: Refusal) -> Said {
-    lines::three(pattern, words::wide(number(r)), 0, 0)
+    lines::three(pattern, words::wide(u32::from(r)), 0, 0)
 }
 
 // One or two values.
@@ -17,41 +14,41 @@ fn given(pattern: u32, first: u32, second: u32) -> Said {
 }
 
 // Each kind of answer.
-pub fn outcome(pattern: u32, answer: Outcome) -> Said {
+pub fn outcome(pattern: u32, answer: Result<(), Refusal>) -> Said {
     match answer {
-        Outcome::Done => lines::named(pattern),
-        Outcome::Refused(r) => refused(pattern, r),
+        Ok(()) => lines::named(pattern),
+        Err(r) => refused(pattern, r),
     }
 }
 
-pub fn event(pattern: u32, answer: EventAnswer) -> Said {
+pub fn event(pattern: u32, answer: Result<EventIndex, Refusal>) -> Said {
     match answer {
-        EventAnswer::Event(e) => given(pattern, e.0, 0),
-        EventAnswer::Refused(r) => refused(pattern, r),
+        Ok(e) => given(pattern, e.0, 0),
+        Err(r) => refused(pattern, r),
     }
 }
 
-pub fn events(pattern: u32, answer: EventsAnswer) -> Said {
+pub fn events(pattern: u32, answer: Result<(EventIndex, EventIndex), Refusal>) -> Said {
     match answer {
-        EventsAnswer::Events(first, end) => given(pattern, first.0, end.0),
-        EventsAnswer::Refused(r) => refused(pattern, r),
+        Ok((first, end)) => given(pattern, first.0, end.0),
+        Err(r) => refused(pattern, r),
     }
 }
 
-pub fn run(pattern: u32, answer: RunAnswer) -> Said {
+pub fn run(pattern: u32, answer: Result<EventRunIndex, Refusal>) -> Said {
     match answer {
-        RunAnswer::Run(r) => given(pattern, r.0, 0),
-        RunAnswer::Refused(r) => refused(pattern, r),
+        Ok(r) => given(pattern, r.0, 0),
+        Err(r) => refused(pattern, r),
     }
 }
 
 // The side: 0 a run, which follows; 1 before the graph; 2 not yet known.
-pub fn containing(pattern: u32, answer: ContainingAnswer) -> Said {
+pub fn containing(pattern: u32, answer: Result<Containing, Refusal>) -> Said {
     match answer {
-        ContainingAnswer::Run(r) => given(pattern, 0, r.0),
-        ContainingAnswer::Before => given(pattern, 1, 0),
-        ContainingAnswer::Unknown => given(pattern, 2, 0),
-        ContainingAnswer::Refused(r) => refused(pattern, r),
+        Ok(Containing::Run(r)) => given(pattern, 0, r.0),
+        Ok(Containing::Before) => given(pattern, 1, 0),
+        Ok(Containing::Unknown) => given(pattern, 2, 0),
+        Err(r) => refused(pattern, r),
     }
 }
 
@@ -59,10 +56,10 @@ fn bit(b: bool) -> u32 {
     if b { 1 } else { 0 }
 }
 
-pub fn truth(pattern: u32, answer: BoolAnswer) -> Said {
+pub fn truth(pattern: u32, answer: Result<bool, Refusal>) -> Said {
     match answer {
-        BoolAnswer::Told(b) => given(pattern, bit(b), 0),
-        BoolAnswer::Refused(r) => refused(pattern, r),
+        Ok(b) => given(pattern, bit(b), 0),
+        Err(r) => refused(pattern, r),
     }
 }
 

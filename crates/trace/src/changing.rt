@@ -1,10 +1,7 @@
 // The calls that give a graph: each answers the graph and what the line says.
 use crate::lines::Said;
 use crate::{answers, lines, words};
-use model::{
-    CausalGraph, EventIndex, EventRunIndex, MAX_ENTRIES, MAX_FRONTIER, MAX_RUNS, MAX_STARTS,
-    Pushed, Started,
-};
+use model::{CausalGraph, Changed, EventIndex, EventRunIndex, MAX_ENTRIES, MAX_FRONTIER, MAX_RUNS, MAX_STARTS};
 
 // The current graph after a call, and what the line says.
 #[derive(Clone, Copy)]
@@ -24,12 +21,12 @@ pub fn with(graph: CausalGraph, said: Said) -> Called {
 // Each call; `change` says which is which.
 fn after(events: u32, frontier: &[u32]) -> Called {
     let made = graph::fresh::after(EventIndex(events), frontier);
-    let outcome = made.outcome;
-    with(made.graph, answers::outcome(1, outcome))
+    let answer = made.answer;
+    with(made.graph, answers::outcome(1, answer))
 }
 
 // By value, or lent where the length is odd: so both forms are run.
-fn either_push(g: CausalGraph, parents: &[u32], len: u32) -> Pushed {
+fn either_push(g: CausalGraph, parents: &[u32], len: u32) -> Changed<(EventIndex, EventIndex)> {
     if len % 2 == 1 {
         return calls::lending::push(g, parents, len);
     }
@@ -37,7 +34,7 @@ fn either_push(g: CausalGraph, parents: &[u32], len: u32) -> Pushed {
 }
 
 // The same where the event is odd.
-fn either_start(g: CausalGraph, at: EventIndex) -> Started {
+fn either_start(g: CausalGraph, at: EventIndex) -> Changed<bool> {
     if at.0 % 2 == 1 {
         return calls::lending::start_run_at(g, at);
     }

@@ -2,7 +2,7 @@
 use crate::lines::Said;
 use crate::output::Out;
 use crate::{answers, lines, output, words};
-use model::{CausalGraph, EventAnswer, EventIndex, EventRunIndex};
+use model::{CausalGraph, EventIndex, EventRunIndex};
 
 // A run's start and events.
 fn run(g: CausalGraph, run: u32) -> Said {
@@ -20,11 +20,13 @@ fn run(g: CausalGraph, run: u32) -> Said {
 
 // What follows in the line: the run's parents.
 pub fn parents(g: CausalGraph, run: u32, out: &mut Out, used: usize) -> usize {
-    let found = graph::lookups::parents(g, EventRunIndex(run));
-    let outcome = found.outcome;
-    let s = answers::outcome(10, outcome);
-    let told = output::number(out, used, s.a);
-    output::part(out, told, &found.runs, 0, found.count)
+    match graph::lookups::parents(g, EventRunIndex(run)) {
+        Ok(found) => {
+            let told = output::number(out, used, 0);
+            output::part(out, told, &found.runs, 0, found.count)
+        }
+        Err(r) => output::number(out, used, words::wide(u32::from(r))),
+    }
 }
 
 // Of a graph that is not broken: its length, the first event held, and whether there are no runs.
@@ -45,8 +47,8 @@ fn sound(g: CausalGraph, len: EventIndex) -> Said {
 fn graph(g: CausalGraph) -> Said {
     let len = graph::lookups::len(g);
     match len {
-        EventAnswer::Event(e) => sound(g, e),
-        EventAnswer::Refused(_) => answers::event(lines::BROKEN, len),
+        Ok(e) => sound(g, e),
+        Err(_) => answers::event(lines::BROKEN, len),
     }
 }
 

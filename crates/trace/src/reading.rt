@@ -2,7 +2,7 @@
 use crate::lines::{Said, three};
 use crate::output::Out;
 use crate::{lines, words};
-use model::{EventRunIndex, NextStep, WalkStep};
+use model::{EventRunIndex, Refusal, WalkStep};
 
 // A step of a kind, on runs `a` up to, not including, `b`.
 fn range(kind: u64, a: EventRunIndex, b: EventRunIndex) -> Said {
@@ -25,11 +25,11 @@ fn step(s: WalkStep) -> Said {
 }
 
 // What one reading handed out.
-fn told(s: NextStep) -> Said {
+fn told(s: Result<Option<WalkStep>, Refusal>) -> Said {
     match s {
-        NextStep::Step(w) => step(w),
-        NextStep::End => lines::named(lines::END),
-        NextStep::Refused(r) => three(lines::REFUSED, words::wide(model::number(r)), 0, 0),
+        Ok(Some(w)) => step(w),
+        Ok(None) => lines::named(lines::END),
+        Err(r) => three(lines::REFUSED, words::wide(u32::from(r)), 0, 0),
     }
 }
 

@@ -52,8 +52,10 @@ fn parents<'a>(
 
 // The frontier.
 fn frontier(g: CausalGraph, out: &mut Out, used: usize) -> usize {
-    let f = graph::lookups::frontier(g);
-    output::list(out, used, &f.events, f.count)
+    match graph::lookups::frontier(g) {
+        Ok(f) => output::list(out, used, &f.events, f.count),
+        Err(_) => output::mark(out, used, b':'),
+    }
 }
 
 // The frontier, what is kept of the runs, and their parents.
