@@ -53,8 +53,8 @@ MODEL = [
 
 # The two sides of a graph exchanged
 EXCHANGED = [
-    ("src/lookups.rt", "if event.0 < starts[0] {\n        return ContainingAnswer::Before;", "if event.0 < starts[0] {\n        return ContainingAnswer::Unknown;"),
-    ("src/lookups.rt", "if starts[runs] <= event.0 {\n        return ContainingAnswer::Unknown;", "if starts[runs] <= event.0 {\n        return ContainingAnswer::Before;"),
+    ("src/lookups.rt", "if event.0 < starts[0] {\n        return Containing::Before;", "if event.0 < starts[0] {\n        return Containing::Unknown;"),
+    ("src/lookups.rt", "if starts[runs] <= event.0 {\n        return Containing::Unknown;", "if starts[runs] <= event.0 {\n        return Containing::Before;"),
 ]
 
 GRAPH = [
@@ -75,25 +75,25 @@ GRAPH = [
     ("pushing::push", "leaves the graph as it was", "push_changes_nothing"),
     ("pushing::push", "refuses every push whose parents are as they should be", "pushing.rt", "if 0 < counts.unknown {", "if 0 < counts.unknown + 1 {"),
     ("starting::start_run_at", "always told false", "start_constant"),
-    ("starting::start_run_at", "splits and tells false", "starting.rt", "BoolAnswer::Told(true)", "BoolAnswer::Told(false)"),
+    ("starting::start_run_at", "splits and tells false", "starting.rt", "answer: Ok(true)", "answer: Ok(false)"),
     ("starting::start_run_at", "splits the last run though it is marked", "starting.rt", "== g.run_count {\n        return true;", "== g.run_count {\n        return false;"),
-    ("starting::take_changed_from", "does not reset", "starting.rt", "graph: h,\n        answer: RunAnswer", "graph: g,\n        answer: RunAnswer"),
-    ("starting::take_changed_from", "answers the run count", "starting.rt", "RunAnswer::Run(was)", "RunAnswer::Run(none)"),
+    ("starting::take_changed_from", "does not reset", "starting.rt", "graph: h,\n        answer: Ok(was)", "graph: g,\n        answer: Ok(was)"),
+    ("starting::take_changed_from", "answers the run count", "starting.rt", "answer: Ok(was)", "answer: Ok(none)"),
     ("lookups::start", "refuses the run count", "lookups.rt", "if g.run_count < n {", "if g.run_count <= n {"),
-    ("lookups::start", "refuses a run past the run count with 4 in place of 9", "lookups.rt", "return EventAnswer::Refused(Refusal::Outside)", "return EventAnswer::Refused(Refusal::UnknownEvent)"),
-    ("lookups::events", "the next run's first event in place of its own", "lookups.rt", "EventsAnswer::Events(EventIndex(g.starts[n]),", "EventsAnswer::Events(EventIndex(g.starts[next]),"),
-    ("lookups::events", "answers the run count", "lookups.rt", "if g.run_count <= n {\n        return EventsAnswer", "if g.run_count < n {\n        return EventsAnswer"),
+    ("lookups::start", "refuses a run past the run count with 4 in place of 9", "lookups.rt", "return Err(Refusal::Outside)", "return Err(Refusal::UnknownEvent)", 0),
+    ("lookups::events", "the next run's first event in place of its own", "lookups.rt", "Ok((EventIndex(g.starts[n]),", "Ok((EventIndex(g.starts[next]),"),
+    ("lookups::events", "answers the run count", "lookups.rt", "if g.run_count <= n {\n        return Err", "if g.run_count < n {\n        return Err", 0),
     ("lookups::parents", "the parents of the run and the next", "lookups.rt", "let next = n + 1;\n    let from", "let next = n + 2;\n    let from"),
     ("lookups::parents", "counts the entries of all runs up to it", "lookups.rt", "count: to - from,", "count: to - 0,"),
     ("lookups::containing", "before the graph and not yet known exchanged", EXCHANGED),
     ("lookups::containing", "the last run for event number len", "lookups.rt", "if starts[runs] <= event.0 {", "if starts[runs] < event.0 {"),
     ("lookups::containing", "the first held event is before the graph", "lookups.rt", "if event.0 < starts[0] {", "if event.0 <= starts[0] {"),
-    ("lookups::len", "0 for a broken graph", "lookups.rt", "return EventAnswer::Refused(Refusal::Broken)", "return EventAnswer::Event(EventIndex(0))", 1),
-    ("lookups::len", "the first held event", "lookups.rt", "let runs = g.run_count;\n    EventAnswer", "let runs = 0;\n    EventAnswer"),
+    ("lookups::len", "0 for a broken graph", "lookups.rt", "return Err(Refusal::Broken)", "return Ok(EventIndex(0))", 4),
+    ("lookups::len", "the first held event", "lookups.rt", "let runs = g.run_count;\n    Ok", "let runs = 0;\n    Ok"),
     ("lookups::is_empty", "true where the frontier is empty", "lookups.rt", "g.run_count == 0", "g.frontier_count == 0"),
     ("lookups::is_empty", "true where no run has parents", "lookups.rt", "g.run_count == 0", "g.entry_count == 0"),
     ("lookups::frontier", "a count of 1 whatever the frontier", "lookups.rt", "count: g.frontier_count,", "count: 1,"),
-    ("lookups::frontier", "a broken graph refused with 9", "lookups.rt", "return no_frontier(Refusal::Broken)", "return no_frontier(Refusal::Outside)"),
+    ("lookups::frontier", "a broken graph refused with 9", "lookups.rt", "return Err(Refusal::Broken)", "return Err(Refusal::Outside)", 6),
     ("lookups::extends_last_event", "true on a graph with no runs", "pushing.rt", "if runs == 0 {\n        return false;", "if runs == 0 {\n        return true;"),
     ("lookups::extends_last_event", "true of a longer list whose first is the last event", "pushing.rt", "if ps.len() != 1 {", "if (ps.len() + 511) / 512 != 1 {"),
     ("lookups::first_held_event", "the second run's start", "lookups.rt", "EventIndex(g.starts[0])", "EventIndex(g.starts[1])"),
@@ -104,7 +104,7 @@ GRAPH = [
     ("cut::split_at_critical_versions_from", "a Linear ends where the Concurrent after it ends", "cut.rt", "put_linear(list, before, first, a)", "put_linear(list, before, first, b)"),
     ("cut::split_at_critical_versions", "refuses 'list too short' though the record fits", "cut.rt", "list.len() / 3 <= n", "list.len() / 3 <= n + 1"),
     ("cut::split_at_critical_versions", "ranges of one run are Concurrent", "cut.rt", "b.0 - a.0 == 1", "b.0 - a.0 == 0"),
-    ("archive::archive_points", "count 0 where the list is too short", "cut.rt", "count: p.count,\n        outcome: Outcome::Refused", "count: 0,\n        outcome: Outcome::Refused"),
+    ("archive::archive_points", "count 0 where the list is too short", "cut.rt", "count: p.count,\n        outcome: Err", "count: 0,\n        outcome: Err"),
 ]
 
 VERSIONS = [
@@ -127,7 +127,7 @@ VERSIONS = [
     ("wanted::wanted_parents", "refuses a range that ends at len", "ranges.rt", "words[n - 1] <= end.0", "words[n - 1] < end.0"),
     ("wanted::wanted_parents", "takes an event before the first held one", "ranges.rt", "if words[0] < first.0 {\n        return false;", "if words[0] < first.0 {\n        return true;"),
     ("wanted::wanted_parents", "writes the parents that fit where the list is too short", "wanted.rt", "if list.len() < found.count {", "if list.len() < found.count - found.count {"),
-    ("wanted::wanted_parents", "17 in place of 11", "wanted.rt", "Outcome::Refused(Refusal::ListTooShort)", "Outcome::Refused(Refusal::NoSuchParents)"),
+    ("wanted::wanted_parents", "17 in place of 11", "wanted.rt", "Err(Refusal::ListTooShort)", "Err(Refusal::NoSuchParents)"),
 ]
 
 READER = [
@@ -149,9 +149,9 @@ LENT = [
 ]
 
 CALLS = [
-    ("calls::lending::push", "gives back the graph that it was given", "lending.rt", "    Pushed {\n        graph: h,", "    Pushed {\n        graph: g,"),
-    ("calls::lending::start_run_at", "gives back the graph that it was given", "lending.rt", "    Started {\n        graph: h,", "    Started {\n        graph: g,"),
-    ("calls::lending::take_changed_from", "gives back the graph that it was given", "lending.rt", "    Taken {\n        graph: h,", "    Taken {\n        graph: g,"),
+    ("calls::lending::push", "gives back the graph that it was given", "lending.rt", "    Changed {\n        graph: h,", "    Changed {\n        graph: g,", 0),
+    ("calls::lending::start_run_at", "gives back the graph that it was given", "lending.rt", "    Changed {\n        graph: h,", "    Changed {\n        graph: g,", 1),
+    ("calls::lending::take_changed_from", "gives back the graph that it was given", "lending.rt", "    Changed {\n        graph: h,", "    Changed {\n        graph: g,", 2),
     ("calls::made_by", "a push's graph is dropped", "push_dropped"),
     ("calls::made_by", "a run start at another event", "another_event"),
     ("calls::made_by", "an after is made as new", "lib.rt", "    let g = made.graph;\n    g\n", "    let g = graph::fresh::new();\n    g\n"),
@@ -190,7 +190,7 @@ WALK = [
     ("walking::walk", "a tie goes to the older", "choice.rt", "if weight < b.weight {", "if weight <= b.weight {"),
     ("walking::walk", "first is ignored", "walking.rt", "clamped(known, first, n)", "clamped(known, known, n)"),
     ("walking::walk", "first below known is taken as it is", "walking.rt", "lists::larger(known, first)", "lists::larger(0, first)"),
-    ("walking::walk", "13 in place of 11", "walking.rt", "Outcome::Refused(Refusal::ListTooShort)", "Outcome::Refused(Refusal::RowsTooLong)"),
+    ("walking::walk", "13 in place of 11", "walking.rt", "Err(Refusal::ListTooShort)", "Err(Refusal::RowsTooLong)"),
     ("walking::walk", "writes no steps", "visiting.rt", "ready: got,", "ready: 0,"),
     ("replaying::replay", "opens and applies without moves", "replaying.rt", "if kind == 0 {", "if kind / 2 == 0 {"),
     ("replaying::replay", "writes no steps", "replaying.rt", "        w.count,\n", "        0,\n"),
@@ -206,9 +206,9 @@ BOOK = [
     ("reading::read", "pushes counted from 1", "pushes_from_one"),
     ("reading::read", "a book of 65,537 bytes is taken", "reading.rt", "if MAX_BOOK < bytes.len() {", "if MAX_BOOK < bytes.len() - 1 {"),
     ("reading::read", "the header's frontier is not tried, and pushes are made under a header that is refused", "reading.rt", "&words[2..end]", "&words[2..2]"),
-    ("reading::read", "a refused header is told as push 0", "reading.rt", "answered(g, BookAnswer::Refused(r))", "answered(g, BookAnswer::PushRefused(r, 0))"),
-    ("reading::read", "a refused push does not end it", "reading.rt", "            is_refused: true,\n            answer: BookAnswer::PushRefused(r, k),", "            is_refused: false,\n            answer: BookAnswer::PushRefused(r, k),"),
-    ("reading::read", "no bytes are refused with 14", "reading.rt", "return fresh(BookAnswer::Whole);", "return fresh(BookAnswer::Refused(Refusal::BookTooShort));"),
+    ("reading::read", "a refused header is told as push 0", "reading.rt", "answered(g, Err(BookRefusal::Refused(r)))", "answered(g, Err(BookRefusal::PushRefused(r, 0)))"),
+    ("reading::read", "a refused push does not end it", "reading.rt", "            is_refused: true,\n            answer: Err(BookRefusal::PushRefused(r, k)),", "            is_refused: false,\n            answer: Err(BookRefusal::PushRefused(r, k)),"),
+    ("reading::read", "no bytes are refused with 14", "reading.rt", "return fresh(Ok(()));", "return fresh(Err(BookRefusal::Refused(Refusal::BookTooShort)));"),
     ("reading::read", "a book of one byte is taken for the empty one", "reading.rt", "if bytes.len() == 0 {", "if bytes.len() / 2 == 0 {"),
     ("replaying::replayed", "prints no steps", "replaying.rt", "&steps[0..n]", "&steps[0..0]"),
     ("replaying::replayed", "leaves out a line that just fits", "full_buffer"),
