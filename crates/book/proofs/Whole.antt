@@ -11,7 +11,6 @@ use borrow.Author.Tests.{ltb-false}
 use Rattle.lists.specs.Lists.{concat}
 use Rattle.model.specs.declared.record.CausalGraph.{CausalGraph}
 use Rattle.model.specs.declared.answers.Walked.{Walked}
-use Rattle.model.specs.declared.answers.Refusal.{Refusal}
 use Rattle.model.specs.declared.answers.Refusal.TheVariants.{ListTooShort}
 use Rattle.model.specs.declared.answers.BookRead.{BookRead}
 use Rattle.model.specs.Graph.{Graph}
@@ -22,9 +21,9 @@ use Rattle.model.specs.Steps.{Step, retreat, advance, opened, apply, step_words,
 use Rattle.model.specs.Walk.{WalkResult, wrote}
 use Rattle.model.specs.Replay.{Replayed, replay_range, replay_ranges, replay_of}
 use Rattle.model.specs.Reader.{decoded, said}
-use Rattle.model.specs.Print.{Line as PrintLine, step_line, refused_line, push_refused_line, refusal_line, said_steps, last_line, replay_lines, printed}
+use Rattle.model.specs.Print.{Line as PrintLine, step_line, refusal_line, said_steps, last_line, replay_lines, printed}
 use Rattle.model.specs.Book.{book_of}
-use Rattle.model.specs.Refusals.{number, Outcome}
+use Rattle.model.specs.Refusals.{Outcome}
 use Rattle.model.proofs.Stored.{not-broken}
 use Rattle.model.proofs.Results.{replay_is}
 use Rattle.model.proofs.Reading.{said-words, words-length}
@@ -36,7 +35,6 @@ use Rattle.book.proofs.Numbers.{Smalls, replay_numbers}
 use Rattle.book.proofs.Fits.{unused, lines_printing, line_printing, put-append}
 use Rattle.std.specs.Prelude.{Ok, Err, Result}
 use Rattle.model.specs.declared.answers.BookRefusal.{BookRefusal}
-use Rattle.model.specs.declared.answers.BookRefusal.TheVariants.{Refused, PushRefused}
 
 -- No more steps are written than there is room for
 turn_room : (room : ℕ) (this later : Replayed) (rows : List ℕ) (b t : Bool) → ltb room (length this.1) ≡ t → (o : Outcome) →

@@ -6,11 +6,9 @@ use Rattle.lists.specs.Areas.{over, fitting}
 use Rattle.model.specs.Steps.{Step}
 use Rattle.model.specs.Reader.{decoded}
 use Rattle.model.specs.declared.answers.BookRead.{BookRead}
-use Rattle.model.specs.Refusals.{number}
-use Rattle.model.specs.Print.{Line as PrintLine, step_line, refused_line, push_refused_line, refusal_line, ascii, line_text, text, replay_lines}
+use Rattle.model.specs.Print.{Line as PrintLine, step_line, refusal_line, ascii, line_text, text, replay_lines}
 use Rattle.book.specs.declared.printing.Line.{Line}
 use Rattle.book.specs.declared.printing.Printed.{Printed}
-use Rattle.model.specs.declared.answers.BookRefusal.TheVariants.{Refused, PushRefused}
 
 -- how many bytes a line has room for
 abbrev pub max_line : ℕ

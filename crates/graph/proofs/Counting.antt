@@ -1,5 +1,4 @@
 -- A push's parents counted by where they lie: one more, and the loop over all. Assumes nothing.
-use mathlib.Core.Logic.{◌⊎◌}
 use mathlib.Core.Path.{◌≡◌, sym, ap, ◌∙◌}
 use mathlib.Core.Bool.{Bool, false, not}
 use mathlib.Core.List.{List}
@@ -11,15 +10,12 @@ use lib.Dec.{eqb}
 use Rattle.lists.specs.Lists.{bit, count}
 use Rattle.lists.proofs.Truth.{bit_le}
 use Rattle.lists.proofs.Counts.{count_next, count_end}
-use Rattle.model.specs.declared.answers.Refusal.{Refusal}
 use Rattle.model.specs.Answers.{containing_at}
 use Rattle.model.specs.Graph.{Side, in_run, before, unknown, is_held, is_known}
 use Rattle.graph.specs.declared.pushing.ParentCounts.{ParentCounts}
 use Rattle.graph.specs.Loops.{side_in, needs_in, count_parent, count_parents}
 use Rattle.graph.proofs.Placing.{Found, told-unknown, told-before}
 use Rattle.graph.proofs.SplitParts.{needs_not, needs_found}
-use Rattle.std.specs.Prelude.{Ok, Err}
-use Rattle.model.specs.Refusals.{OrRefusal}
 use Rattle.model.specs.declared.answers.Containing.{Containing}
 use Rattle.model.specs.declared.answers.Containing.TheVariants.{Before, Unknown}
 

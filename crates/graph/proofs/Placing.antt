@@ -11,7 +11,6 @@ use Rattle.lists.specs.Scans.{last_at_most}
 use Rattle.lists.proofs.Truth.{lt_or_le}
 use Rattle.model.specs.declared.record.CausalGraph.{CausalGraph}
 use Rattle.model.specs.declared.record.EventRunIndex.{EventRunIndex}
-use Rattle.model.specs.declared.answers.Refusal.{Refusal}
 use Rattle.model.specs.Answers.{containing_at}
 use Rattle.model.specs.Graph.{first_held, len, Side, in_run, before, unknown, side, is_held}
 use Rattle.model.specs.Record.{view}
@@ -19,8 +18,6 @@ use Rattle.model.specs.Broken.{Held}
 use Rattle.model.proofs.Siding.{by_before, by_unknown, by_run, by_told, side_before, side-unknown, side-run}
 use Rattle.graph.specs.Loops.{side_in}
 use Rattle.graph.proofs.Views.{first-view, len-view, containing-view}
-use Rattle.std.specs.Prelude.{Ok, Err}
-use Rattle.model.specs.Refusals.{OrRefusal}
 use Rattle.model.specs.declared.answers.Containing.{Containing}
 use Rattle.model.specs.declared.answers.Containing.TheVariants.{Run, Before, Unknown}
 

@@ -8,7 +8,10 @@ ghost use Rattle.model.specs.Fresh;
 ghost use Rattle.model.specs.Fresh.{new_of, after_of};
 
 use lists::MAX_KEPT;
-use model::{CausalGraph, Changed, EventIndex, EventRunIndex, MAX_ENTRIES, MAX_FRONTIER, MAX_RUNS, MAX_STARTS, Refusal};
+use model::{
+    CausalGraph, Changed, EventIndex, EventRunIndex, MAX_ENTRIES, MAX_FRONTIER, MAX_RUNS,
+    MAX_STARTS, Refusal,
+};
 
 // Arrays of zeros.
 fn no_starts() -> [u32; MAX_STARTS]

@@ -15,7 +15,10 @@ ghost use Rattle.model.specs.Lookups.{
   first_held_event_of,
 };
 
-use model::{CausalGraph, Containing, EventIndex, EventRunIndex, FrontierEvents, MAX_FRONTIER, MAX_RUNS, ParentRuns, Refusal};
+use model::{
+    CausalGraph, Containing, EventIndex, EventRunIndex, FrontierEvents, MAX_FRONTIER, MAX_RUNS,
+    ParentRuns, Refusal,
+};
 
 // A run's first event; for one past the last run, the number of events.
 pub fn start(g: CausalGraph, run: EventRunIndex) -> Result<EventIndex, Refusal>

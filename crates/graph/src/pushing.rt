@@ -10,7 +10,10 @@ ghost use Rattle.model.specs.Push.{grown, joined, lowered, push_held_of, push_of
 ghost use Rattle.graph.specs.Loops.{side_in, count_parent, count_parents, OwnFits, add_own, own_all, Joins, lower_all, assembled};
 
 use lists::Kept;
-use model::{CausalGraph, Changed, Containing, EventIndex, EventRunIndex, MAX_ENTRIES, MAX_FRONTIER, MAX_LEN, MAX_RUNS, Refusal};
+use model::{
+    CausalGraph, Changed, Containing, EventIndex, EventRunIndex, MAX_ENTRIES, MAX_FRONTIER,
+    MAX_LEN, MAX_RUNS, Refusal,
+};
 
 // Of a new run's parents so far, in one width: how many entries there are with theirs, and the largest of the first held event and what
 // their runs have seen.
@@ -323,7 +326,13 @@ fn join(g: CausalGraph, ps: &[u32], n: u32, start: EventIndex) -> CausalGraph
 }
 
 // A push whose parents are known events, rising, and whose events fit: growth, or refusals 6, 7, 8, or a new run.
-fn push_known(g: CausalGraph, ps: &[u32], n: u32, start: EventIndex, counts: ParentCounts) -> Changed<(EventIndex, EventIndex)>
+fn push_known(
+    g: CausalGraph,
+    ps: &[u32],
+    n: u32,
+    start: EventIndex,
+    counts: ParentCounts,
+) -> Changed<(EventIndex, EventIndex)>
     requires held { Held g }
     requires start_value { start.0 ≡ len (view g) }
     requires ps_value { rising ps.now ≡ true }

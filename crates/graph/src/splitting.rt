@@ -8,7 +8,9 @@ ghost use Rattle.model.specs.Split;
 ghost use Rattle.model.specs.Split.{split, split_after};
 ghost use Rattle.graph.specs.Loops.{Room, parts, SplitFits, split_in, AfterFits, after_in, with_parts};
 
-use model::{CausalGraph, Containing, EventIndex, EventRunIndex, MAX_ENTRIES, MAX_RUNS, MAX_STARTS};
+use model::{
+    CausalGraph, Containing, EventIndex, EventRunIndex, MAX_ENTRIES, MAX_RUNS, MAX_STARTS,
+};
 
 // What a split run's second part has seen: all before it, if the first had.
 fn seen_from(s: EventIndex, start: EventIndex, at: EventIndex) -> EventIndex

@@ -8,12 +8,10 @@ use lib.ListN.{length, take}
 use lib.Seq.{length-take-le, take_all}
 use Rattle.lists.proofs.Truth.{lt_or_le}
 use Rattle.model.specs.declared.answers.BookRead.{BookRead}
-use Rattle.model.specs.Refusals.{number}
 use Rattle.model.specs.Book.{book_of}
-use Rattle.model.specs.Print.{Line, refused_line, push_refused_line, refusal_line, replay_lines, printed}
+use Rattle.model.specs.Print.{Line, refusal_line, replay_lines, printed}
 use Rattle.model.proofs.BookMade.{book-long}
 use Rattle.std.specs.Prelude.{Ok, Err}
-use Rattle.model.specs.declared.answers.BookRefusal.TheVariants.{Refused, PushRefused}
 
 -- The first 65,537 bytes are read as all of them are
 pub book_cut : (bs : List ℕ) → book_of (take 65537 bs) ≡ book_of bs

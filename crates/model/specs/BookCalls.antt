@@ -4,7 +4,7 @@ use Rattle.std.specs.Prelude.{◌≡◌, Bool, true, false, List, [], ◌∷◌,
 use Rattle.std.proofs.Math.Option.{Option, none, some}
 use Rattle.model.specs.declared.record.CausalGraph.{CausalGraph}
 use Rattle.model.specs.Limits.{max_book}
-use Rattle.model.specs.Refusals.{refusal, OrRefusal}
+use Rattle.model.specs.Refusals.{refusal}
 use Rattle.model.specs.Fresh.{new_of, after_of}
 use Rattle.model.specs.Walk.{WalkResult}
 use Rattle.model.specs.Book.{take_words, take_counted, book_read, book_of}

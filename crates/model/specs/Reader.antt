@@ -2,7 +2,7 @@
 use Rattle.std.specs.Prelude.{List, [], ◌∷◌, ℕ, zero, suc, ◌+◌, drop, Ok, Err, Some, None}
 use Rattle.model.specs.Answers.{NextStep}
 use Rattle.std.proofs.Math.Option.{Option, none, some}
-use Rattle.model.specs.Refusals.{refusal, OrRefusal}
+use Rattle.model.specs.Refusals.{refusal}
 use Rattle.model.specs.declared.steps.WalkStep.{WalkStep}
 use Rattle.model.specs.declared.steps.WalkStep.TheVariants.{Retreat, Advance, Apply, Open}
 use Rattle.model.specs.Steps.{Step, retreat, advance, opened, apply}

@@ -33,25 +33,25 @@ impl From<Refusal> for u32 {
 
     #[tactic(auto, unfolding(crate::specs::Refusals::number))]
     fn from(r: Refusal) -> u32 {
-    match r {
-        Refusal::Broken => 1,
-        Refusal::NoEvents => 2,
-        Refusal::NotRising => 3,
-        Refusal::UnknownEvent => 4,
-        Refusal::TooManyEvents => 5,
-        Refusal::TooManyRuns => 6,
-        Refusal::TooManyEntries => 7,
-        Refusal::FrontierTooLong => 8,
-        Refusal::Outside => 9,
-        Refusal::Unmarked => 10,
-        Refusal::ListTooShort => 11,
-        Refusal::KnownTooLong => 12,
-        Refusal::RowsTooLong => 13,
-        Refusal::BookTooShort => 14,
-        Refusal::BookTooLong => 15,
-        Refusal::UnknownKind => 16,
-        Refusal::NoSuchParents => 17,
-    }
+        match r {
+            Refusal::Broken => 1,
+            Refusal::NoEvents => 2,
+            Refusal::NotRising => 3,
+            Refusal::UnknownEvent => 4,
+            Refusal::TooManyEvents => 5,
+            Refusal::TooManyRuns => 6,
+            Refusal::TooManyEntries => 7,
+            Refusal::FrontierTooLong => 8,
+            Refusal::Outside => 9,
+            Refusal::Unmarked => 10,
+            Refusal::ListTooShort => 11,
+            Refusal::KnownTooLong => 12,
+            Refusal::RowsTooLong => 13,
+            Refusal::BookTooShort => 14,
+            Refusal::BookTooLong => 15,
+            Refusal::UnknownKind => 16,
+            Refusal::NoSuchParents => 17,
+        }
     }
 }
 

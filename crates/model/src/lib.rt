@@ -9,7 +9,8 @@ pub mod record;
 pub mod steps;
 
 pub use answers::{
-    BookRead, BookRefusal, Changed, Containing, FrontierEvents, ParentRuns, Refusal, Walked, Written,
+    BookRead, BookRefusal, Changed, Containing, FrontierEvents, ParentRuns, Refusal, Walked,
+    Written,
 };
 pub use limits::{
     COVER_BITS, LENT_ROWS, LENT_STEPS, MAX_BOOK, MAX_ENTRIES, MAX_FRONTIER, MAX_LEN, MAX_RUNS,

@@ -4,7 +4,7 @@ ghost use Rattle.model.specs.Limits.{max_runs, max_weighed};
 ghost use Rattle.tables.specs.Sizes.{Bounded, Within, events_from};
 ghost use Rattle.walk.specs.Choose.{try_of, free_c, beaten_c, limit_c, weigh_c, only_c, cost_c, weight_c, scan_c, start, Tabled, AllTabled};
 
-use model::{MAX_WEIGHED};
+use model::MAX_WEIGHED;
 use tables::distance::{apart, distance, events_of, get_sum};
 use tables::words::{get, long, wide};
 

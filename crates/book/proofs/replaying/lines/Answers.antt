@@ -1,7 +1,6 @@
 -- `book::replaying::lines` meets its contract: what the book answered decides. Assumes nothing.
 use mathlib.Core.Path.{◌∙◌, ap}
 use mathlib.Core.List.{List}
-use Rattle.std.specs.Prelude.{Err}
 use Rattle.model.specs.Print.{Line}
 use Rattle.book.specs.Output.{printing}
 use Rattle.book.proofs.Whole.{line_printed, lines_whole, lines_refused}

@@ -7,7 +7,6 @@ use Rattle.model.specs.Answers.{containing_at}
 use Rattle.model.specs.Graph.{in_run}
 use Rattle.graph.proofs.Placing.{last-low, in_before, in_unknown, in_run_lem}
 use Rattle.graph.proofs.lookups.containing_in.Goals as goal
-use Rattle.std.specs.Prelude.{Ok}
 
 pub returns-then-event-starts : goal.returns-then-event-starts
 returns-then-event-starts c =
