@@ -6,6 +6,7 @@
 pub mod broken;
 pub mod cut;
 pub mod fresh;
+pub mod held;
 pub mod lookups;
 pub mod marks;
 pub mod pushing;

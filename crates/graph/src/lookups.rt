@@ -15,6 +15,7 @@ ghost use Rattle.model.specs.Lookups.{
   first_held_event_of,
 };
 
+use crate::held::HeldGraph;
 use model::{
     CausalGraph, Containing, EventIndex, EventRunIndex, FrontierEvents, MAX_FRONTIER, MAX_RUNS,
     ParentRuns, Refusal,
@@ -24,9 +25,7 @@ use model::{
 pub fn start(g: CausalGraph, run: EventRunIndex) -> Result<EventIndex, Refusal>
     ensures { result ≡ start_of g run.0 }
 {
-    if crate::broken::is_broken(g) {
-        return Err(Refusal::Broken);
-    }
+    let g = HeldGraph::of(g)?.graph;
     let n = run.0 as usize;
     if g.run_count < n {
         return Err(Refusal::Outside);
@@ -38,9 +37,7 @@ pub fn start(g: CausalGraph, run: EventRunIndex) -> Result<EventIndex, Refusal>
 pub fn events(g: CausalGraph, run: EventRunIndex) -> Result<(EventIndex, EventIndex), Refusal>
     ensures { result ≡ events_of g run.0 }
 {
-    if crate::broken::is_broken(g) {
-        return Err(Refusal::Broken);
-    }
+    let g = HeldGraph::of(g)?.graph;
     let n = run.0 as usize;
     if g.run_count <= n {
         return Err(Refusal::Outside);
@@ -53,9 +50,7 @@ pub fn events(g: CausalGraph, run: EventRunIndex) -> Result<(EventIndex, EventIn
 pub fn parents(g: CausalGraph, run: EventRunIndex) -> Result<ParentRuns, Refusal>
     ensures { result ≡ parents_of g run.0 }
 {
-    if crate::broken::is_broken(g) {
-        return Err(Refusal::Broken);
-    }
+    let g = HeldGraph::of(g)?.graph;
     let n = run.0 as usize;
     if g.run_count <= n {
         return Err(Refusal::Outside);
@@ -92,9 +87,7 @@ pub(crate) fn containing_in(starts: &[u32], runs: usize, event: EventIndex) -> C
 pub fn containing(g: CausalGraph, event: EventIndex) -> Result<Containing, Refusal>
     ensures { result ≡ containing_of g event.0 }
 {
-    if crate::broken::is_broken(g) {
-        return Err(Refusal::Broken);
-    }
+    let g = HeldGraph::of(g)?.graph;
     Ok(containing_in(&g.starts, g.run_count, event))
 }
 
@@ -102,9 +95,7 @@ pub fn containing(g: CausalGraph, event: EventIndex) -> Result<Containing, Refus
 pub fn len(g: CausalGraph) -> Result<EventIndex, Refusal>
     ensures { result ≡ len_of g }
 {
-    if crate::broken::is_broken(g) {
-        return Err(Refusal::Broken);
-    }
+    let g = HeldGraph::of(g)?.graph;
     let runs = g.run_count;
     Ok(EventIndex(g.starts[runs]))
 }
@@ -113,9 +104,7 @@ pub fn len(g: CausalGraph) -> Result<EventIndex, Refusal>
 pub fn is_empty(g: CausalGraph) -> Result<bool, Refusal>
     ensures { result ≡ is_empty_of g }
 {
-    if crate::broken::is_broken(g) {
-        return Err(Refusal::Broken);
-    }
+    let g = HeldGraph::of(g)?.graph;
     Ok(g.run_count == 0)
 }
 
@@ -123,9 +112,7 @@ pub fn is_empty(g: CausalGraph) -> Result<bool, Refusal>
 pub fn frontier(g: CausalGraph) -> Result<FrontierEvents, Refusal>
     ensures { result ≡ frontier_of g }
 {
-    if crate::broken::is_broken(g) {
-        return Err(Refusal::Broken);
-    }
+    let g = HeldGraph::of(g)?.graph;
     let events = g.frontier;
     Ok(FrontierEvents {
         events: events,
@@ -137,17 +124,13 @@ pub fn frontier(g: CausalGraph) -> Result<FrontierEvents, Refusal>
 pub fn extends_last_event(g: CausalGraph, parents: &[u32]) -> Result<bool, Refusal>
     ensures { result ≡ extends_last_event_of g parents.now }
 {
-    if crate::broken::is_broken(g) {
-        return Err(Refusal::Broken);
-    }
+    let g = HeldGraph::of(g)?.graph;
     Ok(crate::pushing::does_extend(g, parents))
 }
 
 pub fn first_held_event(g: CausalGraph) -> Result<EventIndex, Refusal>
     ensures { result ≡ first_held_event_of g }
 {
-    if crate::broken::is_broken(g) {
-        return Err(Refusal::Broken);
-    }
+    let g = HeldGraph::of(g)?.graph;
     Ok(EventIndex(g.starts[0]))
 }
