@@ -15,7 +15,7 @@ pub struct HeldGraph {
 impl HeldGraph {
     // Refused where the graph is broken.
     pub fn of(g: CausalGraph) -> Result<HeldGraph, Refusal>
-        ensures ok { IfOk result (λ h. (h.graph ≡ g) × (broken g ≡ false)) }
+        ensures ok { IfOk result (λ h. (h.graph ≡ g) × (broken h.graph ≡ false)) }
         ensures err { IfErr result (λ r. (r ≡ Refusal.Broken) × (broken g ≡ true)) }
     {
         if is_broken(g) {

@@ -4,27 +4,32 @@ use mathlib.Core.Bool.{false}
 use borrow.Author.Rules.{rules}
 use Rattle.model.specs.Answers.{containing_at}
 use Rattle.model.specs.Lookups.{containing_of}
-use Rattle.model.proofs.Stored.{held_of}
+use Rattle.std.proofs.lemmas.Result.{err_from_is_err_and}
 use Rattle.graph.proofs.Views.{facts}
 use Rattle.graph.proofs.Placing.{side-view}
 use Rattle.graph.proofs.Looking.{look_broken, look_done}
 use Rattle.graph.proofs.lookups.containing.Goals as goal
 use Rattle.std.specs.Prelude.{Ok}
 
-pub returns-then-is_broken : goal.returns-then-is_broken
+pub returns-in_err-g : goal.returns-in_err-g
 unfolding containing_of
-returns-then-is_broken c = rw (look_broken c.args.g (sym c.is_broken.ensures ∙ c.if-is_broken.true))
+returns-in_err-g c =
+    let p = err_from_is_err_and c.from_residual.result c.from_residual.ensures.1 in
+    let e = c.in_err-g.ensures.err in
+    rw (p.1, p.2, e.0, look_broken c.args.g e.1)
 
 pub containing_in-requires : goal.containing_in-requires
 containing_in-requires c =
-    let g = c.args.g in
-    let f = facts g (held_of g (search rules) (sym c.is_broken.ensures ∙ c.if-is_broken.false)) in
+    let k = c.in_ok-g.field-0 in
+    let g = k.graph in
+    let f = facts g k.held in
     record { runs_le_max_runs = f.runs; starts_len = f.sized.starts }
 
 pub returns : goal.returns
 unfolding containing_of
 returns c =
-    let g = c.args.g in
-    let whole = sym c.is_broken.ensures ∙ c.if-is_broken.false in
-    let held = held_of g (search rules) whole in
-    rw (look_done g whole false refl) (ap Ok (c.containing_in.ensures ∙ ap containing_at (side-view g held c.args.event.0)))
+    let k = c.in_ok-g.field-0 in
+    let g = k.graph in
+    let same = c.in_ok-g.ensures.ok in
+    rw (← same.0)
+    (rw (look_done g same.1 false refl) (ap Ok (c.containing_in.ensures ∙ ap containing_at (side-view g k.held c.args.event.0))))

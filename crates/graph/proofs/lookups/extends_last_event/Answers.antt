@@ -2,19 +2,23 @@
 use mathlib.Core.Path.{refl, sym, ◌∙◌}
 use borrow.Author.Rules.{rules}
 use Rattle.model.specs.Lookups.{extends_last_event_of}
-use Rattle.model.proofs.Stored.{held_of}
+use Rattle.std.proofs.lemmas.Result.{err_from_is_err_and}
 use Rattle.graph.proofs.Looking.{look_broken, look_done}
 use Rattle.graph.proofs.lookups.extends_last_event.Goals as goal
 
-pub returns-then-is_broken : goal.returns-then-is_broken
+pub returns-in_err-g : goal.returns-in_err-g
 unfolding extends_last_event_of
-returns-then-is_broken c = rw (look_broken c.args.g (sym c.is_broken.ensures ∙ c.if-is_broken.true))
+returns-in_err-g c =
+    let p = err_from_is_err_and c.from_residual.result c.from_residual.ensures.1 in
+    let e = c.in_err-g.ensures.err in
+    rw (p.1, p.2, e.0, look_broken c.args.g e.1)
 
 pub does_extend-requires : goal.does_extend-requires
-does_extend-requires c = held_of _ (search rules) (sym c.is_broken.ensures ∙ c.if-is_broken.false)
+does_extend-requires c = c.in_ok-g.field-0.held
 
 pub returns : goal.returns
 unfolding extends_last_event_of
 returns c =
-    let a = c.args in
-    rw (look_done a.g (sym c.is_broken.ensures ∙ c.if-is_broken.false) _ refl, c.does_extend.ensures)
+    let k = c.in_ok-g.field-0 in
+    let same = c.in_ok-g.ensures.ok in
+    rw (← same.0) (rw (look_done k.graph same.1 _ refl, c.does_extend.ensures))

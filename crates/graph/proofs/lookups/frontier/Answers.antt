@@ -5,24 +5,27 @@ use Rattle.model.specs.Record.{view}
 use Rattle.model.specs.declared.answers.FrontierEvents.{FrontierEvents}
 use Rattle.model.specs.Answers.{events_listed}
 use Rattle.model.specs.Lookups.{frontier_of}
-use Rattle.model.proofs.Stored.{held_of}
+use Rattle.std.proofs.lemmas.Result.{err_from_is_err_and}
 use Rattle.graph.proofs.Views.{tips_view, frontier-pad}
 use Rattle.graph.proofs.Looking.{look_broken, look_done, listed-done}
 use Rattle.graph.proofs.lookups.frontier.Goals as goal
 use Rattle.std.specs.Prelude.{Ok}
 use Rattle.model.specs.Refusals.{OrRefusal}
 
-pub returns-then-is_broken : goal.returns-then-is_broken
-unfolding frontier_of events_listed
-returns-then-is_broken c =
-    rw (look_broken c.args.g (sym c.is_broken.ensures ∙ c.if-is_broken.true))
+pub returns-in_err-g : goal.returns-in_err-g
+unfolding frontier_of
+returns-in_err-g c =
+    let p = err_from_is_err_and c.from_residual.result c.from_residual.ensures.1 in
+    let e = c.in_err-g.ensures.err in
+    rw (p.1, p.2, e.0, look_broken c.args.g e.1)
 
 pub returns : goal.returns
 unfolding frontier_of events_listed
 returns c =
-    let g = c.args.g in
-    let whole = sym c.is_broken.ensures ∙ c.if-is_broken.false in
-    let held = held_of g (search rules) whole in
-    rw (look_done g whole _ refl)
+    let k = c.in_ok-g.field-0 in
+    let g = k.graph in
+    let same = c.in_ok-g.ensures.ok in
+    rw (← same.0)
+    (rw (look_done g same.1 _ refl)
     (listed-done {A = OrRefusal FrontierEvents} (λ es n. Ok (record { events = es; count = n })) g.frontier g.frontier_count (view g).frontier
-    (frontier-pad g held) (sym (tips_view g held)))
+    (frontier-pad g k.held) (sym (tips_view g k.held))))

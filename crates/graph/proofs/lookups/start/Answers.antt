@@ -21,7 +21,7 @@ unfolding start_of
 returns-then-g-n c =
     let k = c.in_ok-g.field-0 in
     let same = c.in_ok-g.ensures.ok in
-    rw (← same.0) (rw (look_outside k.graph (rw same.0 same.1) _ (lt-ltb (runs (view k.graph)) c.args.run.0 (omega (arith, runs-view k.graph k.held, c.if-g-n.true)))))
+    rw (← same.0) (rw (look_outside k.graph same.1 _ (lt-ltb (runs (view k.graph)) c.args.run.0 (omega (arith, runs-view k.graph k.held, c.if-g-n.true)))))
 
 pub bounds-g-n : goal.bounds-g-n
 bounds-g-n c = omega (arith, (facts c.in_ok-g.field-0.graph c.in_ok-g.field-0.held).runs)
@@ -33,4 +33,4 @@ returns c =
     let same = c.in_ok-g.ensures.ok in
     let r = c.args.run.0 in
     let inside = le-ltb (runs (view k.graph)) r (omega (arith, runs-view k.graph k.held, c.if-g-n.false)) in
-    rw (← same.0) (rw (look_done k.graph (rw same.0 same.1) _ inside, start-view k.graph k.held r c.if-g-n.false))
+    rw (← same.0) (rw (look_done k.graph same.1 _ inside, start-view k.graph k.held r c.if-g-n.false))
