@@ -97,7 +97,7 @@ pub(crate) fn containing_in(starts: &[u32], runs: usize, event: EventIndex) -> C
     if starts[runs] <= event.0 {
         return ContainingAnswer::Unknown;
     }
-    let run = lists::last_at_most(starts, runs, event.0);
+    let run = lists::last_at_most(&starts[..runs], event.0);
     ContainingAnswer::Run(EventRunIndex(run as u32))
 }
 
