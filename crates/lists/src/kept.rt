@@ -39,7 +39,7 @@ impl Kept {
         ensures { result ≡ [] }
     {
         Kept {
-            items: [0; MAX_KEPT],
+            items: crate::zeros(),
             count: 0,
         }
     }

@@ -3,12 +3,19 @@
 // Scans, insertions and filters over lists of numbers. What they find and leave is in specs/. It knows nothing of graphs.
 mod kept;
 
-ghost use Rattle.std.specs.Prelude.{◌≡◌, true, not, ◌&&◌, ℕ, ◌+◌, ◌<◌, ◌≤◌, ◌^◌, get_or, length, drop};
+ghost use Rattle.std.specs.Prelude.{◌≡◌, [], true, not, ◌&&◌, ℕ, ◌+◌, ◌<◌, ◌≤◌, ◌^◌, get_or, length, drop};
 ghost use Rattle.lists.specs.Lists.{rising, below, mem, filter};
-ghost use Rattle.lists.specs.Areas.{zeros, climbs, groups, part};
+ghost use Rattle.lists.specs.Areas.{zeros, pad, climbs, groups, part};
 ghost use Rattle.lists.specs.Scans.{max_kept, last_at_most, grow, insert_in, groups_fit, between};
 
 pub use kept::{Kept, MAX_KEPT};
+
+// An array of zeros.
+pub fn zeros<const N: usize>() -> [u32; N]
+    ensures { result ≡ pad N [] }
+{
+    [0; N]
+}
 
 // Whether the numbers are strictly rising. The scans here have no way out inside, so that they run many places at a time.
 pub fn is_rising(s: &[u32]) -> bool
