@@ -8,12 +8,9 @@ use lib.ListN.{length, take, set, replicate, length-append, length-map}
 use lib.Seq.{set_at}
 use Rattle.lists.specs.Lists.{filter, mem, same, concat}
 use Rattle.lists.specs.Areas.{pad, group_starts}
-use Rattle.lists.specs.Scans.{kept_in, add_in}
-use Rattle.lists.specs.declared.Kept.{Kept}
 use Rattle.lists.proofs.Counts.{length_snoc}
 use Rattle.lists.proofs.Pads.{take-pad}
 use Rattle.lists.proofs.Groups.{concat-append, length_group_starts}
-use Rattle.lists.proofs.Keeping.{kept-count, add_kept}
 use Rattle.model.specs.declared.record.CausalGraph.{CausalGraph}
 use Rattle.model.specs.Graph.{Graph, runs, len, first_held, entries, marks}
 use Rattle.model.specs.Record.{view, store}
@@ -52,14 +49,14 @@ module _
     (end s changed : ℕ)
     (own : List ℕ)
     (t : Owned)
-    (tips : Kept)
+    (tips : List ℕ)
     (room : g.run_count < 512)
     (starts : b.starts ≡ (view g).starts ++ end ∷ [])
     (parents : b.parents ≡ (view g).parents ++ own ∷ [])
     (seen : b.seen ≡ (view g).seen ++ s ∷ [])
     (items : t.0 ≡ pad 2048 (concat (view g).parents ++ own))
     (count : t.1.count ≡ length (concat (view g).parents ++ own))
-    (frontier : tips ≡ kept_in b.frontier)
+    (frontier : tips ≡ b.frontier)
     (lowest : changed ≡ b.changed) where
   new-starts : set g.starts (g.run_count + 1) end ≡ pad 513 b.starts
   new-starts =
@@ -99,7 +96,7 @@ module _
       (sym (marks_of_lem b (omega (arith, starts_more, seen_more)) (omega (arith, runs_more, seen_more))))
 
   pub assembled-stored : assembled g end t tips s changed ≡ store b
-  unfolding assembled store kept_in runs
+  unfolding assembled store runs
   assembled-stored =
       let n : t.1.count ≡ entries b = count ∙ ap length new_items ∙ sym (entries-flat b) in
       let i₂ : t.0 ≡ pad 2048 (concat b.parents) = items ∙ ap (pad 2048) new_items in
@@ -108,12 +105,12 @@ module _
         starts = new-starts i;
         parent_starts = new-heads i;
         parents = i₂ i;
-        frontier = (frontier i).items;
+        frontier = pad 512 (frontier i);
         seen_prefix_len = new-seen i;
         critical_versions = pad 512 (new-marks i);
         run_count = runs_more i;
         entry_count = n i;
-        frontier_count = (frontier i).count;
+        frontier_count = length (frontier i);
         mark_count = length (new-marks i);
         changed_from = record { 0 = lowest i };
       }
@@ -144,23 +141,19 @@ module _
   unfolding new_seen
   seen-is e = e ∙ rw (at_end, own-all, own-seen (view g) holds.formed ps)
 
-  module _ {left : Kept} (stay : left ≡ kept_in (filter (λ e. not (mem e ps)) (take g.frontier_count g.frontier))) where
-    left_is : left ≡ kept_in (staying (view g) ps)
+  module _ {left : List ℕ} (stay : left ≡ filter (λ e. not (mem e ps)) (take g.frontier_count g.frontier)) where
+    left_is : left ≡ staying (view g) ps
     unfolding staying
     left_is = rw (frontier_list g holds) stay
 
-    pub left-room : left.count < 512
-    left-room = omega (arith, kept-count left (staying (view g) ps) left_is, j.for_frontier)
+    pub left-room : length left < 512
+    left-room = rw left_is j.for_frontier
 
-    tips_are : {tips : Kept} → tips ≡ add_in left (start + n - 1) → tips ≡ kept_in (staying (view g) ps ++ (len (view g) + n - 1) ∷ [])
-    tips_are e =
-        e
-        ∙ ap (λ (k : Kept). add_in k (start + n - 1)) left_is
-        ∙ add_kept (staying (view g) ps) (start + n - 1) j.for_frontier
-        ∙ ap (λ (k : ℕ). kept_in (staying (view g) ps ++ (k + n - 1) ∷ [])) at_end
+    tips_are : {tips : List ℕ} → tips ≡ left ++ (start + n - 1) ∷ [] → tips ≡ staying (view g) ps ++ (len (view g) + n - 1) ∷ []
+    tips_are e = e ∙ rw (left_is, at_end)
 
     -- The record with the new run
-    pub joined-stored : {tips : Kept} {s from changed : ℕ} {h : CausalGraph} → tips ≡ add_in left (start + n - 1) →
+    pub joined-stored : {tips : List ℕ} {s from changed : ℕ} {h : CausalGraph} → tips ≡ left ++ (start + n - 1) ∷ [] →
         s ≡ cond (same ps (view g).frontier) start t.1.seen.0 →
         from ≡ min g.run_count g.changed_from.0 →
         changed ≡ lower_all (view g).starts s from (marks (view g)) →

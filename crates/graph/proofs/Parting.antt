@@ -10,10 +10,9 @@ use native.Mathlib.Omega.{arith}
 use lib.ListN.{length, take, drop, get_or}
 use lib.Dec.{leb, eqb}
 use borrow.Author.Tests.{le-leb, lt-leb}
-use Rattle.lists.specs.declared.Kept.{Kept}
 use Rattle.lists.specs.Lists.{concat, insert_at, mem, below}
 use Rattle.lists.specs.Areas.{pad, group_starts}
-use Rattle.lists.specs.Scans.{grow, insert_in, groups_fit, kept_in}
+use Rattle.lists.specs.Scans.{grow, insert_in, groups_fit}
 use Rattle.lists.proofs.Truth.{lt_or_le, false_true, or_cases}
 use Rattle.lists.proofs.Members.{get_d_mem, mem-append}
 use Rattle.lists.proofs.Bounds.{below_of, below_at}
@@ -95,7 +94,7 @@ module _ (g : CausalGraph) (held : Held g) where
       omega (arith, e, below_at (0 + length (view g).parents) (concat (view g).parents) b _ (get_d_mem (concat (view g).parents) k 0 l), rows-count)
 
 -- The split in the code's words, with the marks k
-abbrev pub split_in : CausalGraph → ℕ → ℕ → Kept → CausalGraph
+abbrev pub split_in : CausalGraph → ℕ → ℕ → List ℕ → CausalGraph
 split_in g r at k =
     record {
       starts = insert_in (g.run_count + 1) (r + 1) at (grow 0 0) g.starts;
@@ -103,11 +102,11 @@ split_in g r at k =
       parents = insert_in g.entry_count (get_or g.parent_starts (r + 1) 0) r (grow r 1) g.parents;
       frontier = g.frontier;
       seen_prefix_len = insert_in g.run_count (r + 1) (cond (eqb (get_or g.seen_prefix_len r 0) (get_or g.starts r 0)) at (get_or g.seen_prefix_len r 0)) (grow 0 0) g.seen_prefix_len;
-      critical_versions = k.items;
+      critical_versions = pad 512 k;
       run_count = g.run_count + 1;
       entry_count = g.entry_count + 1;
       frontier_count = g.frontier_count;
-      mark_count = k.count;
+      mark_count = length k;
       changed_from = record { 0 = min r g.changed_from.0 };
     }
 
@@ -162,23 +161,23 @@ module _ (g : CausalGraph) (held : Held g) (r at : ℕ) (in_runs_lem : r < g.run
 
   -- the marks that the code makes anew
   marks-put :
-      (k : Kept) →
-      k ≡ kept_in (marks_of 0 (take (g.run_count + 1 + 1) (split_in g r at k).starts) (take (g.run_count + 1) (split_in g r at k).seen_prefix_len)) →
-      k ≡ kept_in (marks (split (view g) r at))
+      (k : List ℕ) →
+      k ≡ marks_of 0 (take (g.run_count + 1 + 1) (split_in g r at k).starts) (take (g.run_count + 1) (split_in g r at k).seen_prefix_len) →
+      k ≡ marks (split (view g) r at)
   unfolding split new-rows
   marks-put k e =
       let n₁ : g.run_count + 1 + 1 ≡ length (insert_at (suc r) at (view g).starts) = omega (arith, insert-length (suc r) at (view g).starts, starts_count g held) in
       let n₂ : g.run_count + 1 ≡ length (insert_at (suc r) (second_seen (view g) r at) (view g).seen) = omega (arith, insert-length (suc r) (second_seen (view g) r at) (view g).seen, seen_count g held) in
       let n₃ : length (split (view g) r at).parents ≡ suc g.run_count = unfold runs in (split_runs (view g) r at ∙ ap suc (runs-view g held)) in
       let m = marks_of_lem (split (view g) r at) (omega (arith, n₁, n₂)) (omega (arith, n₂, n₃)) in
-      e ∙ rw (starts-put, seen-put, take-pad (g.run_count + 1 + 1) 513 (insert_at (suc r) at (view g).starts) n₁, take-pad (g.run_count + 1) 512 (insert_at (suc r) (second_seen (view g) r at) (view g).seen) n₂) (ap kept_in (sym m))
+      e ∙ rw (starts-put, seen-put, take-pad (g.run_count + 1 + 1) 513 (insert_at (suc r) at (view g).starts) n₁, take-pad (g.run_count + 1) 512 (insert_at (suc r) (second_seen (view g) r at) (view g).seen) n₂) (sym m)
 
   -- A split in the record's arrays is a split of the graph
   pub split-stored :
-      (k : Kept) →
-      k ≡ kept_in (marks_of 0 (take (g.run_count + 1 + 1) (split_in g r at k).starts) (take (g.run_count + 1) (split_in g r at k).seen_prefix_len)) →
+      (k : List ℕ) →
+      k ≡ marks_of 0 (take (g.run_count + 1 + 1) (split_in g r at k).starts) (take (g.run_count + 1) (split_in g r at k).seen_prefix_len) →
       split_in g r at k ≡ store (split (view g) r at)
-  unfolding store split kept_in new-rows
+  unfolding store split new-rows
   split-stored k e =
       let m = marks-put k e in
       let n : g.run_count + 1 ≡ runs (split (view g) r at) = omega (arith, split_runs (view g) r at, runs-view g held) in
@@ -190,10 +189,10 @@ module _ (g : CausalGraph) (held : Held g) (r at : ℕ) (in_runs_lem : r < g.run
         parents = parents-put i;
         frontier = frontier-pad g held i;
         seen_prefix_len = seen-put i;
-        critical_versions = (m i).items;
+        critical_versions = pad 512 (m i);
         run_count = n i;
         entry_count = l i;
         frontier_count = sym (tips_view g held) i;
-        mark_count = (m i).count;
+        mark_count = length (m i);
         changed_from = record { 0 = min r (sym (changed-view g held) i) };
       }

@@ -9,9 +9,6 @@ use lib.ListN.{length, get_or, take}
 use lib.Dec.{ltb, eqb}
 use borrow.Author.Tests.{lt-ltb, le-ltb, ltb-true, ltb-false, ne_eqb, eq-eqb}
 use Rattle.lists.specs.Lists.{filter, mem, same, rising}
-use Rattle.lists.specs.Scans.{kept_in}
-use Rattle.lists.specs.declared.Kept.{Kept}
-use Rattle.lists.proofs.Keeping.{kept-count}
 use Rattle.model.specs.declared.record.CausalGraph.{CausalGraph}
 use Rattle.model.specs.declared.answers.Refusal.{Refusal}
 use Rattle.model.specs.declared.answers.Refusal.TheVariants.{Broken, NoEvents, NotRising, UnknownEvent, TooManyEvents, TooManyRuns, TooManyEntries, FrontierTooLong}
@@ -191,12 +188,12 @@ module _ {g : CausalGraph} {ps : List ℕ} {n start : ℕ} {c : ParentCounts} (k
       omega (arith, entries-view g k.holds, splits_are, held_are) in
       ap (ltb 2048) q ∙ sym e
 
-  left-count : {left : Kept} → left ≡ kept_in (filter (λ e. not (mem e ps)) (take g.frontier_count g.frontier)) →
-      left.count ≡ length (staying (view g) ps)
+  left-count : {left : List ℕ} → left ≡ filter (λ e. not (mem e ps)) (take g.frontier_count g.frontier) →
+      length left ≡ length (staying (view g) ps)
   unfolding staying
-  left-count {left} e = kept-count left (filter (λ e. not (mem e ps)) (view g).frontier) (rw (frontier_list g k.holds) e)
+  left-count e = ap length (rw (frontier_list g k.holds) e)
 
-  pub left-fits : {left : Kept} → left ≡ kept_in (filter (λ e. not (mem e ps)) (take g.frontier_count g.frontier)) → left.count ≤ 512
+  pub left-fits : {left : List ℕ} → left ≡ filter (λ e. not (mem e ps)) (take g.frontier_count g.frontier) → length left ≤ 512
   unfolding staying
   left-fits e = omega (arith, left-count e, filter-length (λ e. not (mem e ps)) (view g).frontier, k.holds.limits.frontier)
 
@@ -222,9 +219,9 @@ module _ {g : CausalGraph} {ps : List ℕ} {n start : ℕ} {c : ParentCounts} (k
   unfolding push_outcome first_of
   last_outcome x y z = rw (ne_eqb n 0 some-not, k.rises, k.known, events-len, x, y, z)
 
-  pub frontier_too_long : {e b d : Bool} {left : Kept} → e ≡ extends (view g) ps → e ≡ false → b ≡ ltb 512 (g.run_count + 1 + c.splits) → b ≡ false →
+  pub frontier_too_long : {e b d : Bool} {left : List ℕ} → e ≡ extends (view g) ps → e ≡ false → b ≡ ltb 512 (g.run_count + 1 + c.splits) → b ≡ false →
       d ≡ ltb 2048 (g.entry_count + c.splits + c.held) → d ≡ false →
-      left ≡ kept_in (filter (λ e. not (mem e ps)) (take g.frontier_count g.frontier)) → 512 < left.count + 1 →
+      left ≡ filter (λ e. not (mem e ps)) (take g.frontier_count g.frontier) → 512 < length left + 1 →
       refused_by g FrontierTooLong ≡ push_held_of g ps n
   frontier_too_long e t b u d v f w =
       let long : 512 < length (staying (view g) ps) + 1 = omega (arith, left-count f) in
@@ -239,10 +236,10 @@ pub record NewRun (g : CausalGraph) (ps : List ℕ) (n start : ℕ) (c : ParentC
   pub for_frontier : length (staying (view g) ps) + 1 ≤ 512
 
 -- It passed the tests for refusals 6 to 8
-pub new-run : {g : CausalGraph} {ps : List ℕ} {n start : ℕ} {c : ParentCounts} → Known g ps n start c → {e b d : Bool} {left : Kept} →
+pub new-run : {g : CausalGraph} {ps : List ℕ} {n start : ℕ} {c : ParentCounts} → Known g ps n start c → {e b d : Bool} {left : List ℕ} →
     e ≡ extends (view g) ps → e ≡ false → b ≡ ltb 512 (g.run_count + 1 + c.splits) → b ≡ false →
     d ≡ ltb 2048 (g.entry_count + c.splits + c.held) → d ≡ false →
-    left ≡ kept_in (filter (λ e. not (mem e ps)) (take g.frontier_count g.frontier)) → left.count + 1 ≤ 512 →
+    left ≡ filter (λ e. not (mem e ps)) (take g.frontier_count g.frontier) → length left + 1 ≤ 512 →
     NewRun g ps n start c
 new-run {g} {ps} k e t b u d v f w = record {
   known = k;

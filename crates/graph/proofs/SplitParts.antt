@@ -12,7 +12,7 @@ use lib.Dec.{eqb}
 use borrow.Author.Tests.{eq-eqb, ne_eqb}
 use Rattle.lists.specs.Lists.{bit, count, filter}
 use Rattle.lists.specs.Areas.{pad}
-use Rattle.lists.specs.Scans.{last_at_most, kept_in}
+use Rattle.lists.specs.Scans.{last_at_most}
 use Rattle.lists.proofs.Truth.{lt_or_le}
 use Rattle.lists.proofs.Members.{mem_index}
 use Rattle.model.specs.declared.record.CausalGraph.{CausalGraph}
@@ -117,7 +117,7 @@ module _ (g : CausalGraph) (good : Held g) where
 
   -- The arrays of a record are its own
   pub with_own : with_parts g (parts_of g) ≡ g
-  unfolding with_parts kept_in
+  unfolding with_parts
   with_own =
       let m = sym (marks-used g (facts g good).sized (facts g good).runs) in
       λ i.

@@ -3,8 +3,7 @@
 use Rattle.std.specs.Prelude.{◌≡◌, Bool, true, cond, not, ◌&&◌, List, [], ◌∷◌, ℕ, ◌+◌, ◌≤◌, ◌<◌, min, max, length, get_or, take, set, leb, ltb, eqb}
 use Rattle.lists.specs.Lists.{bit, all, count, rising}
 use Rattle.lists.specs.Areas.{pad}
-use Rattle.lists.specs.Scans.{kept_in, insert_in, grow, last_at_most}
-use Rattle.lists.specs.declared.Kept.{Kept}
+use Rattle.lists.specs.Scans.{insert_in, grow, last_at_most}
 use Rattle.model.specs.declared.record.CausalGraph.{CausalGraph}
 use Rattle.model.specs.Limits.{max_entries, max_frontier, max_len, max_runs, max_starts}
 use Rattle.model.specs.Graph.{Graph, runs, entries, Side, side_by, is_held, is_known, held}
@@ -102,18 +101,18 @@ pub record AfterFits (x : Parts) (p : ℕ) : Type 0 where
 -- a record with other such arrays and counts, and their marks
 unfoldable pub with_parts : CausalGraph → Parts → CausalGraph
 with_parts g x =
-    let kept : Kept = kept_in (marks_of 0 (take (x.counts.runs + 1) x.starts) (take x.counts.runs x.seen)) in
+    let marks : List ℕ = marks_of 0 (take (x.counts.runs + 1) x.starts) (take x.counts.runs x.seen) in
     record {
       starts = x.starts;
       parent_starts = x.heads;
       parents = x.parents;
       frontier = g.frontier;
       seen_prefix_len = x.seen;
-      critical_versions = kept.items;
+      critical_versions = pad max_runs marks;
       run_count = x.counts.runs;
       entry_count = x.counts.entries;
       frontier_count = g.frontier_count;
-      mark_count = kept.count;
+      mark_count = length marks;
       changed_from = record { 0 = x.counts.changed };
     }
 
@@ -158,21 +157,21 @@ lower_all starts s d [] = d
 lower_all starts s d (m ∷ ms) = lower_all starts s (cond (ltb s (get_or starts m 0)) (min d m) d) ms
 
 -- the record with one run more
-unfoldable pub assembled : CausalGraph → ℕ → List ℕ × Own → Kept → ℕ → ℕ → CausalGraph
+unfoldable pub assembled : CausalGraph → ℕ → List ℕ × Own → List ℕ → ℕ → ℕ → CausalGraph
 assembled g end t tips s changed =
     let starts : List ℕ = set g.starts (g.run_count + 1) end in
     let seen : List ℕ = set g.seen_prefix_len g.run_count s in
-    let kept : Kept = kept_in (marks_of 0 (take (g.run_count + 1 + 1) starts) (take (g.run_count + 1) seen)) in
+    let marks : List ℕ = marks_of 0 (take (g.run_count + 1 + 1) starts) (take (g.run_count + 1) seen) in
     record {
       starts = starts;
       parent_starts = set g.parent_starts (g.run_count + 1) t.1.count;
       parents = t.0;
-      frontier = tips.items;
+      frontier = pad max_frontier tips;
       seen_prefix_len = seen;
-      critical_versions = kept.items;
+      critical_versions = pad max_runs marks;
       run_count = g.run_count + 1;
       entry_count = t.1.count;
-      frontier_count = tips.count;
-      mark_count = kept.count;
+      frontier_count = length tips;
+      mark_count = length marks;
       changed_from = record { 0 = changed };
     }

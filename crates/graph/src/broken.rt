@@ -33,7 +33,7 @@ fn bad_groups(heads: &[u32], runs: usize, entries: usize) -> bool
     if heads[0] != 0 {
         return true;
     }
-    !lists::is_climb(heads, runs + 1, entries)
+    !lists::is_climb(&heads[..runs + 1], entries)
 }
 
 // Whether event b comes just after event a.
@@ -51,10 +51,11 @@ fn bad_frontier(frontier: &[u32], tips: usize, runs: usize, len: EventIndex) -> 
     requires { tips ≤ length frontier.now }
     ensures { result ≡ not (frontier_fits runs len.0 (take tips frontier.now)) }
 {
-    if !lists::is_rising(frontier, tips) {
+    let held = &frontier[..tips];
+    if !lists::is_rising(held) {
         return true;
     }
-    if !lists::all_below(frontier, tips, len.0) {
+    if !lists::all_below(held, len.0) {
         return true;
     }
     if runs == 0 {
@@ -81,48 +82,33 @@ fn bad_marks<'a>(
     ensures { result ≡ not (same (take marked marks.now) (marks_of 0 (take (runs + 1) starts.now) (take runs seen.now))) }
 {
     let k = crate::marks::marks_of(starts, seen, runs);
-    !lists::is_same(marks, marked, &k.items, k.count)
+    &marks[..marked] != k.as_slice()
 }
 
 // Whether some place past a count is not 0.
-fn bad_padding<'a>(
-    starts: &'a [u32],
-    heads: &'a [u32],
-    parents: &'a [u32],
-    frontier: &'a [u32],
-    seen: &'a [u32],
-    marks: &'a [u32],
-    runs: usize,
-    entries: usize,
-    tips: usize,
-    marked: usize,
+fn bad_padding(
+    starts: &[u32],
+    heads: &[u32],
+    parents: &[u32],
+    frontier: &[u32],
+    seen: &[u32],
+    marks: &[u32],
 ) -> bool
-    requires { runs ≤ max_runs }
     ensures { result ≡ not (
-        zeros (drop (runs + 1) starts.now) &&
-        zeros (drop (runs + 1) heads.now) &&
-        zeros (drop entries parents.now) &&
-        zeros (drop tips frontier.now) &&
-        zeros (drop runs seen.now) &&
-        zeros (drop marked marks.now)
+        zeros starts.now &&
+        zeros heads.now &&
+        zeros parents.now &&
+        zeros frontier.now &&
+        zeros seen.now &&
+        zeros marks.now
         ) }
 {
-    if !lists::is_zero_from(starts, runs + 1) {
-        return true;
-    }
-    if !lists::is_zero_from(heads, runs + 1) {
-        return true;
-    }
-    if !lists::is_zero_from(parents, entries) {
-        return true;
-    }
-    if !lists::is_zero_from(frontier, tips) {
-        return true;
-    }
-    if !lists::is_zero_from(seen, runs) {
-        return true;
-    }
-    !lists::is_zero_from(marks, marked)
+    !(lists::is_zero(starts)
+        && lists::is_zero(heads)
+        && lists::is_zero(parents)
+        && lists::is_zero(frontier)
+        && lists::is_zero(seen)
+        && lists::is_zero(marks))
 }
 
 // Whether a graph is broken.
@@ -135,19 +121,19 @@ pub fn is_broken(g: CausalGraph) -> bool
     let runs = g.run_count;
     let first = g.starts[0];
     let len = g.starts[runs];
-    if !lists::is_rising(&g.starts, runs + 1) {
+    if !lists::is_rising(&g.starts[..runs + 1]) {
         return true;
     }
     if bad_groups(&g.parent_starts, runs, g.entry_count) {
         return true;
     }
-    if !lists::groups_fit(&g.parent_starts, runs, &g.parents, g.entry_count) {
+    if !lists::groups_fit(&g.parent_starts[..runs + 1], &g.parents[..g.entry_count]) {
         return true;
     }
     if bad_frontier(&g.frontier, g.frontier_count, runs, EventIndex(len)) {
         return true;
     }
-    if !lists::is_between(first, &g.starts, &g.seen_prefix_len, runs) {
+    if !lists::is_between(first, &g.starts[..runs + 1], &g.seen_prefix_len[..runs]) {
         return true;
     }
     if bad_marks(
@@ -164,15 +150,11 @@ pub fn is_broken(g: CausalGraph) -> bool
         return true;
     }
     bad_padding(
-        &g.starts,
-        &g.parent_starts,
-        &g.parents,
-        &g.frontier,
-        &g.seen_prefix_len,
-        &g.critical_versions,
-        runs,
-        g.entry_count,
-        g.frontier_count,
-        g.mark_count,
+        &g.starts[runs + 1..],
+        &g.parent_starts[runs + 1..],
+        &g.parents[g.entry_count..],
+        &g.frontier[g.frontier_count..],
+        &g.seen_prefix_len[runs..],
+        &g.critical_versions[g.mark_count..],
     )
 }

@@ -144,13 +144,14 @@ pub fn cut_held(g: CausalGraph, from: EventRunIndex, list: &mut [u32]) -> Writte
         };
     }
     let n = g.mark_count;
-    if !lists::is_among(&g.critical_versions, n, from.0) {
+    let marks = &g.critical_versions[..n];
+    if !marks.contains(&from.0) {
         return Written {
             count: 0,
             outcome: Err(Refusal::Unmarked),
         };
     }
-    let at = lists::last_at_most(&g.critical_versions, n, from.0);
+    let at = lists::last_at_most(marks, from.0);
     let p = cut_from(
         &g.critical_versions,
         n,

@@ -80,13 +80,13 @@ pub fn new() -> CausalGraph
 pub fn after(events: EventIndex, frontier: &[u32]) -> Changed<()>
     ensures { result ≡ after_of events.0 frontier.now }
 {
-    if !lists::is_rising(frontier, frontier.len()) {
+    if !lists::is_rising(frontier) {
         return Changed {
             graph: new(),
             answer: Err(Refusal::NotRising),
         };
     }
-    if !lists::all_below(frontier, frontier.len(), events.0) {
+    if !lists::all_below(frontier, events.0) {
         return Changed {
             graph: new(),
             answer: Err(Refusal::UnknownEvent),

@@ -79,7 +79,7 @@ pub(crate) fn containing_in(starts: &[u32], runs: usize, event: EventIndex) -> C
     if starts[runs] <= event.0 {
         return Containing::Unknown;
     }
-    let run = lists::last_at_most(starts, runs, event.0);
+    let run = lists::last_at_most(&starts[..runs], event.0);
     Containing::Run(EventRunIndex(run as u32))
 }
 

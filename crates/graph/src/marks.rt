@@ -1,6 +1,5 @@
 // The marks of a graph, in two linear passes.
 ghost use Rattle.std.specs.Prelude.{◌≡◌, ℕ, ◌+◌, ◌<◌, ◌≤◌, get_or, length, take, drop};
-ghost use Rattle.lists.specs.Scans.{kept_in};
 ghost use Rattle.model.specs.Limits.{max_runs};
 ghost use Rattle.graph.specs.Loops.{lowest, marks_of};
 
@@ -20,10 +19,8 @@ fn lows(seen: &[u32], n: usize) -> [u32; MAX_RUNS]
 {
     let mut a = blank();
     let mut low: u32 = MAX_LEN;
-    let mut i = n;
-    while 0 < i {
-        i -= 1;
-        low = lists::smaller(seen[i], low);
+    for i in (0..n).rev() {
+        low = seen[i].min(low);
         a[i] = low;
     }
     a
@@ -34,19 +31,12 @@ pub fn marks_of<'a>(starts: &'a [u32], seen: &'a [u32], n: usize) -> Kept
     requires n_in_bounds { n < length starts.now }
     requires n_in_bounds_2 { n ≤ length seen.now }
     requires n_le_max_runs { n ≤ max_runs }
-    ensures { result ≡ kept_in (marks_of 0 (take (n + 1) starts.now) (take n seen.now)) }
+    ensures { result ≡ marks_of 0 (take (n + 1) starts.now) (take n seen.now) }
 {
     let low = lows(seen, n);
-    let none = lists::nothing();
-    let mut items = none.items;
-    let mut c = 0;
-    let mut i = 0;
-    while i < n {
-        c = lists::put_if(starts[i] <= low[i], &mut items, c, i as u32);
-        i += 1;
+    let mut marks = Kept::new();
+    for i in 0..n {
+        marks.push_if(starts[i] <= low[i], i as u32);
     }
-    Kept {
-        items: items,
-        count: c,
-    }
+    marks
 }

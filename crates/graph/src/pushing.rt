@@ -143,7 +143,7 @@ fn grow_last(g: CausalGraph, n: u32, start: EventIndex) -> CausalGraph
     let tips = g.frontier_count;
     let end = start.0 + n;
     let was = g.changed_from;
-    let changed = EventRunIndex(lists::smaller(runs as u32 - 1, was.0));
+    let changed = EventRunIndex((runs as u32 - 1).min(was.0));
     let mut h = g;
     h.starts[runs] = end;
     h.frontier[tips - 1] = end - 1;
@@ -189,7 +189,7 @@ fn add_own<'a>(
     items[n] = run.0;
     Own {
         count: t.count + 1,
-        seen: EventIndex(lists::larger(was.0, after.0)),
+        seen: EventIndex(was.0.max(after.0)),
     }
 }
 
@@ -226,7 +226,7 @@ fn pick_seen(
     requires { tips ≤ length frontier.now }
     ensures { result.0 ≡ cond (same ps.now (take tips frontier.now)) start.0 other.0 }
 {
-    if lists::is_same(ps, ps.len(), frontier, tips) {
+    if ps == &frontier[..tips] {
         return start;
     }
     other
@@ -237,7 +237,7 @@ fn lower(from: EventRunIndex, lost: bool, run: EventRunIndex) -> EventRunIndex
     ensures { result.0 ≡ cond lost (min from.0 run.0) from.0 }
 {
     if lost {
-        return EventRunIndex(lists::smaller(from.0, run.0));
+        return EventRunIndex(from.0.min(run.0));
     }
     from
 }
@@ -275,21 +275,20 @@ fn assemble(
 {
     let runs = g.run_count;
     let next = runs + 1;
-    let frontier = tips.items;
+    let tip_count = tips.len();
     let mut h = g;
     h.starts[next] = end.0;
     h.parent_starts[next] = t.count;
     h.seen_prefix_len[runs] = s.0;
     h.parents = items;
-    h.frontier = frontier;
+    h.frontier = tips.into_array();
     h.run_count = next;
     h.entry_count = t.count as usize;
-    h.frontier_count = tips.count;
+    h.frontier_count = tip_count;
     h.changed_from = changed;
     let marks = crate::marks::marks_of(&h.starts, &h.seen_prefix_len, next);
-    let marked = marks.items;
-    h.critical_versions = marked;
-    h.mark_count = marks.count;
+    h.mark_count = marks.len();
+    h.critical_versions = marks.into_array();
     h
 }
 
@@ -315,12 +314,12 @@ fn join(g: CausalGraph, ps: &[u32], n: u32, start: EventIndex) -> CausalGraph
         first,
         ps,
     );
-    let left = lists::keep_all(&g.frontier, g.frontier_count, ps);
-    let tips = lists::add(left, end - 1);
+    let mut tips = lists::keep_all(&g.frontier[..g.frontier_count], ps);
+    tips.push(end - 1);
     let seen = t.seen;
     let s = pick_seen(&g.frontier, g.frontier_count, ps, start, seen);
     let was = g.changed_from;
-    let low = EventRunIndex(lists::smaller(g.run_count as u32, was.0));
+    let low = EventRunIndex((g.run_count as u32).min(was.0));
     let changed = lower_all(g, s, low);
     assemble(g, EventIndex(end), items, t, tips, s, changed)
 }
@@ -362,8 +361,8 @@ fn push_known(
             answer: Err(Refusal::TooManyEntries),
         };
     }
-    let left = lists::keep_all(&g.frontier, g.frontier_count, ps);
-    if MAX_FRONTIER < left.count + 1 {
+    let left = lists::keep_all(&g.frontier[..g.frontier_count], ps);
+    if MAX_FRONTIER < left.len() + 1 {
         return Changed {
             graph: g,
             answer: Err(Refusal::FrontierTooLong),
@@ -397,7 +396,7 @@ pub fn push_held(g: CausalGraph, parents: &[u32], len: u32) -> Changed<(EventInd
             answer: Err(Refusal::NoEvents),
         };
     }
-    if !lists::is_rising(parents, parents.len()) {
+    if !lists::is_rising(parents) {
         return Changed {
             graph: g,
             answer: Err(Refusal::NotRising),

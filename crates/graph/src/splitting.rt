@@ -79,17 +79,16 @@ fn with_parts(
     ensures { result ≡ with_parts g (parts starts heads parents seen c) }
 {
     let marks = crate::marks::marks_of(&starts, &seen, c.runs);
-    let items = marks.items;
     let changed = EventRunIndex(c.changed as u32);
     let mut h = g;
     h.starts = starts;
     h.parent_starts = heads;
     h.parents = parents;
     h.seen_prefix_len = seen;
-    h.critical_versions = items;
     h.run_count = c.runs;
     h.entry_count = c.entries;
-    h.mark_count = marks.count;
+    h.mark_count = marks.len();
+    h.critical_versions = marks.into_array();
     h.changed_from = changed;
     h
 }

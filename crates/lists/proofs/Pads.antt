@@ -10,6 +10,7 @@ use lib.Dec.{leb, eqb}
 use borrow.Author.Tests.{leb-true, eqb-true}
 use Rattle.lists.specs.Lists.{all, concat}
 use Rattle.lists.specs.Areas.{zeros, pad, over, fitting}
+use Rattle.lists.specs.Padded.{length-area}
 use Rattle.lists.proofs.Truth.{and_left, and_right}
 
 -- A list of zeros is known by its length
@@ -113,3 +114,18 @@ add-pad m l v h =
     let n : m - length l ≡ suc (m - suc (length l)) = omega arith in
     let q : length (l ++ v ∷ []) ≡ suc (length l) = simp length-append (omega arith) in
     rw (n, set_at l 0 (replicate (m - suc (length l)) 0) v (length l) refl, q, append_assoc)
+
+-- One number more at the end of the list in an area
+pub set-area : (m n v : ℕ) (xs : List ℕ) → n < m → xs ≡ pad m (take n xs) → set xs n v ≡ pad m (take (n + 1) (set xs n v))
+set-area m n v xs h e = one ∙ ap (pad m) (sym (ap (take (n + 1)) one ∙ take-pad (n + 1) m (take n xs ++ v ∷ []) long))
+  where
+    size : length (take n xs) ≡ n
+    size = length-area m n xs (omega arith) e
+
+    long : n + 1 ≡ length (take n xs ++ v ∷ [])
+    long = simp length-append (omega (arith, size))
+
+    one : set xs n v ≡ pad m (take n xs ++ v ∷ [])
+    one =
+        ap (λ (l : List ℕ). set l n v) e ∙ ap (λ (k : ℕ). set (pad m (take n xs)) k v) (sym size) ∙
+        add-pad m (take n xs) v (omega (arith, size))

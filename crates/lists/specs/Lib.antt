@@ -1,4 +1,5 @@
 -- Plain lists, and nothing of graphs.
 pub mod Lists
 pub mod Areas
+pub mod Padded
 pub mod Scans

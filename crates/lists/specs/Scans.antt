@@ -1,8 +1,6 @@
 -- What scans, insertions and filters over lists find and leave. Assumes nothing.
-use Rattle.std.specs.Prelude.{Bool, true, false, cond, ◌&&◌, List, [], ◌∷◌, ◌++◌, map, ℕ, zero, suc, ◌+◌, length, take, drop, get_or, set, leb}
-use Rattle.lists.specs.declared.Kept.{Kept}
+use Rattle.std.specs.Prelude.{Bool, true, false, cond, ◌&&◌, List, [], ◌∷◌, ◌++◌, map, ℕ, zero, suc, ◌+◌, take, drop, get_or, leb}
 use Rattle.lists.specs.Lists.{rising, below}
-use Rattle.lists.specs.Areas.{pad}
 
 -- the last place below n whose number is at most e, 0 where there is none
 unfoldable pub last_at_most : List ℕ → ℕ → ℕ → ℕ
@@ -35,19 +33,3 @@ between f (x ∷ xs) (s ∷ ss) = leb f s && leb s x && between f xs ss
 -- how many numbers a list by value has room for
 abbrev pub max_kept : ℕ
 max_kept = 512
-
--- a list in an area of that many places
-unfoldable pub kept_in : List ℕ → Kept
-kept_in l = record { items = pad max_kept l; count = length l }
-
--- a list of that many places and how many are used
-abbrev pub kept : List ℕ → ℕ → Kept
-kept items n = record { items = items; count = n }
-
--- one number more
-abbrev pub add_in : Kept → ℕ → Kept
-add_in k v = record { items = set k.items k.count v; count = k.count + 1 }
-
--- the same where a test passes
-unfoldable pub add_if : Bool → Kept → ℕ → Kept
-add_if b k v = cond b (add_in k v) k

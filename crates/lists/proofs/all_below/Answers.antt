@@ -1,15 +1,12 @@
--- `lists::all_below` meets its contract: the loop's invariant is that all are below the limit exactly if the tests passed so far and the items from `i` on are. Assumes nothing.
-use mathlib.Core.Path.{refl}
-use Rattle.lists.proofs.Scanning.{flat-again, flat_end, below_step, below_end}
+-- `lists::all_below` meets its contract: a turn asks one item more. Assumes nothing.
+use Rattle.std.proofs.Common.{refl, sym, arith}
+use Rattle.lists.specs.Lists.{all, below}
+use Rattle.lists.proofs.Scanning.{below_more}
 use Rattle.lists.proofs.all_below.Goals as goal
 
-pub loop-i-init : goal.loop-i-init
-loop-i-init c = refl
+pub loop-x-init : goal.loop-x-init
+unfolding all below
+loop-x-init c = refl
 
-pub loop-i-preserved : goal.loop-i-preserved
-loop-i-preserved c =
-    let l = c.loop-i in
-    flat-again _ l.bad c.failed-bad.result _ _ l.invariant (below_step _ _ c.requires _ l.i c.loop-i-test.true) c.failed-bad.ensures
-
-pub returns : goal.returns
-returns c = let l = c.loop-i in flat_end _ l.bad l.invariant (below_end _ _ c.requires _ l.i c.loop-i-test.false)
+pub loop-x-preserved : goal.loop-x-preserved
+loop-x-preserved c = rw c.loop-x.invariant (sym (below_more _ _ _ (omega arith)))

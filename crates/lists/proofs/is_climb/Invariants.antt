@@ -1,14 +1,7 @@
--- `lists::is_climb` meets its contract: the loop's invariant is that all climb exactly if the tests passed so far and the items from before `i` on do. Assumes nothing.
-use mathlib.Core.Path.{◌≡◌}
-use mathlib.Core.Bool.{◌&&◌}
-use Prim.Native.Nat.{◌<◌, ◌≤◌, ◌-◌}
-use lib.ListN.{drop, take}
-use lib.Dec.{eqb}
-use Rattle.lists.specs.Areas.{climbs}
+-- `lists::is_climb` meets its contract: the loop's invariant is that the flag tells whether the items so far never fall, and the last of all is as told. Assumes nothing.
+use Rattle.std.proofs.Common.{◌≡◌, ◌&&◌, ◌-◌, take, get_or, length, nat_le, nat_eq}
+use Rattle.lists.proofs.Scanning.{pairs}
 use Rattle.lists.proofs.is_climb.Given as goal
 
 abbrev pub invariant-loop-i : goal.invariant-loop-i
-invariant-loop-i l = (0 < l.i) × (l.i ≤ l.n) × (climbs l.last (take l.n l.s) ≡ (eqb l.bad 0 && climbs l.last (drop (l.i - 1) (take l.n l.s))))
-
-abbrev pub decreases-loop-i : goal.decreases-loop-i
-decreases-loop-i l = l.n - l.i
+invariant-loop-i l = l.climbs ≡ nat_eq (get_or l.s (length l.s - 1) 0) l.last && pairs nat_le (take l.i l.s)

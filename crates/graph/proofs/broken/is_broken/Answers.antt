@@ -1,6 +1,9 @@
 -- `graph::broken::is_broken` meets its contract: clause after clause. Assumes nothing.
+use Prim.Native.Nat.{◌+◌, ◌≤◌}
 use native.Mathlib.Omega.{arith}
-use borrow.Author.Tests.{lt-ltb, le-ltb, not-true, not-false}
+use lib.ListN.{length, length-take}
+use lib.Seq.{length-take-le}
+use borrow.Author.Tests.{lt-ltb, le-ltb}
 use Rattle.model.specs.Record.{Sized}
 use Rattle.model.specs.Broken.{bad_changed, broken}
 use Rattle.graph.proofs.Testing.{told, counts_of, groups_climb, limit_is, starts-told, groups-told, parents-told, frontier-told, seen-told, marks-told, padding_is}
@@ -48,7 +51,7 @@ unfolding broken
 returns-then-not-is_rising c =
     rw (
       told (limit_is c.args.g c.over_limit.ensures) c.if-over_limit.false,
-      starts-told c.args.g c.is_rising.ensures (not-true _ c.if-not-is_rising.true-raw),
+      starts-told c.args.g c.is_rising.ensures c.if-not-is_rising.true,
     )
 
 pub bad_groups-requires : goal.bad_groups-requires
@@ -64,7 +67,7 @@ unfolding broken
 returns-then-bad_groups c =
     rw (
       told (limit_is c.args.g c.over_limit.ensures) c.if-over_limit.false,
-      starts-told c.args.g c.is_rising.ensures (not-false _ c.if-not-is_rising.false-raw),
+      starts-told c.args.g c.is_rising.ensures c.if-not-is_rising.false,
       groups-told c.args.g c.bad_groups.ensures c.if-bad_groups.true,
     )
 
@@ -73,16 +76,18 @@ groups_fit-requires c =
     let k = counts_of (limit_is c.args.g c.over_limit.ensures) c.if-over_limit.false in
     let r = k.runs in
     let n = k.entries in
-    record { n_bound = omega (arith, r); n_in_bounds = search rules; count_in_bounds = search rules; starts_value = groups_climb c.args.g (groups-told c.args.g c.bad_groups.ensures c.if-bad_groups.false) }
+    let fits : c.args.g.entry_count ≤ length c.args.g.parents = search rules in
+    let climb = groups_climb c.args.g (groups-told c.args.g c.bad_groups.ensures c.if-bad_groups.false) in
+    record { starts_bound = omega (arith, r, length-take (c.args.g.run_count + 1) c.args.g.parent_starts); climbs = rw (length-take-le c.args.g.entry_count c.args.g.parents fits) climb }
 
 pub returns-then-not-groups_fit : goal.returns-then-not-groups_fit
 unfolding broken
 returns-then-not-groups_fit c =
     rw (
       told (limit_is c.args.g c.over_limit.ensures) c.if-over_limit.false,
-      starts-told c.args.g c.is_rising.ensures (not-false _ c.if-not-is_rising.false-raw),
+      starts-told c.args.g c.is_rising.ensures c.if-not-is_rising.false,
       groups-told c.args.g c.bad_groups.ensures c.if-bad_groups.false,
-      parents-told c.args.g c.groups_fit.ensures (not-true _ c.if-not-groups_fit.true-raw),
+      parents-told c.args.g c.groups_fit.ensures c.if-not-groups_fit.true,
     )
 
 pub bad_frontier-requires : goal.bad_frontier-requires
@@ -98,9 +103,9 @@ unfolding broken
 returns-then-bad_frontier c =
     rw (
       told (limit_is c.args.g c.over_limit.ensures) c.if-over_limit.false,
-      starts-told c.args.g c.is_rising.ensures (not-false _ c.if-not-is_rising.false-raw),
+      starts-told c.args.g c.is_rising.ensures c.if-not-is_rising.false,
       groups-told c.args.g c.bad_groups.ensures c.if-bad_groups.false,
-      parents-told c.args.g c.groups_fit.ensures (not-false _ c.if-not-groups_fit.false-raw),
+      parents-told c.args.g c.groups_fit.ensures c.if-not-groups_fit.false,
       frontier-told c.args.g c.bad_frontier.ensures c.if-bad_frontier.true,
     )
 
@@ -117,11 +122,11 @@ unfolding broken
 returns-then-not-is_between c =
     rw (
       told (limit_is c.args.g c.over_limit.ensures) c.if-over_limit.false,
-      starts-told c.args.g c.is_rising.ensures (not-false _ c.if-not-is_rising.false-raw),
+      starts-told c.args.g c.is_rising.ensures c.if-not-is_rising.false,
       groups-told c.args.g c.bad_groups.ensures c.if-bad_groups.false,
-      parents-told c.args.g c.groups_fit.ensures (not-false _ c.if-not-groups_fit.false-raw),
+      parents-told c.args.g c.groups_fit.ensures c.if-not-groups_fit.false,
       frontier-told c.args.g c.bad_frontier.ensures c.if-bad_frontier.false,
-      seen-told c.args.g c.is_between.ensures (not-true _ c.if-not-is_between.true-raw),
+      seen-told c.args.g c.is_between.ensures c.if-not-is_between.true,
     )
 
 pub bad_marks-requires : goal.bad_marks-requires
@@ -137,11 +142,11 @@ unfolding broken
 returns-then-bad_marks c =
     rw (
       told (limit_is c.args.g c.over_limit.ensures) c.if-over_limit.false,
-      starts-told c.args.g c.is_rising.ensures (not-false _ c.if-not-is_rising.false-raw),
+      starts-told c.args.g c.is_rising.ensures c.if-not-is_rising.false,
       groups-told c.args.g c.bad_groups.ensures c.if-bad_groups.false,
-      parents-told c.args.g c.groups_fit.ensures (not-false _ c.if-not-groups_fit.false-raw),
+      parents-told c.args.g c.groups_fit.ensures c.if-not-groups_fit.false,
       frontier-told c.args.g c.bad_frontier.ensures c.if-bad_frontier.false,
-      seen-told c.args.g c.is_between.ensures (not-false _ c.if-not-is_between.false-raw),
+      seen-told c.args.g c.is_between.ensures c.if-not-is_between.false,
       marks-told c.args.g (search rules) (counts_of (limit_is c.args.g c.over_limit.ensures) c.if-over_limit.false).runs c.bad_marks.ensures c.if-bad_marks.true,
     )
 
@@ -151,18 +156,14 @@ returns-then-runs-changed c =
     let s : Sized c.args.g = search rules in
     rw (
       told (limit_is c.args.g c.over_limit.ensures) c.if-over_limit.false,
-      starts-told c.args.g c.is_rising.ensures (not-false _ c.if-not-is_rising.false-raw),
+      starts-told c.args.g c.is_rising.ensures c.if-not-is_rising.false,
       groups-told c.args.g c.bad_groups.ensures c.if-bad_groups.false,
-      parents-told c.args.g c.groups_fit.ensures (not-false _ c.if-not-groups_fit.false-raw),
+      parents-told c.args.g c.groups_fit.ensures c.if-not-groups_fit.false,
       frontier-told c.args.g c.bad_frontier.ensures c.if-bad_frontier.false,
-      seen-told c.args.g c.is_between.ensures (not-false _ c.if-not-is_between.false-raw),
+      seen-told c.args.g c.is_between.ensures c.if-not-is_between.false,
       marks-told c.args.g s (counts_of (limit_is c.args.g c.over_limit.ensures) c.if-over_limit.false).runs c.bad_marks.ensures c.if-bad_marks.false,
       lt-ltb _ _ c.if-runs-changed.true,
     )
-
-pub bad_padding-requires : goal.bad_padding-requires
-bad_padding-requires c =
-    (counts_of (limit_is c.args.g c.over_limit.ensures) c.if-over_limit.false).runs
 
 pub returns : goal.returns
 unfolding broken bad_changed
@@ -170,11 +171,11 @@ returns c =
     let s : Sized c.args.g = search rules in
     rw (
       told (limit_is c.args.g c.over_limit.ensures) c.if-over_limit.false,
-      starts-told c.args.g c.is_rising.ensures (not-false _ c.if-not-is_rising.false-raw),
+      starts-told c.args.g c.is_rising.ensures c.if-not-is_rising.false,
       groups-told c.args.g c.bad_groups.ensures c.if-bad_groups.false,
-      parents-told c.args.g c.groups_fit.ensures (not-false _ c.if-not-groups_fit.false-raw),
+      parents-told c.args.g c.groups_fit.ensures c.if-not-groups_fit.false,
       frontier-told c.args.g c.bad_frontier.ensures c.if-bad_frontier.false,
-      seen-told c.args.g c.is_between.ensures (not-false _ c.if-not-is_between.false-raw),
+      seen-told c.args.g c.is_between.ensures c.if-not-is_between.false,
       marks-told c.args.g s (counts_of (limit_is c.args.g c.over_limit.ensures) c.if-over_limit.false).runs c.bad_marks.ensures c.if-bad_marks.false,
       le-ltb _ _ c.if-runs-changed.false,
     )

@@ -1,7 +1,9 @@
 -- `graph::cut::cut_held` meets its contract: each way out of a cut is one law. Assumes nothing.
 use mathlib.Core.Path.{sym, ◌∙◌}
+use Prim.Native.Nat.{◌≤◌}
 use native.Mathlib.Omega.{arith}
-use borrow.Author.Tests.{not-true, not-false}
+use lib.ListN.{length}
+use Rattle.lists.proofs.Scanning.{mem-list_any, last-take}
 use Rattle.graph.proofs.Views.{facts}
 use Rattle.graph.proofs.CutWays.{cut_empty, cut_outside, cut_unmarked, cut_done}
 use Rattle.graph.proofs.cut.cut_held.Goals as goal
@@ -18,23 +20,17 @@ returns-then-runs-from c =
     let p = c.requires in
     cut_outside a.g a.from.0 a.list.now (p) c.if-runs-eq0.false c.if-runs-from.true
 
-pub is_among-requires : goal.is_among-requires
-is_among-requires c =
+pub shared_ref_as_front-marks : goal.shared_ref_as_front-marks
+shared_ref_as_front-marks c =
     let a = c.args in
     let p = c.requires in
     omega (arith, (facts a.g (p)).marked, (facts a.g (p)).sized.critical_versions)
 
-pub returns-then-not-is_among : goal.returns-then-not-is_among
-returns-then-not-is_among c =
+pub returns-then-not-contains : goal.returns-then-not-contains
+returns-then-not-contains c =
     let a = c.args in
     let p = c.requires in
-    cut_unmarked a.g a.from.0 a.list.now (p) c.if-runs-eq0.false c.if-runs-from.false (sym c.is_among.ensures ∙ not-true _ c.if-not-is_among.true-raw)
-
-pub last_at_most-at-requires : goal.last_at_most-at-requires
-last_at_most-at-requires c =
-    let a = c.args in
-    let p = c.requires in
-    omega (arith, (facts a.g (p)).marked, (facts a.g (p)).sized.critical_versions)
+    cut_unmarked a.g a.from.0 a.list.now (p) c.if-runs-eq0.false c.if-runs-from.false (sym (c.contains.ensures.value ∙ mem-list_any _ _) ∙ c.if-not-contains.true)
 
 pub overflow_cast-runs : goal.overflow_cast-runs
 overflow_cast-runs c =
@@ -52,4 +48,6 @@ pub returns : goal.returns
 returns c =
     let a = c.args in
     let p = c.requires in
-    rw c.written.ensures (cut_done a.g a.from.0 a.list.now (p) c.if-runs-eq0.false c.if-runs-from.false (sym c.is_among.ensures ∙ not-false _ c.if-not-is_among.false-raw) c.last_at_most-at.result c.last_at_most-at.ensures _ _ c.cut_from-p.ensures)
+    let f = facts a.g p in
+    let inside : a.g.mark_count ≤ length a.g.critical_versions = omega (arith, f.marked, f.sized.critical_versions) in
+    rw c.written.ensures (cut_done a.g a.from.0 a.list.now (p) c.if-runs-eq0.false c.if-runs-from.false (sym (c.contains.ensures.value ∙ mem-list_any _ _) ∙ c.if-not-contains.false) c.last_at_most-at.result (c.last_at_most-at.ensures ∙ last-take _ _ _ inside) _ _ c.cut_from-p.ensures)

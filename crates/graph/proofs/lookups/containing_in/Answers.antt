@@ -3,6 +3,7 @@
 use mathlib.Core.Path.{sym, ap, ◌∙◌}
 use Prim.Native.Nat.{ℕ}
 use native.Mathlib.Omega.{arith}
+use Rattle.lists.proofs.Scanning.{last-take}
 use Rattle.model.specs.Answers.{containing_at}
 use Rattle.model.specs.Graph.{in_run}
 use Rattle.graph.proofs.Placing.{last-low, in_before, in_unknown, in_run_lem}
@@ -21,9 +22,11 @@ returns-then-starts-runs c =
 pub overflow_cast-result : goal.overflow_cast-result
 overflow_cast-result c =
     let a = c.args in
-    omega (arith, last-low a.starts.now a.event.0 a.runs, c.last_at_most-run.ensures, c.requires)
+    let found = c.last_at_most-run.ensures ∙ last-take a.starts.now a.event.0 a.runs (omega (arith, c.requires)) in
+    omega (arith, last-low a.starts.now a.event.0 a.runs, found, c.requires)
 
 pub returns : goal.returns
 returns c =
     let a = c.args in
-    ap (λ (r : ℕ). containing_at (in_run r)) c.last_at_most-run.ensures ∙ ap (containing_at) (sym (in_run_lem a.starts.now a.runs a.event.0 c.if-event-starts.false c.if-starts-runs.false))
+    let found = c.last_at_most-run.ensures ∙ last-take a.starts.now a.event.0 a.runs (omega (arith, c.requires)) in
+    ap (λ (r : ℕ). containing_at (in_run r)) found ∙ ap (containing_at) (sym (in_run_lem a.starts.now a.runs a.event.0 c.if-event-starts.false c.if-starts-runs.false))

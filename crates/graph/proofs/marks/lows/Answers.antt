@@ -1,5 +1,4 @@
--- `graph::marks::lows` meets its contract. The loop's invariant: the places from `i` on hold the lowest of what is seen from there on. The measure is `i`.
--- Assumes nothing.
+-- `graph::marks::lows` meets its contract. The loop's invariant: the places from `i` on hold the lowest of what is seen from there on. Assumes nothing.
 use borrow.Author.Rules.{rules}
 use native.Mathlib.Omega.{arith}
 use Rattle.graph.proofs.Marking.{lows_start, lows_turn}
@@ -12,7 +11,7 @@ pub loop-i-preserved : goal.loop-i-preserved
 loop-i-preserved c =
     let p = c.requires in
     let l = c.loop-i in
-    lows_turn _ _ _ _ _ _ p.n_in_bounds p.n_le_max_runs c.loop-i-test.true l.invariant c.smaller-low.ensures
+    lows_turn _ _ _ _ _ _ p.n_in_bounds p.n_le_max_runs c.loop-i-test.true l.invariant c.min-low.ensures
 
 pub returns : goal.returns
-returns c = λ k h. c.loop-i.invariant.done k (omega (arith, c.loop-i-test.false)) h
+returns c = λ k h. c.loop-i.invariant.done k (omega arith) h

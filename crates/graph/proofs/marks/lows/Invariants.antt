@@ -1,10 +1,6 @@
--- `graph::marks::lows` meets its contract. The loop's invariant: the places from `i` on hold the lowest of what is seen from there on. The measure is `i`.
--- Assumes nothing.
+-- `graph::marks::lows` meets its contract. The loop's invariant: the places from `i` on hold the lowest of what is seen from there on. Assumes nothing.
 use Rattle.graph.proofs.Marking.{Lows}
 use Rattle.graph.proofs.marks.lows.Given as goal
 
 abbrev pub invariant-loop-i : goal.invariant-loop-i
 invariant-loop-i l = Lows l.seen l.n l.a l.low l.i
-
-abbrev pub decreases-loop-i : goal.decreases-loop-i
-decreases-loop-i l = l.i

@@ -43,4 +43,4 @@ returns c =
     let a = c.args in
     own_yes a.starts.now a.seen.now a.runs a.items.now a.t _ a.p.0 _ _
     (found a.starts.now a.runs a.p.0 c.in-Run.run' c.containing_in.ensures c.in-Run.is) c.seen_after-after.ensures
-    (λ i. record { count = a.t.count + 1; seen = record { 0 = c.larger.ensures i } })
+    (λ i. record { count = a.t.count + 1; seen = record { 0 = c.max.ensures i } })

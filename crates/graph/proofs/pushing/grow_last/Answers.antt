@@ -28,4 +28,4 @@ pub returns : goal.returns
 returns c =
     let a = c.args in
     let p = c.requires in
-    grown-stored a.g p.held p.run_count_nonzero a.n a.start.0 _ p.start_value c.smaller.ensures
+    grown-stored a.g p.held p.run_count_nonzero a.n a.start.0 _ p.start_value c.min.ensures

@@ -4,6 +4,7 @@ use mathlib.Core.Bool.{cond}
 use mathlib.Core.List.{List}
 use Prim.Native.Nat.{ℕ}
 use native.Mathlib.Omega.{arith}
+use lib.ListN.{length-take}
 use Rattle.lists.specs.Lists.{same}
 use Rattle.graph.proofs.Views.{facts, runs-view, entries-view, frontier_list}
 use Rattle.graph.proofs.Owning.{own-begun, held-counted}
@@ -31,18 +32,17 @@ own_all-t-requires c =
     let f = facts g p.held in
     record { own_fits = record { starts_long = f.sized.starts; seen_long = f.sized.seen_prefix_len; few = f.runs; items_long = f.sized.parents }; ps_bound = omega (arith, p.joins.for_entries, held-counted g p.held c.args.ps.now, entries-view g p.held) }
 
-pub keep_all-left-requires : goal.keep_all-left-requires
-keep_all-left-requires c =
-    let p = c.requires in
-    let g = c.args.g in
-    let f = facts g p.held in
-    record { n_in_bounds = omega (arith, f); n_le_max_kept = omega (arith, f) }
+pub shared_ref_as_front-keep_all : goal.shared_ref_as_front-keep_all
+shared_ref_as_front-keep_all c = omega (arith, facts c.args.g c.requires.held)
 
-pub add-tips-requires : goal.add-tips-requires
-add-tips-requires c =
+pub keep_all-tips-requires : goal.keep_all-tips-requires
+keep_all-tips-requires c = omega (arith, facts c.args.g c.requires.held, length-take c.args.g.frontier_count c.args.g.frontier)
+
+pub push-requires : goal.push-requires
+push-requires c =
     let p = c.requires in
     let g = c.args.g in
-    left-room p.held p.start_value p.joins (own-begun g p.held) c.own_all-t.ensures c.keep_all-left.ensures
+    left-room p.held p.start_value p.joins (own-begun g p.held) c.own_all-t.ensures c.keep_all-tips.ensures
 
 pub pick_seen-s-requires : goal.pick_seen-s-requires
 pick_seen-s-requires c =
@@ -71,6 +71,6 @@ pub returns : goal.returns
 returns c =
     let p = c.requires in
     let g = c.args.g in
-    joined-stored p.held p.start_value p.joins (own-begun g p.held) c.own_all-t.ensures c.keep_all-left.ensures c.add-tips.ensures
+    joined-stored p.held p.start_value p.joins (own-begun g p.held) c.own_all-t.ensures c.keep_all-tips.ensures c.push.ensures
     (c.pick_seen-s.ensures ∙ ap (λ (l : List ℕ). cond (same c.args.ps.now l) c.args.start.0 c.own_all-t.result.seen.0) (sym (frontier_list g p.held)))
-    c.smaller.ensures c.lower_all-changed.ensures c.assemble.ensures
+    c.min.ensures c.lower_all-changed.ensures c.assemble.ensures

@@ -1,16 +1,10 @@
 -- `graph::pushing::pick_seen` meets its contract, by the test's two cases. Assumes nothing.
-use mathlib.Core.Path.{sym, ◌∙◌}
-use native.Mathlib.Omega.{arith}
-use lib.Seq.{take-length}
+use Rattle.std.proofs.Common.{sym, ◌∙◌}
+use Rattle.lists.proofs.Scanning.{same-pointwise}
 use Rattle.graph.proofs.pushing.pick_seen.Goals as goal
 
-pub is_same-requires : goal.is_same-requires
-is_same-requires c = record { n_in_bounds = omega arith; m_in_bounds = c.requires }
-
-pub returns-then-is_same : goal.returns-then-is_same
-returns-then-is_same c =
-    rw (← take-length c.args.ps.now, sym c.is_same.ensures ∙ c.if-is_same.true)
+pub returns-then-eq : goal.returns-then-eq
+returns-then-eq c = rw (← same-pointwise, sym c.eq.ensures ∙ c.if-eq.true)
 
 pub returns : goal.returns
-returns c =
-    rw (← take-length c.args.ps.now, sym c.is_same.ensures ∙ c.if-is_same.false)
+returns c = rw (← same-pointwise, sym c.eq.ensures ∙ c.if-eq.false)

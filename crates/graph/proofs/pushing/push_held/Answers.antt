@@ -3,8 +3,6 @@ use mathlib.Core.Path.{◌≡◌, sym, ◌∙◌, ap}
 use mathlib.Core.Bool.{true, false}
 use Prim.Native.Nat.{◌<◌}
 use native.Mathlib.Omega.{arith}
-use lib.Seq.{take-length}
-use borrow.Author.Tests.{not-true, not-false}
 use Rattle.lists.specs.Lists.{rising}
 use Rattle.graph.proofs.Views.{facts, len-view}
 use Rattle.graph.proofs.PushWays.{no_events_lem, not-rising, one_unknown, all_known_lem, unknown-event, too_many_events, far_passed}
@@ -25,7 +23,7 @@ pub returns-then-not-is_rising : goal.returns-then-not-is_rising
 returns-then-not-is_rising c =
     let a = c.args in
     let ps = a.parents.now in
-    let falls : rising ps ≡ false = ap rising (sym (take-length ps)) ∙ sym c.is_rising.ensures ∙ not-true _ c.if-not-is_rising.true-raw in
+    let falls : rising ps ≡ false = sym c.is_rising.ensures ∙ c.if-not-is_rising.true in
     not-rising a.g ps a.len c.if-len-eq0.false falls
 
 pub count_parents-counts-requires : goal.count_parents-counts-requires
@@ -37,14 +35,14 @@ pub returns-then-counts-gt0 : goal.returns-then-counts-gt0
 returns-then-counts-gt0 c =
     let a = c.args in
     let ps = a.parents.now in
-    let rises : rising ps ≡ true = ap rising (sym (take-length ps)) ∙ sym c.is_rising.ensures ∙ not-false _ c.if-not-is_rising.false-raw in
+    let rises : rising ps ≡ true = sym c.is_rising.ensures ∙ c.if-not-is_rising.false in
     unknown-event a.g ps a.len c.if-len-eq0.false rises (one_unknown a.g c.requires ps c.count_parents-counts.ensures c.if-counts-gt0.true)
 
 pub returns-then-is_too_far : goal.returns-then-is_too_far
 returns-then-is_too_far c =
     let a = c.args in
     let ps = a.parents.now in
-    let rises : rising ps ≡ true = ap rising (sym (take-length ps)) ∙ sym c.is_rising.ensures ∙ not-false _ c.if-not-is_rising.false-raw in
+    let rises : rising ps ≡ true = sym c.is_rising.ensures ∙ c.if-not-is_rising.false in
     let known = all_known_lem a.g c.requires ps c.count_parents-counts.ensures c.if-counts-gt0.false in
     too_many_events a.g ps a.len _ (sym (len-view a.g c.requires)) c.if-len-eq0.false rises known (sym c.is_too_far.ensures ∙ c.if-is_too_far.true)
 
@@ -52,7 +50,7 @@ pub push_known-requires : goal.push_known-requires
 push_known-requires c =
     let a = c.args in
     let ps = a.parents.now in
-    let rises : rising ps ≡ true = ap rising (sym (take-length ps)) ∙ sym c.is_rising.ensures ∙ not-false _ c.if-not-is_rising.false-raw in
+    let rises : rising ps ≡ true = sym c.is_rising.ensures ∙ c.if-not-is_rising.false in
     let known = all_known_lem a.g c.requires ps c.count_parents-counts.ensures c.if-counts-gt0.false in
     let some : 0 < a.len = omega (arith, c.if-len-eq0.false) in
     record { held = c.requires; start_value = sym (len-view a.g c.requires); ps_value = rises; ps_value_2 = known; n_nonzero = some; n_bound = far_passed _ _ (sym c.is_too_far.ensures ∙ c.if-is_too_far.false); counts_value = c.count_parents-counts.ensures }

@@ -4,8 +4,9 @@ use mathlib.Core.Path.{sym, ◌∙◌}
 use Prim.Native.Nat.{◌+◌}
 use native.Mathlib.Omega.{arith}
 use borrow.Author.Tests.{ltb-false}
+use lib.ListN.{length-take}
 use Rattle.graph.proofs.Views.{facts}
-use Rattle.graph.proofs.PushWays.{known_of, extends_are, splits_are, some_runs, grown-out, left-fits, too_many_runs, too_many_entries, frontier_too_long, new-run, room, parted_held, parted_len, parted_joins, joined-out}
+use Rattle.graph.proofs.PushWays.{known_of, extends_are, splits_are, some_runs, grown-out, too_many_runs, too_many_entries, frontier_too_long, new-run, room, parted_held, parted_len, parted_joins, joined-out}
 use Rattle.graph.proofs.pushing.push_known.Goals as goal
 
 pub extends_in-requires : goal.extends_in-requires
@@ -49,27 +50,23 @@ returns-then-over-2 c =
 
 pub keep_all-left-requires : goal.keep_all-left-requires
 keep_all-left-requires c =
-    let f = facts c.args.g c.requires.held in
-    record { n_in_bounds = omega (arith, f); n_le_max_kept = omega (arith, f) }
+    omega (arith, facts c.args.g c.requires.held, length-take c.args.g.frontier_count c.args.g.frontier)
 
-pub overflow_add-left : goal.overflow_add-left
-overflow_add-left c =
+pub shared_ref_as_front-keep_all : goal.shared_ref_as_front-keep_all
+shared_ref_as_front-keep_all c = omega (arith, facts c.args.g c.requires.held)
+
+pub returns-then-len-gt-MAX_FRONTIER : goal.returns-then-len-gt-MAX_FRONTIER
+returns-then-len-gt-MAX_FRONTIER c =
     let a = c.args in
     let k = known_of a.g a.ps.now a.n a.start.0 a.counts c.requires in
-    omega (arith, left-fits k c.keep_all-left.ensures)
-
-pub returns-then-left-gt-MAX_FRONTIER : goal.returns-then-left-gt-MAX_FRONTIER
-returns-then-left-gt-MAX_FRONTIER c =
-    let a = c.args in
-    let k = known_of a.g a.ps.now a.n a.start.0 a.counts c.requires in
-    frontier_too_long k (extends_are k c.extends_in.ensures) c.if-extends_in.false c.over.ensures c.if-over.false c.over-2.ensures c.if-over-2.false c.keep_all-left.ensures c.if-left-gt-MAX_FRONTIER.true
+    frontier_too_long k (extends_are k c.extends_in.ensures) c.if-extends_in.false c.over.ensures c.if-over.false c.over-2.ensures c.if-over-2.false c.keep_all-left.ensures (omega (arith, c.len.ensures.value, c.if-len-gt-MAX_FRONTIER.true))
 
 pub split_all-parted-requires : goal.split_all-parted-requires
 split_all-parted-requires c =
     let a = c.args in
     let k = known_of a.g a.ps.now a.n a.start.0 a.counts c.requires in
     let r = new-run k (extends_are k c.extends_in.ensures) c.if-extends_in.false c.over.ensures c.if-over.false
-    c.over-2.ensures c.if-over-2.false c.keep_all-left.ensures c.if-left-gt-MAX_FRONTIER.false in
+    c.over-2.ensures c.if-over-2.false c.keep_all-left.ensures (omega (arith, c.len.ensures.value, c.if-len-gt-MAX_FRONTIER.false)) in
     record { held = k.holds; room = room r; splits_value = splits_are k }
 
 pub join-joined-requires : goal.join-joined-requires
@@ -77,7 +74,7 @@ join-joined-requires c =
     let a = c.args in
     let k = known_of a.g a.ps.now a.n a.start.0 a.counts c.requires in
     let r = new-run k (extends_are k c.extends_in.ensures) c.if-extends_in.false c.over.ensures c.if-over.false
-    c.over-2.ensures c.if-over-2.false c.keep_all-left.ensures c.if-left-gt-MAX_FRONTIER.false in
+    c.over-2.ensures c.if-over-2.false c.keep_all-left.ensures (omega (arith, c.len.ensures.value, c.if-len-gt-MAX_FRONTIER.false)) in
     let h = c.split_all-parted.result in
     let e = c.split_all-parted.ensures in
     record { held = parted_held r h e; start_value = parted_len r h e; joins = parted_joins r h e; n_bound = k.events }
@@ -87,5 +84,5 @@ returns c =
     let a = c.args in
     let k = known_of a.g a.ps.now a.n a.start.0 a.counts c.requires in
     let r = new-run k (extends_are k c.extends_in.ensures) c.if-extends_in.false c.over.ensures c.if-over.false
-    c.over-2.ensures c.if-over-2.false c.keep_all-left.ensures c.if-left-gt-MAX_FRONTIER.false in
+    c.over-2.ensures c.if-over-2.false c.keep_all-left.ensures (omega (arith, c.len.ensures.value, c.if-len-gt-MAX_FRONTIER.false)) in
     joined-out r c.split_all-parted.result c.split_all-parted.ensures c.join-joined.result c.join-joined.ensures

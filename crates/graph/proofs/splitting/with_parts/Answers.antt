@@ -4,4 +4,4 @@ use Rattle.graph.proofs.splitting.with_parts.Goals as goal
 
 pub returns : goal.returns
 unfolding with_parts
-returns c = rw c.marks_of-marks.ensures
+returns c = rw (c.into_array-h.ensures, c.len.ensures.value, c.marks_of-marks.ensures)

@@ -2,7 +2,6 @@
 use mathlib.Core.Path.{◌≡◌, sym, ap, ◌∙◌}
 use Prim.Native.Nat.{suc, ◌+◌}
 use native.Mathlib.Omega.{arith}
-use borrow.Author.Tests.{not-true, not-false}
 use Rattle.model.specs.Graph.{runs, marked}
 use Rattle.model.specs.Record.{view}
 use Rattle.graph.proofs.Views.{facts, runs-view}
@@ -12,7 +11,7 @@ use Rattle.graph.proofs.starting.is_alone.Goals as goal
 pub returns-then-not-is_marked : goal.returns-then-not-is_marked
 returns-then-not-is_marked c =
     let a = c.args in
-    alone-unmarked (view a.g) a.run.0 (sym c.is_marked.ensures ∙ not-true _ c.if-not-is_marked.true-raw)
+    alone-unmarked (view a.g) a.run.0 (sym c.is_marked.ensures ∙ c.if-not-is_marked.true)
 
 pub overflow_add-next : goal.overflow_add-next
 overflow_add-next c = omega (arith, c.requires.run_bound, (facts c.args.g c.requires.held).runs)
@@ -20,13 +19,13 @@ overflow_add-next c = omega (arith, c.requires.run_bound, (facts c.args.g c.requ
 pub returns-then-next-g : goal.returns-then-next-g
 returns-then-next-g c =
     let a = c.args in
-    let is-it = sym c.is_marked.ensures ∙ not-false _ c.if-not-is_marked.false-raw in
+    let is-it = sym c.is_marked.ensures ∙ c.if-not-is_marked.false in
     alone-last (view a.g) a.run.0 is-it (omega (arith, c.if-next-g.true, runs-view a.g c.requires.held))
 
 pub returns : goal.returns
 returns c =
     let a = c.args in
-    let is-it = sym c.is_marked.ensures ∙ not-false _ c.if-not-is_marked.false-raw in
+    let is-it = sym c.is_marked.ensures ∙ c.if-not-is_marked.false in
     let next : a.run.0 + 1 ≡ suc a.run.0 = omega arith in
     let more : suc a.run.0 ≡ runs (view a.g) → ⊥ = λ q. c.if-next-g.false (omega (arith, q, runs-view a.g c.requires.held)) in
     c.is_marked-2.ensures ∙ ap (marked (view a.g)) next ∙ alone-next (view a.g) a.run.0 is-it more
