@@ -3,8 +3,6 @@ ghost use Rattle.std.specs.Prelude.{◌≡◌, ◌+◌, ◌<◌, ◌≤◌, ◌^
 ghost use Rattle.tables.specs.Gather.{put_parent, put_parents, put_group};
 ghost use Rattle.tables.specs.Laid.{grouped, shares, heads_in, items_in, Sound};
 
-use crate::words::{get, wide};
-
 // A parent of the range whose first run is a, less a, stored at `at`; one before the range is dropped.
 fn put_parent(groups: &mut [u32], at: usize, p: u32, a: u32) -> usize
     requires { at < length groups.old }
@@ -22,10 +20,8 @@ fn put_parents(groups: &mut [u32], at: usize, ps: &[u32], a: u32) -> usize
     ensures { (result, groups.new) ≡ put_parents a (at, groups.old) ps.now }
 {
     let mut to = at;
-    let mut i = 0;
-    while i < ps.len() {
-        to = put_parent(groups, to, ps[i], a);
-        i += 1;
+    for p in ps {
+        to = put_parent(groups, to, *p, a);
     }
     to
 }
@@ -48,14 +44,18 @@ pub fn gather<'a>(groups: &mut [u32], heads: &'a [u32], parents: &'a [u32], a: u
     ensures sound_2 { Sound (heads_in n groups.new) (items_in n groups.new) n }
     ensures groups_len_unchanged { length groups.new ≡ length groups.old }
 {
-    let first = wide(a);
+    let first = a as usize;
     groups[0] = 0;
     let mut at = n + 1;
-    let mut j = 0;
-    while j < n {
-        let s = wide(get(heads, first + j));
-        let e = wide(get(heads, first + j + 1));
-        at = put_group(groups, n, at, j, &parents[s..e], a);
-        j += 1;
+    for j in 0..n {
+        let r = first + j;
+        at = put_group(
+            groups,
+            n,
+            at,
+            j,
+            &parents[heads[r] as usize..heads[r + 1] as usize],
+            a,
+        );
     }
 }
