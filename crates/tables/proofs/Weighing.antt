@@ -2,12 +2,13 @@
 use mathlib.Core.Path.{◌≡◌, sym, ap, ◌∙◌}
 use mathlib.Core.Bool.{Bool, true}
 use mathlib.Core.List.{List, map}
-use Prim.Native.Nat.{ℕ, zero, suc, ◌+◌, ◌-◌, ◌*◌, ◌/◌, ◌^◌, ◌≤◌, ◌<◌}
+use Prim.Native.Nat.{ℕ, zero, suc, ◌+◌, ◌-◌, ◌*◌, ◌/◌, ◌%◌, min, ◌^◌, ◌≤◌, ◌<◌}
 use native.Mathlib.Omega.{arith}
-use native.Mathlib.Nat.{div-lt_iff_lt-mul, mul-le-mul_right, le_of_eq, le_trans}
+use native.Mathlib.Nat.{div-lt_iff_lt-mul, div-eq_of_lt-le, mul-le-mul_right, le_of_eq, le_trans}
 use lib.ListN.{length, get_or, take, drop, length-take, get_or-map}
 use lib.Seq.{paste, length-paste, drop-paste, drop-drop, get_or-take}
 use lib.Ieee.Nearest.{div_mono}
+use Rattle.std.proofs.lemmas.Grind.{div_ceil_times}
 use Rattle.lists.specs.Lists.{mem, ceil}
 use Rattle.lists.specs.Areas.{part}
 use Rattle.model.specs.Cover.{per_bit}
@@ -51,6 +52,11 @@ cover_stored covers z r bits after l h e s =
 pub per_pos : (events : ℕ) → 0 < per_bit events
 unfolding per_bit
 per_pos events = omega arith
+
+-- The library's quotient rounded up is the definition's
+pub ceil_is : (x m : ℕ) → 0 < m → x / m + min 1 (x % m) ≡ ceil x m
+unfolding ceil
+ceil_is x m some = let t = div_ceil_times x m some in sym (div-eq_of_lt-le m (omega arith) (omega arith))
 
 pub per_small : (events : ℕ) → events < 2 ^ 32 → per_bit events < 2 ^ 32
 unfolding per_bit ceil

@@ -1,9 +1,13 @@
 // The children of each run: counted, then placed.
 ghost use Rattle.std.specs.Prelude.{◌≡◌, ℕ, ◌+◌, ◌-◌, ◌<◌, ◌≤◌, ◌^◌, length, get_or};
 ghost use Rattle.model.specs.Limits.{max_runs, max_starts};
+ghost use Rattle.lists.specs.Lists.{concat};
+ghost use Rattle.tables.specs.Jagged.{Below};
 ghost use Rattle.tables.specs.Laid.{grouped, Sound};
 ghost use Rattle.tables.specs.Indexed.{Summed};
 ghost use Rattle.tables.specs.Counted.{tally, Counted, Countable, Placeable, Kids, put_all};
+
+use crate::jagged::Jagged;
 
 // One child more for each of the runs ps.
 fn count_parents(starts: &mut [u32], ps: &[u32])
@@ -18,15 +22,17 @@ fn count_parents(starts: &mut [u32], ps: &[u32])
 }
 
 // How many children each run has, one place on.
-fn count_all<'a>(starts: &mut [u32], heads: &'a [u32], items: &'a [u32], n: usize)
-    requires { Sound heads.now items.now n × (length starts.old ≡ n + 1) × (get_or heads.now n 0 ≤ 2 ^ 20) }
-    ensures { (get_or starts.new 0 0 ≡ 0) ×
-        ((r : ℕ) → r < n → get_or starts.new (r + 1) 0 ≡ tally (grouped heads.now items.now n) r n) ×
-        (length starts.new ≡ length starts.old) × ((k : ℕ) → get_or starts.new k 0 ≤ 2 ^ 20) }
+fn count_all(starts: &mut [u32], parents: &Jagged)
+    requires sized { length starts.old ≡ length parents.now + 1 }
+    requires below { Below parents.now }
+    requires few { length (concat parents.now) ≤ 2 ^ 20 }
+    ensures first { get_or starts.new 0 0 ≡ 0 }
+    ensures counted { (r : ℕ) → r < length parents.now → get_or starts.new (r + 1) 0 ≡ tally parents.now r (length parents.now) }
+    ensures small { (k : ℕ) → get_or starts.new k 0 ≤ 2 ^ 20 }
 {
     starts.fill(0);
-    for r in 0..n {
-        count_parents(starts, &items[heads[r] as usize..heads[r + 1] as usize]);
+    for r in 0..parents.len() {
+        count_parents(starts, parents.row(r));
     }
 }
 
@@ -50,13 +56,16 @@ pub fn starts_of<'a>(starts: &mut [u32], heads: &'a [u32], items: &'a [u32], n: 
     requires { Sound heads.now items.now n × (length starts.old ≡ n + 1) × (get_or heads.now n 0 ≤ 2 ^ 20) }
     ensures { Summed (λ r. tally (grouped heads.now items.now n) r n) n starts.new × (length starts.new ≡ length starts.old) }
 {
-    count_all(starts, heads, items, n);
+    let parents = Jagged::new(heads, items, n);
+    count_all(starts, &parents);
     sum_up(starts);
 }
 
 // Run r put among the children of each of its parents.
 fn put_child(children: &mut [u32], next: &mut [u32], ps: &[u32], r: usize)
-    requires { (r < max_runs) × (length children.old ≤ 2 ^ 20) × Placeable ps.now (next.old, children.old) }
+    requires run { r < max_runs }
+    requires few { length children.old ≤ 2 ^ 20 }
+    requires room { Placeable ps.now (next.old, children.old) }
     ensures { (next.new, children.new) ≡ put_all r (next.old, children.old) ps.now }
 {
     for p in ps {
@@ -67,6 +76,20 @@ fn put_child(children: &mut [u32], next: &mut [u32], ps: &[u32], r: usize)
 }
 
 // Each run's children, in run order; `next` begins as where they start.
+fn place_all(children: &mut [u32], next: &mut [u32], parents: &Jagged)
+    requires sized { length next.old ≡ length parents.now + 1 }
+    requires below { Below parents.now }
+    requires room { length (concat parents.now) ≤ length children.old }
+    requires few { length children.old ≤ 2 ^ 20 }
+    requires summed { Summed (λ r. tally parents.now r (length parents.now)) (length parents.now) next.old }
+    ensures { Kids parents.now (length parents.now) children.new }
+{
+    for r in 0..parents.len() {
+        put_child(children, next, parents.row(r), r);
+    }
+}
+
+// So of n runs whose parents begin at `heads` in `items`.
 pub fn children_of<'a>(
     children: &mut [u32],
     next: &mut [u32],
@@ -79,12 +102,6 @@ pub fn children_of<'a>(
     ensures kids { Kids (grouped heads.now items.now n) n children.new }
     ensures children_len_unchanged { (length children.new ≡ length children.old) × (length next.new ≡ length next.old) }
 {
-    for r in 0..n {
-        put_child(
-            children,
-            next,
-            &items[heads[r] as usize..heads[r + 1] as usize],
-            r,
-        );
-    }
+    let parents = Jagged::new(heads, items, n);
+    place_all(children, next, &parents);
 }

@@ -1,36 +1,46 @@
 -- `tables::children::count_all` meets its contract: every run's kids are counted. Assumes nothing.
-use Rattle.std.proofs.Common.{◌+◌, length, get_or, refl, ap, arith}
-use Rattle.tables.specs.Laid.{grouped}
+use Rattle.std.proofs.Common.{◌≡◌, ◌+◌, ◌<◌, length, take, ap, ◌∙◌, arith}
+use Rattle.lists.specs.Lists.{concat}
+use Rattle.tables.specs.Counted.{tally}
 use Rattle.tables.proofs.Counting.{tallied_start, tallied_more}
-use Rattle.tables.proofs.ParentGroups.{group_lent, group_long, heads-climb, group_countable}
+use Rattle.tables.proofs.ParentGroups.{parents-countable}
+use Rattle.tables.proofs.JaggedRows.{rows_more, rows-most}
 use Rattle.tables.proofs.children.count_all.Goals as goal
 
 pub loop-r-init : goal.loop-r-init
 loop-r-init c =
-    let a = c.args in
-    tallied_start (grouped a.heads.now a.items.now a.n) a.n (get_or a.heads.now 0 0) a.starts.now c.fill.new.self (c.fill.ensures.after (λ y e. e)) c.requires.1
+    let pss = c.args.parents.now in tallied_start pss (length pss) (length (concat (take 0 pss))) c.args.starts.now c.fill.new.self (c.fill.ensures.after (λ y e. e)) c.requires.sized
 
-pub count_parents-requires-clause-countable : goal.count_parents-requires-clause-countable
-count_parents-requires-clause-countable c =
-    let a = c.args in
+pub count_parents-requires : goal.count_parents-requires
+count_parents-requires c =
     let l = c.loop-r in
-    group_countable a.heads.now a.items.now a.n l.r _ l.starts c.requires.0 (omega arith) (group_lent a.heads.now a.items.now a.n l.r _ _ c.requires.0 (omega arith) refl refl) l.invariant.size
-
-pub count_parents-requires-clause-few : goal.count_parents-requires-clause-few
-count_parents-requires-clause-few c =
-    let a = c.args in
-    let l = c.loop-r in
-    omega (arith, (c.requires.0.inside l.r (omega arith)).1, heads-climb a.heads.now a.items.now a.n c.requires.0 (l.r + 1) a.n (omega arith) (omega arith), c.requires.2)
-
-pub count_parents-requires-clause-small : goal.count_parents-requires-clause-small
-count_parents-requires-clause-small c =
-    let a = c.args in
-    let l = c.loop-r in λ k. omega (arith, l.invariant.low k, heads-climb a.heads.now a.items.now a.n c.requires.0 l.r a.n (omega arith) (omega arith), c.requires.2)
+    let pss = c.args.parents.now in
+    let lt : l.r < length pss = omega arith in
+    let now = rows-most pss l.r in
+    let next = rows-most pss (l.r + 1) in
+    let more = rows_more pss l.r lt in
+    record {
+      countable = rw c.row.ensures (parents-countable pss l.r l.starts c.requires.below lt l.invariant.size);
+      few = omega (arith, ap length c.row.ensures, c.requires.few);
+      small = λ k. omega (arith, l.invariant.low k, c.requires.few);
+    }
 
 pub loop-r-preserved : goal.loop-r-preserved
 loop-r-preserved c =
-    let a = c.args in
     let l = c.loop-r in
-    let g = group_lent a.heads.now a.items.now a.n l.r (get_or a.heads.now l.r 0) (get_or a.heads.now (l.r + 1) 0) c.requires.0 (omega arith) refl refl in
-    tallied_more (grouped a.heads.now a.items.now a.n) a.n l.r (get_or a.heads.now l.r 0) (get_or a.heads.now (l.r + 1) 0) _ l.starts c.count_parents.new.starts g
-    (omega (arith, ap length g, group_long a.heads.now a.items.now a.n l.r c.requires.0 (omega arith))) c.count_parents.ensures l.invariant
+    let pss = c.args.parents.now in
+    let lt : l.r < length pss = omega arith in
+    tallied_more pss (length pss) l.r (length (concat (take l.r pss))) (length (concat (take (l.r + 1) pss))) c.row.result.now l.starts c.count_parents.new.starts c.row.ensures
+    (omega (arith, rows_more pss l.r lt, ap length c.row.ensures)) c.count_parents.ensures l.invariant
+
+pub returns : goal.returns
+returns c =
+    let l = c.loop-r in
+    let t = l.invariant in
+    let pss = c.args.parents.now in
+    let all : l.r ≡ length pss = omega arith in
+    record {
+      first = t.first;
+      counted = λ r lt. t.each r lt ∙ ap (tally pss r) all;
+      small = λ k. omega (arith, t.low k, rows-most pss l.r, c.requires.few);
+    }

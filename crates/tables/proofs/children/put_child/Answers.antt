@@ -4,7 +4,7 @@ use Rattle.tables.proofs.Putting.{putting_start, putting_next, putting_end}
 use Rattle.tables.proofs.children.put_child.Goals as goal
 
 pub loop-p-init : goal.loop-p-init
-loop-p-init c = let a = c.args in putting_start a.r a.ps.now (a.next.now, a.children.now) c.requires.2
+loop-p-init c = let a = c.args in putting_start a.r a.ps.now (a.next.now, a.children.now) c.requires.room
 
 pub loop-p-preserved : goal.loop-p-preserved
 loop-p-preserved c =
