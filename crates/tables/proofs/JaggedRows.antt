@@ -83,6 +83,9 @@ module _ (heads items : List ℕ) (n : ℕ) (sound : Sound heads items n) (rows 
   pub rows-few : length (concat rows) ≤ get_or heads n 0
   rows-few = omega (arith, ap (λ (l : List (List ℕ)). length (concat l)) rows_are, items-most heads items n sound)
 
+  pub row_of_parents : (r : ℕ) → r < n → at rows r ≡ part (get_or heads r 0) (get_or heads (r + 1) 0) items
+  row_of_parents r lt = ap (λ (l : List (List ℕ)). at l r) made ∙ row_part heads items n r lt
+
   -- and what holds of the one holds of the other
   pub as_groups : (P : List (List ℕ) → ℕ → Type 0) → P rows (length rows) → P (grouped heads items n) n
   as_groups P h = subst (λ (k : ℕ). P (grouped heads items n) k) rows_size (subst (λ (l : List (List ℕ)). P l (length rows)) rows_are h)

@@ -94,20 +94,27 @@ offset-is starts n r h =
 
 -- ---- what weighing a run needs, and what it gives
 
-pub weigh-ready : (starts begins children covers : List ℕ) (n r per a b high s e : ℕ) → Weighable starts begins children n → r < n → n * cover_words ≤ length covers → per ≡ per_bit (offset starts n) →
-    a ≡ offset starts r → b ≡ offset starts (r + 1) → high ≡ ceil b per → s ≡ get_or begins r 0 → e ≡ get_or begins (r + 1) 0 →
-    (a / per ≤ high) × (high ≤ 127) × (r < 512) × (r * cover_words + cover_words ≤ length covers) × Inside covers (take (e - s) (drop s children))
-unfolding Inside part
-weigh-ready starts begins children covers n r per a b high s e w h room p ae be he se ee =
-    let few : n ≤ 512 = w.few in
-    let up : a ≤ b = rw (ae, be) (offset-rise starts begins children n r (r + 1) w (omega arith) (omega arith)) in
-    let low : a / per ≤ ceil b per = low_high per a b (rw p (per_pos (offset starts n))) up in
-    let top : ceil b per ≤ 127 = rw (p, be) (high_low (offset starts (r + 1)) (offset starts n) (offset-rise starts begins children n (r + 1) n w (omega arith) (omega arith))) in
-    let ins : (x : ℕ) → mem x (take (e - s) (drop s children)) ≡ true → x < n = rw (se, ee) (λ x m. (w.later r x h m).1) in
-    (rw he low, rw he top, omega arith, omega arith, λ x m. let k : x < n = ins x m in omega arith)
+pub record Turn (starts begins children covers ks : List ℕ) (r per low high : ℕ) : Type 0 where
+  pub rising : low ≤ high
+  pub within : high ≤ 127
+  pub few : r < 512
+  pub room : r * cover_words + cover_words ≤ length covers
+  pub inside : Inside covers ks
+  pub bits : join_of (range_bits low high) (cover_at covers) ks ≡ run_bits starts per begins children covers r
 
-pub weigh_bits : (starts begins children covers : List ℕ) (r per a b high s e : ℕ) → a ≡ offset starts r → b ≡ offset starts (r + 1) → high ≡ ceil b per →
-    s ≡ get_or begins r 0 → e ≡ get_or begins (r + 1) 0 →
-    join_of (range_bits (a / per) high) (cover_at covers) (take (e - s) (drop s children)) ≡ run_bits starts per begins children covers r
-unfolding run_bits part
-weigh_bits starts begins children covers r per a b high s e ae be he se ee = rw (he, ae, be, se, ee)
+-- a and b are how far into the range the run starts and ends, and ks its children
+pub turn_of : (starts begins children covers ks : List ℕ) (n r per a b high : ℕ) → Weighable starts begins children n → r < n → n * cover_words ≤ length covers → per ≡ per_bit (offset starts n) →
+    a ≡ offset starts r → b ≡ offset starts (r + 1) → high ≡ b / per + min 1 (b % per) → ks ≡ part (get_or begins r 0) (get_or begins (r + 1) 0) children → Turn starts begins children covers ks r per (a / per) high
+unfolding Inside run_bits
+turn_of starts begins children covers ks n r per a b high w h room p ae be he ke =
+    let up : a ≤ b = rw (ae, be) (offset-rise starts begins children n r (r + 1) w (omega arith) (omega arith)) in
+    let some : 0 < per = rw p (per_pos (offset starts n)) in
+    let top : high ≡ ceil b per = he ∙ ceil_is b per some in
+    record {
+      rising = rw top (low_high per a b some up);
+      within = rw (top, p, be) (high_low (offset starts (r + 1)) (offset starts n) (offset-rise starts begins children n (r + 1) n w (omega arith) (omega arith)));
+      few = omega (arith, w.few);
+      room = omega arith;
+      inside = λ x m. let k = (w.later r x h (ap (mem x) (sym ke) ∙ m)).1 in omega arith;
+      bits = rw (top, ae, be, ke);
+    }

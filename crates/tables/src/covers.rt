@@ -7,6 +7,7 @@ ghost use Rattle.model.specs.Limits.{cover_bits, max_runs};
 ghost use Rattle.model.specs.Cover.{per_bit, either};
 ghost use Rattle.tables.specs.Covers.{word_bits, cover_words, bits_of, bits_in, cover_at, range_bits, join_of, offset, run_bits, Inside, Covered, Weighable, Weighted};
 
+use crate::jagged::Jagged;
 use crate::words::get;
 use model::COVER_BITS;
 
@@ -63,7 +64,8 @@ fn join_children(z: &mut [CoverWord], covers: &[CoverWord], children: &[u32])
 
 // The events of a bit.
 fn per_bit(events: usize) -> usize
-    ensures { result ≡ per_bit events }
+    ensures value { result ≡ per_bit events }
+    ensures some { 0 < result }
 {
     events.div_ceil(COVER_BITS).max(1)
 }
@@ -94,33 +96,6 @@ fn weigh_run(covers: &mut [CoverWord], low: usize, high: usize, r: usize, childr
     count_bits(&z)
 }
 
-// Run r's cover and weight, of a range of n runs.
-fn weigh<'a>(
-    weights: &mut [u32],
-    covers: &mut [CoverWord],
-    starts: &[u32],
-    per: usize,
-    begins: &'a [u32],
-    children: &'a [u32],
-    n: usize,
-    r: usize,
-)
-    requires run { r < n }
-    requires weights_room { n ≤ length weights.old }
-    requires covers_room { n * cover_words ≤ length covers.old }
-    requires per_is { per ≡ per_bit (offset starts.now n) }
-    requires weighable { Weighable starts.now begins.now children.now n }
-    ensures weights_after { weights.new ≡ set weights.old r
-        (count (λ b. b) (run_bits starts.now per begins.now children.now covers.old r)) }
-    ensures covered { Covered r (run_bits starts.now per begins.now children.now covers.old r) covers.new covers.old }
-{
-    let low = offset_of(starts, r) / per;
-    let high = offset_of(starts, r + 1).div_ceil(per);
-    let s = get(begins, r) as usize;
-    let e = get(begins, r + 1) as usize;
-    weights[r] = weigh_run(covers, low, high, r, &children[s..e]);
-}
-
 // The weights of n runs, the last first.
 pub fn weights_of<'a>(
     weights: &mut [u32],
@@ -134,7 +109,10 @@ pub fn weights_of<'a>(
     ensures { Weighted starts.now begins.now children.now n weights.new }
 {
     let per = per_bit(offset_of(starts, n));
+    let kids = Jagged::new(begins, children, n);
     for r in (0..n).rev() {
-        weigh(weights, covers, starts, per, begins, children, n, r);
+        let low = offset_of(starts, r) / per;
+        let high = offset_of(starts, r + 1).div_ceil(per);
+        weights[r] = weigh_run(covers, low, high, r, kids.row(r));
     }
 }

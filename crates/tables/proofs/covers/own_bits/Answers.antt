@@ -13,7 +13,7 @@ loop-i-init c = record { whole = ap length c.requires.zeros; bits_are = ap (bits
 pub loop-i-preserved : goal.loop-i-preserved
 loop-i-preserved c =
     let l = c.loop-i in
-    let e : 1 * 2 ^ (l.i % word_bits) % 2 ^ word_bits ≡ 2 ^ (l.i % word_bits) = rw one-mul (mod-eq_of_lt (pow-lt (omega arith))) in
+    let e : 1 * 2 ^ (l.i % word_bits) % 2 ^ word_bits ≡ 2 ^ (l.i % word_bits) = rw one-mul (mod-eq_of_lt (pow-lt {j = word_bits} (omega arith))) in
     record {
       whole = length-set l.z _ _ ∙ l.invariant.whole;
       bits_are = bit-next word_bits l.z _ c.args.low l.i _ (omega arith) (omega (arith, l.invariant.whole)) (omega arith) (omega (arith, c.requires.within)) e refl l.invariant.bits_are;

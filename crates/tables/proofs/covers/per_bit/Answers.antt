@@ -5,6 +5,6 @@ use Rattle.model.specs.Cover.{per_bit}
 use Rattle.tables.proofs.Weighing.{ceil_is}
 use Rattle.tables.proofs.covers.per_bit.Goals as goal
 
-pub returns : goal.returns
+pub returns-clause-value : goal.returns-clause-value
 unfolding per_bit
-returns c = omega (arith, c.max.ensures, c.div_ceil.ensures, ceil_is c.args.events cover_bits (omega arith))
+returns-clause-value c = omega (arith, c.max.ensures, c.div_ceil.ensures, ceil_is c.args.events cover_bits (omega arith))

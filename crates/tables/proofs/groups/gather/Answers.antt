@@ -1,11 +1,18 @@
 -- `tables::groups::gather` meets its contract: the groups of the runs so far. Assumes nothing.
-use Rattle.std.proofs.Common.{◌+◌, ap, ◌∙◌, arith}
+use Rattle.std.proofs.Common.{◌≡◌, ◌+◌, length, get_or, ap, ◌∙◌, arith}
 use Rattle.std.proofs.Math.ListN.{length-set}
-use Rattle.lists.specs.Areas.{part}
-use Rattle.tables.specs.Gather.{Gathered}
+use Rattle.tables.specs.Gather.{Gathered, put_group}
 use Rattle.tables.proofs.Gathering.{gather_none, turn_gather}
 use Rattle.tables.proofs.Ranging.{gathered}
+use Rattle.tables.proofs.JaggedRows.{lies_of, rows_size, row_of_parents}
 use Rattle.tables.proofs.groups.gather.Goals as goal
+
+pub new-all-requires : goal.new-all-requires
+new-all-requires c = lies_of c.args.heads.now c.args.parents.now (c.args.a + c.args.n) c.requires.sound
+
+pub row-requires : goal.row-requires
+row-requires c =
+    let made = c.new-all in omega (arith, rows_size c.args.heads.now c.args.parents.now (c.args.a + c.args.n) c.requires.sound made.result made.ensures)
 
 pub loop-j-init : goal.loop-j-init
 loop-j-init c =
@@ -18,22 +25,23 @@ loop-j-init c =
     }
 
 pub put_group-at-requires : goal.put_group-at-requires
-unfolding part
 put_group-at-requires c =
     let a = c.args in
     let p = c.requires in
     let l = c.loop-j in
+    let own = c.row.ensures ∙ row_of_parents a.heads.now a.parents.now (a.a + a.n) p.sound c.new-all.result c.new-all.ensures (a.a + l.j) (omega arith) in
     let t = turn_gather a.heads.now a.parents.now a.a a.n p.sound _ (omega (arith, p.parents_in_bounds, length-set a.groups.now 0 0)) l.j (omega arith) (l.at, l.groups) l.invariant.groups_are l.invariant.few in
-    (omega arith, t.0, omega (arith, t.1), omega (arith, t.2, c.type_inv.heads (a.a + l.j + 1)))
+    let long = ap length own in
+    record { run = omega arith; after_starts = t.0; room = omega (arith, t.1, long); few = omega (arith, t.2, long, c.type_inv.heads (a.a + l.j + 1)) }
 
 pub loop-j-preserved : goal.loop-j-preserved
-unfolding part
 loop-j-preserved c =
     let a = c.args in
     let p = c.requires in
     let l = c.loop-j in
-    let put = c.put_group-at.ensures in
+    let own = c.row.ensures ∙ row_of_parents a.heads.now a.parents.now (a.a + a.n) p.sound c.new-all.result c.new-all.ensures (a.a + l.j) (omega arith) in
     let t = turn_gather a.heads.now a.parents.now a.a a.n p.sound _ (omega (arith, p.parents_in_bounds, length-set a.groups.now 0 0)) l.j (omega arith) (l.at, l.groups) l.invariant.groups_are l.invariant.few in
+    let put = c.put_group-at.ensures ∙ ap (put_group a.a a.n l.j (l.at, l.groups)) own in
     let to = ap (λ (x : Gathered). x.0) put in record { groups_are = put ∙ t.3; few = omega (arith, to, t.4); room = omega (arith, to, t.5) }
 
 pub returns-clause-n_after : goal.returns-clause-n_after
