@@ -2,12 +2,11 @@
 use mathlib.Core.Path.{◌≡◌, refl, sym, ap, ap₂, ◌∙◌}
 use mathlib.Core.Bool.{Bool, true, false, ◌||◌}
 use mathlib.Core.List.{List, [], ◌∷◌, ◌++◌}
-use Prim.Native.Nat.{ℕ, zero, suc, ◌+◌, ◌*◌, ◌/◌, ◌%◌, ◌^◌, ◌≤◌, ◌<◌, max}
+use Prim.Native.Nat.{ℕ, zero, suc, ◌+◌, ◌*◌, ◌/◌, ◌%◌, ◌^◌, ◌<◌, max}
 use native.Mathlib.Omega.{arith}
-use native.Mathlib.Numerals.{add-one}
 use native.Mathlib.Nat.{pow-suc, zero-add, suc-add, zero-mul, suc-mul}
-use lib.ListN.{length, get_or, drop, set, replicate, length-append, drop_of_length-le, replicate-append-replicate}
-use lib.Seq.{set-append_left, drop-cons}
+use lib.ListN.{length, get_or, set, replicate, length-append, replicate-append-replicate}
+use lib.Seq.{set-append_left}
 use lib.Dec.{eqb}
 use lib.Bits.{bit_or, or_step, or_zero_r}
 use lib.Count.{ones, ones_in, ones_step}

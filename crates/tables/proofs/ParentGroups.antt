@@ -1,16 +1,12 @@
 -- The parents of each run as they stand in their area and are lent from it. Assumes nothing.
-use mathlib.Core.Path.{◌≡◌, sym, ap, ap₂, ◌∙◌}
-use mathlib.Core.Logic.{◌⊎◌, inl, inr}
-use mathlib.Core.Bool.{true}
+use mathlib.Core.Path.{◌≡◌, ap, ◌∙◌}
 use mathlib.Core.List.{List, [], ◌∷◌}
-use Prim.Native.Nat.{ℕ, zero, suc, ◌+◌, ◌-◌, ◌≤◌, ◌<◌}
+use Prim.Native.Nat.{ℕ, suc, ◌+◌, ◌<◌}
 use native.Mathlib.Numerals.{add-one}
 use native.Mathlib.Omega.{arith}
-use lib.ListN.{length, get_or, take, drop, length-take}
+use lib.ListN.{length, get_or, take, length-take}
 use lib.Seq.{get_or-take}
-use Rattle.lists.specs.Lists.{mem}
 use Rattle.lists.specs.Areas.{part}
-use Rattle.lists.proofs.Truth.{eq_or-not}
 use Rattle.lists.proofs.Members.{get_d_mem}
 use Rattle.lists.proofs.Groups.{length_part, length-groups, group_at}
 use Rattle.model.specs.History.{at}

@@ -14,11 +14,9 @@ use Rattle.lists.specs.Lists.{from, upto}
 use Rattle.lists.proofs.Truth.{lt_eq_gt, lt_or_le}
 use Rattle.lists.proofs.Between.{within, within_in, within-before, within-after, none_within}
 use Rattle.model.specs.Cover.{either}
-use Rattle.tables.specs.Lanes.{lane}
 use Rattle.tables.specs.Covers.{cover_room, bits_in, join_words, range_bits}
 use Rattle.tables.proofs.Bits.{bits_join, bits_in_set, bits_in_zeros}
 use Rattle.tables.proofs.Joins.{either_comm}
-use Rattle.tables.proofs.Laning.{lane-length, lane_get_d}
 
 -- Joined up to place i, and the rest still to be joined
 unfoldable pub join_rest : ℕ → List ℕ → List ℕ → List ℕ

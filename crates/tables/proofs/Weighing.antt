@@ -1,6 +1,6 @@
 -- A run's cover written and weighed, the last run first, gives the weights of the definition. Assumes nothing.
 use mathlib.Core.Path.{◌≡◌, sym, ap, ◌∙◌}
-use mathlib.Core.Bool.{Bool, true}
+use mathlib.Core.Bool.{Bool}
 use mathlib.Core.List.{List, map}
 use Prim.Native.Nat.{ℕ, zero, suc, ◌+◌, ◌-◌, ◌*◌, ◌/◌, ◌%◌, min, ◌^◌, ◌≤◌, ◌<◌}
 use native.Mathlib.Omega.{arith}

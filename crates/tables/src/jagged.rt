@@ -4,9 +4,8 @@ ghost use Rattle.model.specs.Limits.{max_runs};
 ghost use Rattle.model.specs.History.{at};
 ghost use Rattle.tables.specs.Jagged.{rows_in, Lies};
 
-use std::marker::Model;
-
 use crate::words::get;
+use std::marker::Model;
 
 // Where each of `rows` rows starts, where the last ends, and the items.
 #[derive(Drop)]

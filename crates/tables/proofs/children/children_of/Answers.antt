@@ -1,5 +1,5 @@
 -- `tables::children::children_of` meets its contract: the kids of each run stand in their places. Assumes nothing.
-use Rattle.std.proofs.Common.{List, ℕ, arith}
+use Rattle.std.proofs.Common.{arith}
 use Rattle.tables.specs.Indexed.{Summed}
 use Rattle.tables.specs.Counted.{tally, Kids}
 use Rattle.tables.proofs.JaggedRows.{lies_of, rows_size, rows-below, rows-few, as_groups, as_rows}

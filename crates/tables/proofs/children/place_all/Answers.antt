@@ -1,7 +1,7 @@
 -- `tables::children::place_all` meets its contract: the kids of each run stand in their places. Assumes nothing.
-use Rattle.std.proofs.Common.{◌≡◌, ◌+◌, ◌<◌, List, ℕ, length, sym, ap, subst, ◌∙◌, arith}
+use Rattle.std.proofs.Common.{◌≡◌, ◌+◌, ◌<◌, ℕ, length, sym, ap, subst, ◌∙◌, arith}
 use Rattle.model.specs.History.{at}
-use Rattle.tables.specs.Counted.{kids, kids_from, Placing, put_all, Placeable}
+use Rattle.tables.specs.Counted.{kids, kids_from, Placing, put_all}
 use Rattle.tables.proofs.Rooms.{kids-most}
 use Rattle.tables.proofs.Filling.{Filled, filled_start, run_placeable, filled_run}
 use Rattle.tables.proofs.children.place_all.Goals as goal

@@ -1,5 +1,5 @@
 -- `tables::children::starts_of` meets its contract: where each run's kids begin. Assumes nothing.
-use Rattle.std.proofs.Common.{List, ℕ, ◌+◌, length, get_or, ◌∙◌, arith}
+use Rattle.std.proofs.Common.{ℕ, ◌+◌, length, get_or, ◌∙◌, arith}
 use Rattle.tables.specs.Indexed.{Summed}
 use Rattle.tables.specs.Counted.{tally}
 use Rattle.tables.proofs.JaggedRows.{lies_of, rows_size, rows-below, rows-few, as_groups}

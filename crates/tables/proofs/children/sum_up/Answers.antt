@@ -1,6 +1,6 @@
 -- `tables::children::sum_up` meets its contract: each place is the sum of those up to it. Assumes nothing.
-use Rattle.std.proofs.Common.{subst, arith}
-use Rattle.tables.proofs.Counting.{Summing, summing_start, summing_room, summing_next, summing_end}
+use Rattle.std.proofs.Common.{arith}
+use Rattle.tables.proofs.Counting.{summing_start, summing_room, summing_next, summing_end}
 use Rattle.tables.proofs.children.sum_up.Goals as goal
 
 pub loop-s-init : goal.loop-s-init

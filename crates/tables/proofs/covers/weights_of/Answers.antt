@@ -1,5 +1,5 @@
 -- `tables::covers::weights_of` meets its contract: the weights are those of the definition. Assumes nothing.
-use Rattle.std.proofs.Common.{ℕ, ◌-◌, List, Bool, length, set, ap, sym, subst, ◌∙◌, arith}
+use Rattle.std.proofs.Common.{ℕ, ◌-◌, List, Bool, length, set, ap, subst, ◌∙◌, arith}
 use Rattle.lists.specs.Lists.{count}
 use Rattle.model.specs.History.{at}
 use Rattle.model.specs.Cover.{per_bit}

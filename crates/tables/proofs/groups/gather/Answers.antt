@@ -1,5 +1,5 @@
 -- `tables::groups::gather` meets its contract: the groups of the runs so far. Assumes nothing.
-use Rattle.std.proofs.Common.{◌≡◌, ◌+◌, length, get_or, ap, ◌∙◌, arith}
+use Rattle.std.proofs.Common.{◌+◌, length, ap, ◌∙◌, arith}
 use Rattle.std.proofs.Math.ListN.{length-set}
 use Rattle.tables.specs.Gather.{Gathered, put_group}
 use Rattle.tables.proofs.Gathering.{gather_none, turn_gather}
