@@ -2,7 +2,7 @@
 use mathlib.Core.Path.{◌≡◌, sym, ap, ◌∙◌}
 use mathlib.Core.Bool.{Bool}
 use mathlib.Core.List.{List, map}
-use Prim.Native.Nat.{ℕ, zero, suc, ◌+◌, ◌-◌, ◌*◌, ◌/◌, ◌%◌, min, ◌^◌, ◌≤◌, ◌<◌}
+use Prim.Native.Nat.{ℕ, zero, suc, ◌+◌, ◌-◌, ◌*◌, ◌/◌, ◌%◌, min, ◌≤◌, ◌<◌}
 use native.Mathlib.Omega.{arith}
 use native.Mathlib.Nat.{div-lt_iff_lt-mul, div-eq_of_lt-le, mul-le-mul_right, le_of_eq, le_trans}
 use lib.ListN.{length, get_or, take, drop, length-take, get_or-map}
@@ -12,10 +12,13 @@ use Rattle.std.proofs.lemmas.Grind.{div_ceil_times}
 use Rattle.lists.specs.Lists.{mem, ceil}
 use Rattle.lists.specs.Areas.{part}
 use Rattle.model.specs.Cover.{per_bit}
+use Rattle.model.specs.History.{at}
 use Rattle.tables.specs.Lanes.{lane}
+use Rattle.tables.specs.Jagged.{rows_in}
 use Rattle.tables.specs.Covers.{word_bits, cover_room, cover_words, bits_in, cover_at, range_bits, join_of, offset, offsets, run_bits, Inside, Covered, Weighable}
 use Rattle.tables.proofs.Laning.{lane-before, lane-stored}
 use Rattle.tables.proofs.Bits.{bits_in_length}
+use Rattle.tables.proofs.JaggedRows.{row_part}
 
 -- ---- a run's words in the area
 
@@ -58,10 +61,6 @@ pub ceil_is : (x m : ℕ) → 0 < m → x / m + min 1 (x % m) ≡ ceil x m
 unfolding ceil
 ceil_is x m some = let t = div_ceil_times x m some in sym (div-eq_of_lt-le m (omega arith) (omega arith))
 
-pub per_small : (events : ℕ) → events < 2 ^ 32 → per_bit events < 2 ^ 32
-unfolding per_bit ceil
-per_small events h = omega arith
-
 pub low_high : (per first end : ℕ) → 0 < per → first ≤ end → first / per ≤ ceil end per
 unfolding ceil
 low_high per first end p h = div_mono first per (end + (per - 1)) per p p (mul-le-mul_right per (omega arith))
@@ -102,14 +101,16 @@ pub record Turn (starts begins children covers ks : List ℕ) (r per low high : 
   pub inside : Inside covers ks
   pub bits : join_of (range_bits low high) (cover_at covers) ks ≡ run_bits starts per begins children covers r
 
--- a and b are how far into the range the run starts and ends, and ks its children
-pub turn_of : (starts begins children covers ks : List ℕ) (n r per a b high : ℕ) → Weighable starts begins children n → r < n → n * cover_words ≤ length covers → per ≡ per_bit (offset starts n) →
-    a ≡ offset starts r → b ≡ offset starts (r + 1) → high ≡ b / per + min 1 (b % per) → ks ≡ part (get_or begins r 0) (get_or begins (r + 1) 0) children → Turn starts begins children covers ks r per (a / per) high
+-- a and b are how far into the range the run starts and ends, and ks the r-th of all runs' children, kss
+pub turn_of : (starts begins children covers ks : List ℕ) (n r : ℕ) (kss : List (List ℕ)) (per a b high : ℕ) → Weighable starts begins children n → r < n → n * cover_words ≤ length covers →
+    per ≡ per_bit (offset starts n) → a ≡ offset starts r → b ≡ offset starts (r + 1) → high ≡ b / per + min 1 (b % per) → kss ≡ rows_in begins children n → ks ≡ at kss r →
+    Turn starts begins children covers ks r per (a / per) high
 unfolding Inside run_bits
-turn_of starts begins children covers ks n r per a b high w h room p ae be he ke =
+turn_of starts begins children covers ks n r kss per a b high w h room p ae be he all row =
     let up : a ≤ b = rw (ae, be) (offset-rise starts begins children n r (r + 1) w (omega arith) (omega arith)) in
     let some : 0 < per = rw p (per_pos (offset starts n)) in
     let top : high ≡ ceil b per = he ∙ ceil_is b per some in
+    let ke = row ∙ (ap (λ (l : List (List ℕ)). at l r) all ∙ row_part begins children n r h) in
     record {
       rising = rw top (low_high per a b some up);
       within = rw (top, p, be) (high_low (offset starts (r + 1)) (offset starts n) (offset-rise starts begins children n (r + 1) n w (omega arith) (omega arith)));

@@ -2,11 +2,8 @@
 use Rattle.std.proofs.Common.{arith}
 use Rattle.tables.specs.Indexed.{Summed}
 use Rattle.tables.specs.Counted.{tally, Kids}
-use Rattle.tables.proofs.JaggedRows.{lies_of, rows_size, rows-below, rows-few, as_groups, as_rows}
+use Rattle.tables.proofs.JaggedRows.{rows_size, rows-below, rows-few, as_groups, as_rows}
 use Rattle.tables.proofs.children.children_of.Goals as goal
-
-pub new-parents-requires : goal.new-parents-requires
-new-parents-requires c = lies_of c.args.heads.now c.args.items.now c.args.n c.requires.sound.0
 
 pub place_all-requires : goal.place_all-requires
 place_all-requires c =

@@ -1,7 +1,6 @@
 -- `tables::children::count_all` meets its contract: every run's kids are counted. Assumes nothing.
-use Rattle.std.proofs.Common.{◌≡◌, ◌+◌, ◌<◌, length, take, ap, ◌∙◌, arith}
+use Rattle.std.proofs.Common.{◌+◌, ◌<◌, length, take, ap, arith}
 use Rattle.lists.specs.Lists.{concat}
-use Rattle.tables.specs.Counted.{tally}
 use Rattle.tables.proofs.Counting.{tallied_start, tallied_more}
 use Rattle.tables.proofs.ParentGroups.{parents-countable}
 use Rattle.tables.proofs.JaggedRows.{rows_more, rows-most}
@@ -32,15 +31,3 @@ loop-r-preserved c =
     let lt : l.r < length pss = omega arith in
     tallied_more pss (length pss) l.r (length (concat (take l.r pss))) (length (concat (take (l.r + 1) pss))) c.row.result.now l.starts c.count_parents.new.starts c.row.ensures
     (omega (arith, rows_more pss l.r lt, ap length c.row.ensures)) c.count_parents.ensures l.invariant
-
-pub returns : goal.returns
-returns c =
-    let l = c.loop-r in
-    let t = l.invariant in
-    let pss = c.args.parents.now in
-    let all : l.r ≡ length pss = omega arith in
-    record {
-      first = t.first;
-      counted = λ r lt. t.each r lt ∙ ap (tally pss r) all;
-      small = λ k. omega (arith, t.low k, rows-most pss l.r, c.requires.few);
-    }

@@ -31,11 +31,3 @@ loop-r-preserved c =
     let whole : ◌≡◌ {A = Placing} (put.new.next, put.new.children) (put_all l.r (l.next, l.children) (at pss l.r)) = put.ensures ∙ ap (put_all l.r (l.next, l.children)) c.row.ensures in
     subst (λ (x : Placing). Filled (kids_from pss n) (λ q. kids pss q (l.r + 1)) n x) (sym whole)
     (filled_run pss n l.r (l.next, l.children) lt (λ q m. let b = p.below l.r q m in omega arith) (omega (arith, p.sized)) (omega (arith, p.room)) l.invariant)
-
-pub returns : goal.returns
-returns c =
-    let l = c.loop-r in
-    let pss = c.args.parents.now in
-    let done : Filled (kids_from pss (length pss)) (λ q. kids pss q (length pss)) (length pss) (l.next, l.children) =
-    subst (λ (k : ℕ). Filled (kids_from pss (length pss)) (λ q. kids pss q k) (length pss) (l.next, l.children)) (omega arith) l.invariant in
-    done.child_at

@@ -2,12 +2,9 @@
 use Rattle.std.proofs.Common.{ℕ, ◌+◌, length, get_or, ◌∙◌, arith}
 use Rattle.tables.specs.Indexed.{Summed}
 use Rattle.tables.specs.Counted.{tally}
-use Rattle.tables.proofs.JaggedRows.{lies_of, rows_size, rows-below, rows-few, as_groups}
+use Rattle.tables.proofs.JaggedRows.{rows_size, rows-below, rows-few, as_groups}
 use Rattle.tables.proofs.Rooms.{sums_same}
 use Rattle.tables.proofs.children.starts_of.Goals as goal
-
-pub new-parents-requires : goal.new-parents-requires
-new-parents-requires c = lies_of c.args.heads.now c.args.items.now c.args.n c.requires.0
 
 pub count_all-requires : goal.count_all-requires
 count_all-requires c =
@@ -18,9 +15,6 @@ count_all-requires c =
       below = rows-below a.heads.now a.items.now a.n c.requires.0 made.result made.ensures;
       few = omega (arith, rows-few a.heads.now a.items.now a.n c.requires.0 made.result made.ensures);
     }
-
-pub sum_up-requires : goal.sum_up-requires
-sum_up-requires c = record { few = omega (arith, c.requires.0.few); first = c.count_all.ensures.first; small = c.count_all.ensures.small }
 
 pub returns : goal.returns
 returns c =

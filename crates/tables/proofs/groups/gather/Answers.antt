@@ -1,14 +1,11 @@
 -- `tables::groups::gather` meets its contract: the groups of the runs so far. Assumes nothing.
-use Rattle.std.proofs.Common.{◌+◌, length, ap, ◌∙◌, arith}
+use Rattle.std.proofs.Common.{◌+◌, ◌≤◌, length, set, ap, ◌∙◌, arith}
 use Rattle.std.proofs.Math.ListN.{length-set}
 use Rattle.tables.specs.Gather.{Gathered, put_group}
 use Rattle.tables.proofs.Gathering.{gather_none, turn_gather}
 use Rattle.tables.proofs.Ranging.{gathered}
-use Rattle.tables.proofs.JaggedRows.{lies_of, rows_size, row_of_parents}
+use Rattle.tables.proofs.JaggedRows.{rows_size, row_of_parents}
 use Rattle.tables.proofs.groups.gather.Goals as goal
-
-pub new-all-requires : goal.new-all-requires
-new-all-requires c = lies_of c.args.heads.now c.args.parents.now (c.args.a + c.args.n) c.requires.sound
 
 pub row-requires : goal.row-requires
 row-requires c =
@@ -30,7 +27,8 @@ put_group-at-requires c =
     let p = c.requires in
     let l = c.loop-j in
     let own = c.row.ensures ∙ row_of_parents a.heads.now a.parents.now (a.a + a.n) p.sound c.new-all.result c.new-all.ensures (a.a + l.j) (omega arith) in
-    let t = turn_gather a.heads.now a.parents.now a.a a.n p.sound _ (omega (arith, p.parents_in_bounds, length-set a.groups.now 0 0)) l.j (omega arith) (l.at, l.groups) l.invariant.groups_are l.invariant.few in
+    let fits : a.n + 1 + length a.parents.now ≤ length (set a.groups.now 0 0) = omega (arith, p.parents_in_bounds, length-set a.groups.now 0 0) in
+    let t = turn_gather a.heads.now a.parents.now a.a a.n p.sound _ fits l.j (omega arith) (l.at, l.groups) l.invariant.groups_are l.invariant.few in
     let long = ap length own in
     record { run = omega arith; after_starts = t.0; room = omega (arith, t.1, long); few = omega (arith, t.2, long, c.type_inv.heads (a.a + l.j + 1)) }
 
@@ -40,7 +38,8 @@ loop-j-preserved c =
     let p = c.requires in
     let l = c.loop-j in
     let own = c.row.ensures ∙ row_of_parents a.heads.now a.parents.now (a.a + a.n) p.sound c.new-all.result c.new-all.ensures (a.a + l.j) (omega arith) in
-    let t = turn_gather a.heads.now a.parents.now a.a a.n p.sound _ (omega (arith, p.parents_in_bounds, length-set a.groups.now 0 0)) l.j (omega arith) (l.at, l.groups) l.invariant.groups_are l.invariant.few in
+    let fits : a.n + 1 + length a.parents.now ≤ length (set a.groups.now 0 0) = omega (arith, p.parents_in_bounds, length-set a.groups.now 0 0) in
+    let t = turn_gather a.heads.now a.parents.now a.a a.n p.sound _ fits l.j (omega arith) (l.at, l.groups) l.invariant.groups_are l.invariant.few in
     let put = c.put_group-at.ensures ∙ ap (put_group a.a a.n l.j (l.at, l.groups)) own in
     let to = ap (λ (x : Gathered). x.0) put in record { groups_are = put ∙ t.3; few = omega (arith, to, t.4); room = omega (arith, to, t.5) }
 
