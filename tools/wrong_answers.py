@@ -62,7 +62,7 @@ GRAPH = [
     ("broken::is_broken", "a graph with wrong marks is not broken", "broken.rt", "        g.mark_count,\n    ) {\n        return true;", "        g.mark_count,\n    ) {\n        return false;"),
     ("fresh::new", "changed_from is 1", "fresh.rt", "let from = EventRunIndex(0);", "let from = EventRunIndex(1);"),
     ("fresh::new", "the frontier holds event 0", "fresh.rt", "&nothing[0..0]", "&nothing[0..1]"),
-    ("fresh::after", "refuses a rising frontier and takes one that is not", "fresh.rt", "if !lists::is_rising(frontier, frontier.len())", "if lists::is_rising(frontier, frontier.len())"),
+    ("fresh::after", "refuses a rising frontier and takes one that is not", "fresh.rt", "if !lists::is_rising(frontier)", "if lists::is_rising(frontier)"),
     ("fresh::after", "refuses a frontier of exactly 512 events", "fresh.rt", "if MAX_FRONTIER < frontier.len()", "if MAX_FRONTIER < frontier.len() + 1"),
     ("pushing::push", "refuses a push that ends at 4,294,967,295", "pushing.rt", "MAX_LEN - start.0 < len", "MAX_LEN - start.0 <= len"),
     ("pushing::push", "a run that saw all before it counts as seen up to its start", "pushing.rt", "return end;", "return start;"),
@@ -126,7 +126,7 @@ VERSIONS = [
     ("wanted::wanted_parents", "a first without its end is taken", "ranges.rt", "if is_odd(words.len()) {", "if is_odd(0) {"),
     ("wanted::wanted_parents", "refuses a range that ends at len", "ranges.rt", "words[n - 1] <= end.0", "words[n - 1] < end.0"),
     ("wanted::wanted_parents", "takes an event before the first held one", "ranges.rt", "if words[0] < first.0 {\n        return false;", "if words[0] < first.0 {\n        return true;"),
-    ("wanted::wanted_parents", "writes the parents that fit where the list is too short", "wanted.rt", "if list.len() < found.count {", "if list.len() < found.count - found.count {"),
+    ("wanted::wanted_parents", "writes the parents that fit where the list is too short", "wanted.rt", "if list.len() < found.len() {", "if list.len() < found.len() - found.len() {"),
     ("wanted::wanted_parents", "17 in place of 11", "wanted.rt", "Err(Refusal::ListTooShort)", "Err(Refusal::NoSuchParents)"),
 ]
 
@@ -189,7 +189,7 @@ WALK = [
     ("walking::walk", "measures on after cost 0", "measured_on"),
     ("walking::walk", "a tie goes to the older", "choice.rt", "if weight < b.weight {", "if weight <= b.weight {"),
     ("walking::walk", "first is ignored", "walking.rt", "clamped(known, first, n)", "clamped(known, known, n)"),
-    ("walking::walk", "first below known is taken as it is", "walking.rt", "lists::larger(known, first)", "lists::larger(0, first)"),
+    ("walking::walk", "first below known is taken as it is", "walking.rt", "known.max(first)", "first"),
     ("walking::walk", "13 in place of 11", "walking.rt", "Err(Refusal::ListTooShort)", "Err(Refusal::RowsTooLong)"),
     ("walking::walk", "writes no steps", "visiting.rt", "ready: got,", "ready: 0,"),
     ("replaying::replay", "opens and applies without moves", "replaying.rt", "if kind == 0 {", "if kind / 2 == 0 {"),

@@ -13,7 +13,7 @@ pub fn join(row: &mut [u32], theirs: &[u32])
 {
     let mut i = 0;
     while i < theirs.len() {
-        row[i] = lists::larger(row[i], theirs[i]);
+        row[i] = row[i].max(theirs[i]);
         i += 1;
     }
 }
@@ -22,7 +22,7 @@ fn raise(row: &mut [u32], k: usize, v: u32)
     requires { k < length row.old }
     ensures { row.new ≡ raised row.old k v }
 {
-    row[k] = lists::larger(row[k], v);
+    row[k] = row[k].max(v);
 }
 
 // A parent's row, and the parent itself, joined into the row being made.

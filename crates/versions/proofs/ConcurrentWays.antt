@@ -9,10 +9,8 @@ use lib.ListN.{length, get_or, set, length-set}
 use lib.Dec.{eqb}
 use borrow.Author.Tests.{lt-ltb, le-ltb, le-leb, lt-leb}
 use Rattle.lists.specs.Lists.{filter, from, upto}
-use Rattle.lists.specs.Scans.{kept_in}
-use Rattle.lists.specs.declared.Kept.{Kept}
+use Rattle.lists.specs.Areas.{pad}
 use Rattle.lists.proofs.Counts.{filter_same}
-use Rattle.lists.proofs.Keeping.{kept-long}
 use Rattle.lists.proofs.Pads.{get_pad, length-pad}
 use Rattle.model.specs.declared.record.CausalGraph.{CausalGraph}
 use Rattle.model.specs.declared.answers.Refusal.{Refusal}
@@ -35,24 +33,23 @@ use Rattle.versions.proofs.Comparing.{flags_are}
 use Rattle.std.specs.Prelude.{Ok, Err}
 
 -- room for each run's flag
-pub kept-room : (k : Kept) (r n : ℕ) → k ≡ kept_in [] → n ≤ 512 → n ≤ length (set k.items r 1)
-kept-room k r n e h = simp length-set (omega (arith, kept-long k [] e (omega arith)))
+pub flags-room : (flags : List ℕ) (r n : ℕ) → flags ≡ pad 512 [] → n ≤ 512 → n ≤ length (set flags r 1)
+flags-room flags r n e h = simp length-set (omega (arith, ap length e, length-pad 512 [] (omega arith)))
 
 module _ (g : CausalGraph) (held : Held g) (r : ℕ) where
   -- Both passes over a record, from flags that are all 0
-  pub passes_flag : r < g.run_count → (k : Kept) → k ≡ kept_in [] →
+  pub passes_flag : r < g.run_count → (flags : List ℕ) → flags ≡ pad 512 [] →
       Flags (view g) r
       (flag_up (row g.parent_starts g.parents) r
-      (flag_down (row g.parent_starts g.parents) (set k.items r 1) (r + 1)) (r + 1) (g.run_count - (r + 1)))
-  unfolding kept_in
-  passes_flag h k e =
+      (flag_down (row g.parent_starts g.parents) (set flags r 1) (r + 1)) (r + 1) (g.run_count - (r + 1)))
+  passes_flag h flags e =
       rw (add-one r)
-      (subst (λ (n : ℕ). Flags (view g) r (flag_up (row g.parent_starts g.parents) r (flag_down (row g.parent_starts g.parents) (set k.items r 1) (suc r)) (suc r) (n - suc r)))
+      (subst (λ (n : ℕ). Flags (view g) r (flag_up (row g.parent_starts g.parents) r (flag_down (row g.parent_starts g.parents) (set flags r 1) (suc r)) (suc r) (n - suc r)))
       (runs-view g held)
       (flags_are (view g) (parents-below g held) (row g.parent_starts g.parents) (λ q l. row-view g held q (omega (arith, runs-view g held))) r
-      (omega (arith, runs-view g held)) k.items
-      (omega (arith, ap (λ (x : Kept). length x.items) e, length-pad 512 [] (omega arith), (facts g held).runs, runs-view g held))
-      (λ q. ap (λ (x : Kept). get_or x.items q 0) e ∙ get_pad 512 [] q)))
+      (omega (arith, runs-view g held)) flags
+      (omega (arith, ap length e, length-pad 512 [] (omega arith), (facts g held).runs, runs-view g held))
+      (λ q. ap (λ (l : List ℕ). get_or l q 0) e ∙ get_pad 512 [] q)))
 
   -- The runs without a flag are the list
   free_list : (flags : List ℕ) → Flags (view g) r flags → free flags g.run_count ≡ concurrency_list (view g) r

@@ -9,9 +9,7 @@ use native.Mathlib.Omega.{arith}
 use lib.ListN.{length, get_or, drop, set}
 use lib.Seq.{get_or-take, get_or-drop, get_or-set_same, get_or-set_other}
 use Rattle.lists.specs.Lists.{bit, count, below}
-use Rattle.lists.specs.Areas.{part}
-use Rattle.lists.specs.Scans.{kept_in}
-use Rattle.lists.specs.declared.Kept.{Kept}
+use Rattle.lists.specs.Areas.{part, pad}
 use Rattle.lists.proofs.Truth.{eq_or-not, lt_of_ne}
 use Rattle.lists.proofs.Bounds.{below_at}
 use Rattle.lists.proofs.Groups.{length_part}
@@ -45,9 +43,9 @@ pub children-next : (rows : ℕ → List ℕ) (c : ℕ) → note_all (first_chil
 unfolding first_children
 children-next rows c = rw (add-one c)
 
-pub children-start : (rows : ℕ → List ℕ) (k : Kept) → k ≡ kept_in [] → k.items ≡ first_children rows 0
-unfolding first_children kept_in
-children-start rows k e = ap (λ (x : Kept). x.items) e
+pub children-start : (rows : ℕ → List ℕ) → pad 512 [] ≡ first_children rows 0
+unfolding first_children
+children-start rows = refl
 
 pub count_turn : (firsts : List ℕ) (rows : ℕ → List ℕ) (m : ℕ) → head_count firsts rows m + 1 - count (is_head firsts m) (rows m) ≡ head_count firsts rows (m + 1)
 unfolding head_count

@@ -10,13 +10,12 @@ use lib.ListN.{length, get_or, take, length-append, get_or-eq_default}
 use lib.Seq.{take-length}
 use lib.Dec.{leb, eqb}
 use borrow.Author.Tests.{le-leb, lt-leb, eq-eqb, ne_eqb}
-use Rattle.lists.specs.declared.Kept.{Kept}
 use Rattle.lists.specs.Lists.{all, filter, from, upto, rising}
-use Rattle.lists.specs.Scans.{kept_in, kept, add_if}
+use Rattle.lists.specs.Areas.{pad}
 use Rattle.lists.proofs.Truth.{lt_or_le, false_true, not_so, and_false, and_true}
 use Rattle.lists.proofs.Members.{all-at, all_both}
 use Rattle.lists.proofs.Counts.{upto-mem, upto_snoc}
-use Rattle.lists.proofs.Keeping.{add_if_kept, filter_snoc}
+use Rattle.lists.proofs.Keeping.{filter_snoc}
 use Rattle.model.specs.Wanted.{ranges}
 use Rattle.versions.specs.Flags.{flag_all}
 use Rattle.versions.specs.Ranges.{is_odd, place_of, words_within, clear_at, end_at, clear_in, end_in, flag_marked, is_top, tops, Starts}
@@ -59,9 +58,9 @@ module _ (ws : List ℕ) where
   unfolding ranges
   ranges_odd h = sym (rw (paired_even ws, h) (and_false (rising ws)))
 
-  pub ranges-is : is_odd (length ws) ≡ false → (b : Bool) → b ≡ rising (take (length ws) ws) → b ≡ ranges ws
+  pub ranges-is : is_odd (length ws) ≡ false → (b : Bool) → b ≡ rising ws → b ≡ ranges ws
   unfolding ranges
-  ranges-is h b e = e ∙ rw (take-length, paired_even ws, h) (sym (and_true (rising ws)))
+  ranges-is h b e = e ∙ rw (paired_even ws, h) (sym (and_true (rising ws)))
 
   module _ (first end : ℕ) where
     pub within_none : length ws ≡ 0 → true ≡ words_within first end ws
@@ -116,9 +115,9 @@ module _ (p : ℕ → Bool) where
 
 -- Flags, run by run
 module _ (rows : ℕ → List ℕ) (ends : List ℕ) where
-  pub flags_start : (k : Kept) → k ≡ kept_in [] → k.items ≡ flag_marked rows ends 0
-  unfolding flag_marked kept_in
-  flags_start k e = ap (λ (x : Kept). x.items) e
+  pub flags_start : pad 512 [] ≡ flag_marked rows ends 0
+  unfolding flag_marked
+  flags_start = refl
 
   pub flags_next : (r : ℕ) → cond (eqb (get_or ends r 0) 0) (flag_marked rows ends r) (flag_all (flag_marked rows ends r) (rows r)) ≡ flag_marked rows ends (r + 1)
   unfolding flag_marked
@@ -150,11 +149,11 @@ module _ (flags ends : List ℕ) where
       go true h = simp length-append (omega arith)
       go false h = omega arith
 
-  pub tops_start : (k : Kept) → k ≡ kept_in [] → kept k.items 0 ≡ kept_in (tops flags ends 0)
-  unfolding kept_in tops upto from filter
-  tops_start k e = ap (λ (x : Kept). kept x.items 0) e
+  pub tops_start : [] ≡ tops flags ends 0
+  unfolding tops upto from filter
+  tops_start = refl
 
-  pub tops_turn : (r : ℕ) (k : Kept) (t : Bool) (v : ℕ) → r < 512 → t ≡ is_top flags ends r → v ≡ get_or ends r 0 - 1 → k ≡ kept_in (tops flags ends r) →
-      add_if t k v ≡ kept_in (tops flags ends (r + 1))
+  pub tops_turn : (r : ℕ) (found : List ℕ) (t : Bool) (v : ℕ) → t ≡ is_top flags ends r → v ≡ get_or ends r 0 - 1 → found ≡ tops flags ends r →
+      cond t (found ++ v ∷ []) found ≡ tops flags ends (r + 1)
   unfolding last_of
-  tops_turn r k t v lt e f q = rw (q, e, f, add-one r, tops_next r) (add_if_kept (is_top flags ends r) (tops flags ends r) (get_or ends r 0 - 1) (omega (arith, tops-few r)))
+  tops_turn r found t v e f q = rw (q, e, f, add-one r, tops_next r)

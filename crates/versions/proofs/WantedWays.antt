@@ -7,10 +7,7 @@ use native.Mathlib.Omega.{arith}
 use lib.ListN.{length, get_or, take}
 use borrow.Author.Tests.{lt-ltb, le-ltb}
 use Rattle.lists.specs.Lists.{all, upto}
-use Rattle.lists.specs.Scans.{kept_in}
-use Rattle.lists.specs.declared.Kept.{Kept}
 use Rattle.lists.proofs.Truth.{false_true, not_so}
-use Rattle.lists.proofs.Keeping.{kept_list, kept-count}
 use Rattle.model.specs.declared.record.CausalGraph.{CausalGraph}
 use Rattle.model.specs.declared.answers.Refusal.{Refusal}
 use Rattle.model.specs.declared.answers.Refusal.TheVariants.{Broken, NotRising, UnknownEvent, NoSuchParents, ListTooShort}
@@ -124,29 +121,28 @@ module _ (g : CausalGraph) (ws lent : List ℕ) where
               (record { count = 0; outcome = Err NoSuchParents }, lent) ≡ wanted_parents_of g ws lent
           wanted_parted e = no_parents (whole_is ∙ e)
 
-          module _ (whole : all (marked_whole flags ends g.starts) (upto n) ≡ true) (k : Kept) (found : k ≡ kept_in (tops flags ends n)) where
+          module _ (whole : all (marked_whole flags ends g.starts) (upto n) ≡ true) (k : List ℕ) (found : k ≡ tops flags ends n) where
             are : tops flags ends n ≡ wanted_parents G ws
             unfolding rows
             are =
                 ap (λ (fs : List ℕ). tops fs ends n) flagged ∙ ap (λ (m : ℕ). tops (flag_marked rows ends m) ends m) (sym (runs-view g held)) ∙
                 tops_are G held.formed g.starts same ws words marked clear_all few rows agree ends filled_all (whole_is ∙ whole)
 
-            count-is : k.count ≡ length (wanted_parents G ws)
-            count-is = kept-count k (tops flags ends n) found ∙ ap length are
+            count-is : length k ≡ length (wanted_parents G ws)
+            count-is = ap length (found ∙ are)
 
-            pub wanted_short : length lent < k.count → (record { count = 0; outcome = Err ListTooShort }, lent) ≡ wanted_parents_of g ws lent
+            pub wanted_short : length lent < length k → (record { count = 0; outcome = Err ListTooShort }, lent) ≡ wanted_parents_of g ws lent
             unfolding wanted_outcome first_of
             wanted_short lt =
                 wanted_refused ListTooShort
                 (rw (not-broken g held, words, marked, whole_is, whole, lt-ltb (length lent) (length (wanted_parents G ws)) (omega (arith, count-is))))
 
             -- Done
-            pub wanted_done : k.count ≤ length lent → (p : Put) (l : List ℕ) →
-                (p, l) ≡ put_all 1 (blank, lent) (map (λ x. x ∷ []) (take k.count k.items)) → (written_of p, l) ≡ wanted_parents_of g ws lent
+            pub wanted_done : length k ≤ length lent → (p : Put) (l : List ℕ) →
+                (p, l) ≡ put_all 1 (blank, lent) (map (λ x. x ∷ []) k) → (written_of p, l) ≡ wanted_parents_of g ws lent
             unfolding wanted_parents_of wanted_outcome first_of
             wanted_done le p l e =
                 let done : wanted_outcome g ws lent ≡ (Ok tt) =
                 rw (not-broken g held, words, marked, whole_is, whole, le-ltb (length lent) (length (wanted_parents G ws)) (omega (arith, count-is))) in
-                let listed : take k.count k.items ≡ wanted_parents G ws = kept_list k (tops flags ends n) found ∙ are in
-                words_fit (wanted_parents G ws) lent p l (omega (arith, count-is)) (e ∙ ap (λ (xs : List ℕ). put_all 1 (blank, lent) (map (λ x. x ∷ []) xs)) listed) ∙
+                words_fit (wanted_parents G ws) lent p l (omega (arith, count-is)) (e ∙ ap (λ (xs : List ℕ). put_all 1 (blank, lent) (map (λ x. x ∷ []) xs)) (found ∙ are)) ∙
                 rw (done, wanted_parents_of) refl

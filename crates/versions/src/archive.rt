@@ -3,7 +3,6 @@
 ghost use Rattle.std.specs.Prelude.{◌≡◌, true, ◌||◌, [], ◌∷◌, map, ◌≤◌, ◌<◌, length, take, get_or, leb, eqb};
 ghost use Rattle.lists.specs.Lists.{bit, filter, count, upto, below};
 ghost use Rattle.lists.specs.Areas.{part};
-ghost use Rattle.lists.specs.Scans.{kept_in};
 ghost use Rattle.model.specs.Graph.{runs, start};
 ghost use Rattle.model.specs.Record.{view};
 ghost use Rattle.model.specs.Broken.{Held};
@@ -43,8 +42,7 @@ fn first_children<'a>(starts: &'a [u32], items: &'a [u32], n: usize) -> [u32; MA
     requires { Rows starts.now items.now n }
     ensures { result ≡ first_children (row starts.now items.now) n }
 {
-    let none = lists::nothing();
-    let mut firsts = none.items;
+    let mut firsts = lists::zeros();
     let mut q = 0;
     while q < n {
         note_child(
@@ -91,8 +89,7 @@ fn head_counts<'a>(firsts: &[u32], starts: &'a [u32], items: &'a [u32], n: usize
     requires heads_fit { HeadsFit firsts.now (row starts.now items.now) n }
     ensures { HeadCounts firsts.now (row starts.now items.now) n result }
 {
-    let none = lists::nothing();
-    let mut counts = none.items;
+    let mut counts = lists::zeros();
     let mut heads = 0;
     let mut m = 0;
     while m < n {
@@ -154,8 +151,7 @@ fn seen_lengths<'a>(
     requires n_in_bounds_3 { n ≤ length events.now }
     ensures { SeenLengths firsts.now counts.now events.now (row starts.now items.now) n result }
 {
-    let none = lists::nothing();
-    let mut seen = none.items;
+    let mut seen = lists::zeros();
     let mut q = 0;
     while q < n {
         let top = highest(
@@ -191,7 +187,7 @@ fn put_points<'a>(starts: &'a [u32], points: &'a [u32], n: usize, list: &mut [u3
 // The runs that start at archive points.
 fn point_runs(g: CausalGraph) -> Kept
     requires { Held g }
-    ensures { result ≡ kept_in (filter (λ q. seen_by_later (view g) (start (view g) q)) (upto (runs (view g)))) }
+    ensures { result ≡ filter (λ q. seen_by_later (view g) (start (view g) q)) (upto (runs (view g))) }
 {
     let n = g.run_count;
     let firsts = first_children(&g.parent_starts, &g.parents, n);
@@ -206,7 +202,7 @@ fn archive_held(g: CausalGraph, list: &mut [u32]) -> Written
     ensures { (result, list.new) ≡ archive_points_of g list.old }
 {
     let points = point_runs(g);
-    let p = put_points(&g.starts, &points.items, points.count, list);
+    let p = put_points(&g.starts, points.as_slice(), points.len(), list);
     graph::cut::written(p)
 }
 

@@ -149,8 +149,7 @@ fn flags_of(g: CausalGraph, run: EventRunIndex) -> [u32; MAX_RUNS]
 {
     let at = run.0 as usize;
     let next = EventRunIndex(run.0 + 1);
-    let none = lists::nothing();
-    let mut f = none.items;
+    let mut f = lists::zeros();
     f[at] = 1;
     flag_down(&mut f, &g.parent_starts, &g.parents, g.run_count, next);
     flag_up(&mut f, run, &g.parent_starts, &g.parents, g.run_count, next);

@@ -21,7 +21,7 @@ pub(crate) fn are_ranges(words: &[u32]) -> bool
     if is_odd(words.len()) {
         return false;
     }
-    lists::is_rising(words, words.len())
+    lists::is_rising(words)
 }
 
 // Whether no word is below `first` or above `end`, of words that rise.
@@ -96,7 +96,7 @@ fn end_at(words: &[u32], k: usize, end: EventIndex) -> u32
     if words.len() <= k {
         return 0;
     }
-    lists::smaller(words[k], end.0)
+    words[k].min(end.0)
 }
 
 // The end of what is marked of each of n runs; 0 if its first event is not.
@@ -105,8 +105,7 @@ pub(crate) fn marked_ends(starts: &[u32], n: usize, words: &[u32]) -> [u32; MAX_
     requires starts { Starts starts.now n }
     ensures { Ends starts.now words.now n result }
 {
-    let none = lists::nothing();
-    let mut ends = none.items;
+    let mut ends = lists::zeros();
     let mut k = 0;
     let mut r = 0;
     while r < n {

@@ -3,7 +3,6 @@
 ghost use Rattle.std.specs.Prelude.{◌≡◌, true, not, cond, ◌&&◌, ◌||◌, ◌-◌, ◌≤◌, ◌<◌, length, eqb};
 ghost use Rattle.lists.specs.Lists.{all, upto, below};
 ghost use Rattle.lists.specs.Areas.{part};
-ghost use Rattle.lists.specs.Scans.{kept_in};
 ghost use Rattle.model.specs.Limits.{max_runs};
 ghost use Rattle.model.specs.Graph.{all_held};
 ghost use Rattle.model.specs.Record.{view};
@@ -38,8 +37,7 @@ fn flag_marked<'a>(ends: &[u32], starts: &'a [u32], items: &'a [u32], n: usize) 
     requires n_in_bounds { n ≤ length ends.now }
     ensures { result ≡ flag_marked (row starts.now items.now) ends.now n }
 {
-    let none = lists::nothing();
-    let mut flags = none.items;
+    let mut flags = lists::zeros();
     let mut r = 0;
     while r < n {
         flag_if(
@@ -103,25 +101,13 @@ fn top_events(flags: &[u32], ends: &[u32], n: usize) -> Kept
     requires n_le_max_runs { n ≤ max_runs }
     requires n_in_bounds { n ≤ length flags.now }
     requires n_in_bounds_2 { n ≤ length ends.now }
-    ensures { result ≡ kept_in (tops flags.now ends.now n) }
+    ensures { result ≡ tops flags.now ends.now n }
 {
-    let none = lists::nothing();
-    let mut items = none.items;
-    let mut c = 0;
-    let mut r = 0;
-    while r < n {
-        c = lists::put_if(
-            is_top(flags[r], ends[r]),
-            &mut items,
-            c,
-            last_before(ends[r]),
-        );
-        r += 1;
+    let mut tops = Kept::new();
+    for r in 0..n {
+        tops.push_if(is_top(flags[r], ends[r]), last_before(ends[r]));
     }
-    Kept {
-        items: items,
-        count: c,
-    }
+    tops
 }
 
 // `wanted_parents` on a graph that is known not to be broken, and ranges of held events.
@@ -147,13 +133,13 @@ fn wanted_held(g: CausalGraph, ranges: &[u32], list: &mut [u32]) -> Written
         };
     }
     let found = top_events(&flags, &ends, n);
-    if list.len() < found.count {
+    if list.len() < found.len() {
         return Written {
             count: 0,
             outcome: Err(Refusal::ListTooShort),
         };
     }
-    let p = put_all(&found.items, found.count, list);
+    let p = put_all(found.as_slice(), found.len(), list);
     graph::cut::written(p)
 }
 

@@ -33,9 +33,9 @@ fn clamped(known: u32, first: u32, n: usize) -> u32
     ensures { result ≡ max known (min first n) }
 {
     if n < wide(first) {
-        return lists::larger(known, n as u32);
+        return known.max(n as u32);
     }
-    lists::larger(known, first)
+    known.max(first)
 }
 
 // Members, sums and sizes of a range whose rows are laid.

@@ -15,7 +15,7 @@ loop-i-preserved c = let l = c.loop-i in
       search rules,
       (
         simp length-set l.invariant.1.0,
-        rw c.larger.ensures (join_step l.i l.row a.theirs.now (omega arith) (omega arith) ∙ l.invariant.1.1),
+        rw c.max.ensures (join_step l.i l.row a.theirs.now (omega arith) (omega arith) ∙ l.invariant.1.1),
       ),
     )
 

@@ -4,4 +4,4 @@ use Rattle.tables.proofs.rows.raise.Goals as goal
 
 pub returns : goal.returns
 unfolding raised
-returns c = rw c.larger.ensures
+returns c = rw c.max.ensures

@@ -14,7 +14,7 @@ use Rattle.versions.proofs.archive.first_children.Goals as goal
 pub loop-q-init : goal.loop-q-init
 loop-q-init c =
     let a = c.args in
-    (omega arith, children-start (row a.starts.now a.items.now) c.nothing-none.result c.nothing-none.ensures)
+    (omega arith, c.zeros-firsts.ensures ∙ children-start (row a.starts.now a.items.now))
 
 pub slice_bounds-note_child-end : goal.slice_bounds-note_child-end
 slice_bounds-note_child-end c =

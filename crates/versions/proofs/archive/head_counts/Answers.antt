@@ -1,9 +1,10 @@
 -- `versions::archive::head_counts` meets its contract. The loop's invariant: the count below the next run, and each place so far. The measure is what is left of `n`. Assumes nothing.
+use mathlib.Core.Path.{ap, ◌∙◌}
 use mathlib.Core.List.{[]}
 use Prim.Native.Nat.{ℕ, ◌+◌}
 use native.Mathlib.Omega.{arith}
-use lib.ListN.{length-set}
-use Rattle.lists.proofs.Keeping.{kept-long}
+use lib.ListN.{length, length-set}
+use Rattle.lists.proofs.Pads.{length-pad}
 use Rattle.graph.specs.Rows.{row}
 use Rattle.versions.specs.Heads.{head_count}
 use Rattle.versions.proofs.Passes.{row_below}
@@ -13,8 +14,7 @@ use Rattle.versions.proofs.archive.head_counts.Goals as goal
 pub loop-m-init : goal.loop-m-init
 loop-m-init c =
     let a = c.args in
-    let none = c.nothing-none in
-    (omega arith, kept-long none.result [] none.ensures (omega arith), omega arith, count-start a.firsts.now (row a.starts.now a.items.now), λ k h. absurd (omega arith))
+    (omega arith, ap length c.zeros-counts.ensures ∙ length-pad 512 [] (omega arith), omega arith, count-start a.firsts.now (row a.starts.now a.items.now), λ k h. absurd (omega arith))
 
 pub overflow_cast-counts : goal.overflow_cast-counts
 overflow_cast-counts c = omega (arith, c.requires.rows.few)

@@ -1,7 +1,6 @@
 -- `versions::archive::point_runs` meets its contract: the runs that are marked by what the passes find start at archive points. Assumes nothing.
 use mathlib.Core.Path.{◌∙◌, ap}
 use native.Mathlib.Omega.{arith}
-use Rattle.lists.specs.Scans.{kept_in}
 use Rattle.graph.proofs.Views.{facts}
 use Rattle.graph.proofs.Entries.{rows_of}
 use Rattle.versions.proofs.ArchiveWays.{counts_fit, marks_are}
@@ -36,5 +35,5 @@ returns c =
     let a = c.args in
     let p = c.requires in
     c.marks_of.ensures ∙
-    ap kept_in (marks_are a.g p c.first_children-firsts.result c.first_children-firsts.ensures c.head_counts-counts.result c.head_counts-counts.ensures
+    (marks_are a.g p c.first_children-firsts.result c.first_children-firsts.ensures c.head_counts-counts.result c.head_counts-counts.ensures
     c.seen_lengths-seen.result (omega (arith, (facts a.g p).runs)) c.seen_lengths-seen.ensures)

@@ -1,17 +1,17 @@
 -- `versions::archive::seen_lengths` meets its contract. The loop's invariant: each place so far. The measure is what is left of `n`. Assumes nothing.
-use mathlib.Core.Path.{ap}
+use mathlib.Core.Path.{ap, ◌∙◌}
 use mathlib.Core.List.{[]}
 use Prim.Native.Nat.{ℕ, ◌+◌}
 use native.Mathlib.Omega.{arith}
-use lib.ListN.{get_or, length-set}
-use Rattle.lists.proofs.Keeping.{kept-long}
+use lib.ListN.{length, get_or, length-set}
+use Rattle.lists.proofs.Pads.{length-pad}
 use Rattle.graph.specs.Rows.{row}
 use Rattle.versions.specs.Heads.{highest_by, whole_in}
 use Rattle.versions.proofs.HeadTurns.{filled_next}
 use Rattle.versions.proofs.archive.seen_lengths.Goals as goal
 
 pub loop-q-init : goal.loop-q-init
-loop-q-init c = (omega arith, kept-long c.nothing-none.result [] c.nothing-none.ensures (omega arith), λ k h. absurd (omega arith))
+loop-q-init c = (omega arith, ap length c.zeros-seen.ensures ∙ length-pad 512 [] (omega arith), λ k h. absurd (omega arith))
 
 pub bounds-starts-q : goal.bounds-starts-q
 bounds-starts-q c = omega (arith, c.requires.rows.fits)

@@ -8,7 +8,7 @@ use Rattle.graph.specs.Rows.{row}
 use Rattle.versions.specs.Flags.{flag_up, Flags}
 use Rattle.graph.proofs.Views.{facts}
 use Rattle.graph.proofs.Entries.{rows_of}
-use Rattle.versions.proofs.ConcurrentWays.{kept-room, passes_flag}
+use Rattle.versions.proofs.ConcurrentWays.{flags-room, passes_flag}
 use Rattle.versions.proofs.concurrent.flags_of.Goals as goal
 
 pub overflow_add-next : goal.overflow_add-next
@@ -23,8 +23,8 @@ flag_down-requires c =
     let p = c.requires in
     record {
       rows = rows_of a.g p.held;
-      n_in_bounds = kept-room c.nothing-none.result
-          a.run.0 a.g.run_count c.nothing-none.ensures (facts a.g p.held).runs;
+      n_in_bounds = flags-room c.zeros-f.result
+          a.run.0 a.g.run_count c.zeros-f.ensures (facts a.g p.held).runs;
       end_le_n = omega arith;
     }
 
@@ -42,5 +42,5 @@ returns c =
     (sym (c.flag_up.ensures ∙ ap (λ (l : List ℕ). flag_up (row a.g.parent_starts a.g.parents) a.run.0 l (a.run.0 + 1) (a.g.run_count - (a.run.0 + 1)))
     c.flag_down.ensures))
     (passes_flag a.g p.held a.run.0 p.run_bound
-    c.nothing-none.result
-    c.nothing-none.ensures)
+    c.zeros-f.result
+    c.zeros-f.ensures)

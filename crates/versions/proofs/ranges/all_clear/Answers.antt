@@ -2,7 +2,6 @@
 use mathlib.Core.Path.{◌≡◌, sym, ◌∙◌, ap}
 use Prim.Native.Nat.{ℕ}
 use native.Mathlib.Omega.{arith}
-use borrow.Author.Tests.{not-true, not-false}
 use Rattle.lists.specs.Lists.{all, upto}
 use Rattle.versions.specs.Ranges.{clear_in}
 use Rattle.versions.proofs.RangeTurns.{place-next, clear_turn, all_start, all-next, all_stop}
@@ -21,7 +20,7 @@ returns-then-not-is_clear c =
     let a = c.args in
     let l = c.loop-r in
     all_stop (clear_in a.starts.now a.words.now) l.r a.n c.loop-r-test.true
-    (clear_turn a.starts.now a.words.now l.r _ _ c.place-k.ensures c.is_clear.ensures ∙ not-true _ c.if-not-is_clear.true-raw)
+    (clear_turn a.starts.now a.words.now l.r _ _ c.place-k.ensures c.is_clear.ensures ∙ c.if-not-is_clear.true)
 
 pub loop-r-preserved : goal.loop-r-preserved
 loop-r-preserved c =
@@ -31,7 +30,7 @@ loop-r-preserved c =
       omega arith,
       place-next a.words.now p.words_value a.starts.now a.n l.r _ p.starts c.loop-r-test.true c.place-k.ensures,
       all-next (clear_in a.starts.now a.words.now) l.r l.invariant.2
-          (clear_turn a.starts.now a.words.now l.r _ _ c.place-k.ensures c.is_clear.ensures ∙ not-false _ c.if-not-is_clear.false-raw),
+          (clear_turn a.starts.now a.words.now l.r _ _ c.place-k.ensures c.is_clear.ensures ∙ c.if-not-is_clear.false),
     )
 
 pub returns : goal.returns

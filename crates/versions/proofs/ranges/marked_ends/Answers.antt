@@ -1,15 +1,16 @@
 -- `versions::ranges::marked_ends` meets its contract. The loop's invariant: each place so far. The measure is what is left of `n`. Assumes nothing.
+use mathlib.Core.Path.{ap, ◌∙◌}
 use mathlib.Core.List.{[]}
 use native.Mathlib.Omega.{arith}
-use lib.ListN.{length-set}
-use Rattle.lists.proofs.Keeping.{kept-long}
+use lib.ListN.{length, length-set}
+use Rattle.lists.proofs.Pads.{length-pad}
 use Rattle.versions.specs.Ranges.{end_in}
 use Rattle.versions.proofs.HeadTurns.{filled_next}
 use Rattle.versions.proofs.RangeTurns.{place-next, end_turn}
 use Rattle.versions.proofs.ranges.marked_ends.Goals as goal
 
 pub loop-r-init : goal.loop-r-init
-loop-r-init c = (omega arith, kept-long c.nothing-none.result [] c.nothing-none.ensures (omega arith), omega arith, λ q h. absurd (omega arith))
+loop-r-init c = (omega arith, ap length c.zeros-ends.ensures ∙ length-pad 512 [] (omega arith), omega arith, λ q h. absurd (omega arith))
 
 pub place-k-requires : goal.place-k-requires
 place-k-requires c = record { words_value = c.requires.words_value; from_bound = c.loop-r.invariant.2 }

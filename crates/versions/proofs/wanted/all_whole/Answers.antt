@@ -3,7 +3,6 @@ use mathlib.Core.Path.{◌≡◌, sym, ◌∙◌, ap}
 use Prim.Native.Nat.{ℕ}
 use native.Mathlib.Numerals.{add-one}
 use native.Mathlib.Omega.{arith}
-use borrow.Author.Tests.{not-true, not-false}
 use Rattle.lists.specs.Lists.{all, upto}
 use Rattle.versions.specs.Ranges.{marked_whole}
 use Rattle.versions.proofs.RangeTurns.{all_start, all-next, all_stop}
@@ -20,7 +19,7 @@ returns-then-not-is_whole c =
     let a = c.args in
     let l = c.loop-r in
     let test = rw (add-one l.r) at c.is_whole.ensures in
-    all_stop (marked_whole a.flags.now a.ends.now a.starts.now) l.r a.n c.loop-r-test.true (sym test ∙ not-true _ c.if-not-is_whole.true-raw)
+    all_stop (marked_whole a.flags.now a.ends.now a.starts.now) l.r a.n c.loop-r-test.true (sym test ∙ c.if-not-is_whole.true)
 
 pub loop-r-preserved : goal.loop-r-preserved
 unfolding marked_whole
@@ -28,7 +27,7 @@ loop-r-preserved c =
     let a = c.args in
     let l = c.loop-r in
     let test = rw (add-one l.r) at c.is_whole.ensures in
-    (omega arith, all-next (marked_whole a.flags.now a.ends.now a.starts.now) l.r l.invariant.1 (sym test ∙ not-false _ c.if-not-is_whole.false-raw))
+    (omega arith, all-next (marked_whole a.flags.now a.ends.now a.starts.now) l.r l.invariant.1 (sym test ∙ c.if-not-is_whole.false))
 
 pub returns : goal.returns
 returns c =

@@ -17,7 +17,7 @@ use Rattle.versions.proofs.wanted.flag_marked.Goals as goal
 pub loop-r-init : goal.loop-r-init
 loop-r-init c =
     let a = c.args in
-    (omega arith, flags_start (row a.starts.now a.items.now) a.ends.now c.nothing-none.result c.nothing-none.ensures)
+    (omega arith, c.zeros-flags.ensures ∙ flags_start (row a.starts.now a.items.now) a.ends.now)
 
 pub bounds-ends-r : goal.bounds-ends-r
 bounds-ends-r c = omega (arith, c.requires.n_in_bounds)
