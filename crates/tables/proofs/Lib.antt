@@ -1,6 +1,5 @@
 -- The laws behind a range's tables.
 -- Lists in one area
-pub mod Clearing
 pub mod Laning
 pub mod Scratch
 -- Chains and rows of a range

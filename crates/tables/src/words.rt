@@ -14,23 +14,23 @@ pub fn long(x: u32) -> u64
     x as u64
 }
 
+// An item of a list, and `or` past its end.
+pub fn item<T: Copy>(s: &[T], i: usize, or: T) -> T
+    ensures { result ≡ get_or s.now i or }
+{
+    s.get(i).copied().unwrap_or(or)
+}
+
 pub fn get(s: &[u32], i: usize) -> u32
     ensures { result ≡ get_or s.now i 0 }
 {
-    if i < s.len() {
-        return s[i];
-    }
-    0
+    item(s, i, 0)
 }
 
 pub fn clear(s: &mut [u32])
     ensures { s.new ≡ replicate (length s.old) 0 }
 {
-    let mut i = 0;
-    while i < s.len() {
-        s[i] = 0;
-        i += 1;
-    }
+    s.fill(0);
 }
 
 // The first n of a list, stored from `at` on.
@@ -38,9 +38,5 @@ pub fn store(to: &mut [u32], at: usize, list: &[u32], n: usize)
     requires { (n ≤ length list.now) × (at + n ≤ length to.old) }
     ensures { to.new ≡ paste to.old at list.now n }
 {
-    let mut i = 0;
-    while i < n {
-        to[at + i] = list[i];
-        i += 1;
-    }
+    to[at..at + n].copy_from_slice(&list[..n]);
 }
