@@ -4,21 +4,18 @@ ghost use Rattle.model.specs.Limits.{max_runs};
 ghost use Rattle.tables.specs.Gaps.{gap_at, gaps_from};
 ghost use Rattle.tables.specs.Sizes.{Bounded, Within, share_at, events_from, Inside, Sized};
 
-use crate::words::{get, wide};
+use crate::words::item;
 
 pub fn get_sum(s: &[u64], i: usize) -> u64
     ensures { result ≡ get_or s.now i 0 }
 {
-    if i < s.len() {
-        return s[i];
-    }
-    0
+    item(s, i, 0)
 }
 
 pub fn apart(x: u64, y: u64) -> u64
     ensures { result ≡ (x - y) + (y - x) }
 {
-    if x < y { y - x } else { x - y }
+    x.abs_diff(y)
 }
 
 // The events in just one of the two versions along one chain.
@@ -26,10 +23,10 @@ fn gap<'a>(before: &[u64], begins: &'a [u32], current: &[u32], row: &[u32], c: u
     requires { Bounded (2 ^ 41) before.now }
     ensures { (result ≡ gap_at before.now begins.now current.now row.now c) × (result ≤ 2 ^ 41) }
 {
-    let s = wide(get(begins, c));
-    let a = get_sum(before, s + wide(get(current, c)));
-    let b = get_sum(before, s + wide(get(row, c)));
-    apart(a, b)
+    let s = item(begins, c, 0) as usize;
+    let a = item(before, s + item(current, c, 0) as usize, 0);
+    let b = item(before, s + item(row, c, 0) as usize, 0);
+    a.abs_diff(b)
 }
 
 // The events in just one of the two versions, counted until past `limit`.
@@ -45,13 +42,11 @@ pub fn distance<'a>(
     ensures { Within limit (gaps_from before.now begins.now current.now row.now 0 n) result × (result ≤ 2 ^ 50) }
 {
     let mut sum: u64 = 0;
-    let mut c = 0;
-    while c < n {
+    for c in 0..n {
         sum += gap(before, begins, current, row, c);
         if limit < sum {
             return sum;
         }
-        c += 1;
     }
     sum
 }
@@ -61,10 +56,10 @@ fn share<'a>(before: &[u64], begins: &'a [u32], row: &[u32], c: usize) -> u64
     requires { Bounded (2 ^ 41) before.now }
     ensures { (result ≡ share_at before.now begins.now row.now c) × (result ≤ 2 ^ 41) }
 {
-    let s = wide(get(begins, c));
-    let a = get_sum(before, s + wide(get(row, c)));
-    let b = get_sum(before, s);
-    if a < b { 0 } else { a - b }
+    let s = item(begins, c, 0) as usize;
+    let a = item(before, s + item(row, c, 0) as usize, 0);
+    let b = item(before, s, 0);
+    a.saturating_sub(b)
 }
 
 // The events of a version.
@@ -73,10 +68,8 @@ pub fn events_of<'a>(before: &[u64], begins: &'a [u32], row: &[u32], n: usize) -
     ensures { (result ≡ events_from before.now begins.now row.now 0 n) × (result ≤ 2 ^ 50) }
 {
     let mut sum: u64 = 0;
-    let mut c = 0;
-    while c < n {
+    for c in 0..n {
         sum += share(before, begins, row, c);
-        c += 1;
     }
     sum
 }
@@ -95,11 +88,9 @@ pub fn sizes_of<'a>(
     ensures { (length sizes.new ≡ length sizes.old) × Sized before.now begins.now starts.now rows.now
         chains n sizes.new }
 {
-    let mut r = 0;
-    while r < n {
-        let s = wide(get(starts, r));
-        let e = wide(get(starts, r + 1));
-        sizes[r] = events_of(before, begins, &rows[s..e], chains);
-        r += 1;
+    for (r, size) in sizes[..n].iter_mut().enumerate() {
+        let s = item(starts, r, 0) as usize;
+        let e = item(starts, r + 1, 0) as usize;
+        *size = events_of(before, begins, &rows[s..e], chains);
     }
 }

@@ -1,11 +1,10 @@
 -- `tables::distance::distance` meets its contract: the distance of two versions, or a part of it past the limit. Assumes nothing.
-use mathlib.Core.Path.{◌≡◌}
-use Prim.Native.Nat.{◌≤◌, ◌-◌, ◌+◌, ◌*◌, ◌^◌}
+use Rattle.std.proofs.Common.{◌≡◌, ◌≤◌, ◌-◌, ◌+◌, ◌*◌, ◌^◌}
 use Rattle.tables.specs.Gaps.{gaps_from}
 use Rattle.tables.proofs.distance.distance.Given as goal
 
 abbrev pub invariant-loop-c : goal.invariant-loop-c
-invariant-loop-c l = (l.c ≤ l.n) × ((l.sum ≤ l.c * 2 ^ 41) × (l.sum + gaps_from l.before l.begins l.current l.row l.c (l.n - l.c) ≡ gaps_from l.before l.begins l.current l.row 0 l.n))
-
-abbrev pub decreases-loop-c : goal.decreases-loop-c
-decreases-loop-c l = l.n - l.c
+invariant-loop-c l = record {
+  small : l.sum ≤ l.c * 2 ^ 41;
+  going_on : l.sum + gaps_from l.before l.begins l.current l.row l.c (l.n - l.c) ≡ gaps_from l.before l.begins l.current l.row 0 l.n;
+}
