@@ -69,12 +69,8 @@ unfolding part
 first_back d t first e = omega (arith, e, length-append first (drop (d - 0) t), length-drop (d - 0) t, length-take (d - 0) t)
 
 -- those words cleared
-pub first_clear : (d : ℕ) (t first : List ℕ) → d ≤ length t → first ≡ replicate (length (part 0 d t)) 0 → (take d (first ++ drop (d - 0) t) ≡ replicate d 0) × (length (first ++ drop (d - 0) t) ≡ length t)
-first_clear d t first h e =
-    let long : length (part 0 d t) ≡ d = first-long d t h in
-    let q : first ≡ replicate d 0 = e ∙ ap (λ (k : ℕ). replicate k 0) long in
-    let f : length first ≡ d = ap length q ∙ length-replicate d 0 in
-    (take_at first (drop (d - 0) t) d f ∙ q, first_back d t first (f ∙ sym long))
+pub first_clear : (d : ℕ) (t : List ℕ) → d ≤ length t → (take d (replicate d 0 ++ drop d t) ≡ replicate d 0) × (length (replicate d 0 ++ drop d t) ≡ length t)
+first_clear d t h = (take_at (replicate d 0) (drop d t) d (length-replicate d 0), omega (arith, length-append {A = ℕ} (replicate d 0) (drop d t), length-replicate {A = ℕ} d 0, length-drop d t))
 
 -- Cleared tables say what there is to say before the first run
 pub clear_laid : (pss : List (List ℕ)) (w : ℕ) (a : Area) (t area : List ℕ) → w ≡ length pss + 1 → 4 * w ≤ length t → take (4 * w) t ≡ replicate (4 * w) 0 →

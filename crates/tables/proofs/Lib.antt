@@ -8,6 +8,7 @@ pub mod Chaining
 pub mod Holding
 pub mod Turns
 pub mod Making
+pub mod Pasting
 pub mod Placing
 pub mod Fitted
 pub mod Outcome

@@ -4,25 +4,16 @@ ghost use Rattle.model.specs.Limits.{max_runs, max_starts};
 ghost use Rattle.tables.specs.Lay.{join_of, raised, join_parent, join_all, spot_from, Fine, FineAll, Safe, place_in, lay_of};
 ghost use Rattle.tables.specs.Laid.{grouped, Sound, chains_of, LaidOut};
 
-use crate::words::{clear, get, store, wide};
+use crate::words::item;
 
 // Elementwise the larger of the two, in the row being made.
 pub fn join(row: &mut [u32], theirs: &[u32])
     requires { length theirs.now ≤ length row.old }
     ensures { row.new ≡ join_of row.old theirs.now }
 {
-    let mut i = 0;
-    while i < theirs.len() {
-        row[i] = lists::larger(row[i], theirs[i]);
-        i += 1;
+    for (i, x) in theirs.iter().enumerate() {
+        row[i] = row[i].max(*x);
     }
-}
-
-fn raise(row: &mut [u32], k: usize, v: u32)
-    requires { k < length row.old }
-    ensures { row.new ≡ raised row.old k v }
-{
-    row[k] = lists::larger(row[k], v);
 }
 
 // A parent's row, and the parent itself, joined into the row being made.
@@ -37,12 +28,11 @@ fn join_parent<'a>(
     requires { Fine (length row.old) rows.now starts.now chain.now place.now p }
     ensures { row.new ≡ join_parent rows.now starts.now chain.now place.now row.old p }
 {
-    let s = wide(get(starts, p));
-    let e = wide(get(starts, p + 1));
+    let s = item(starts, p, 0) as usize;
+    let e = item(starts, p + 1, 0) as usize;
     join(row, &rows[s..e]);
-    let k = wide(get(chain, p));
-    let v = get(place, p);
-    raise(row, k, v + 1);
+    let k = item(chain, p, 0) as usize;
+    row[k] = row[k].max(item(place, p, 0) + 1);
 }
 
 // All parents.
@@ -57,10 +47,8 @@ fn join_all<'a>(
     requires { FineAll (length row.old) rows.now starts.now chain.now place.now parents.now }
     ensures { row.new ≡ join_all rows.now starts.now chain.now place.now row.old parents.now }
 {
-    let mut i = 0;
-    while i < parents.len() {
-        join_parent(row, rows, starts, chain, place, wide(parents[i]));
-        i += 1;
+    for p in parents {
+        join_parent(row, rows, starts, chain, place, *p as usize);
     }
 }
 
@@ -68,21 +56,12 @@ fn join_all<'a>(
 fn find_spot(row: &[u32], lens: &[u32], n: usize) -> usize
     ensures { (result ≡ spot_from row.now lens.now 0 n) × (result ≤ n) }
 {
-    let mut c = 0;
-    while c < n {
-        if get(row, c) == get(lens, c) {
+    for c in 0..n {
+        if item(row, c, 0) == item(lens, c, 0) {
             return c;
         }
-        c += 1;
     }
     n
-}
-
-fn wider(n: usize, k: usize) -> usize
-    requires { k < 2 ^ 32 }
-    ensures { result ≡ max n (k + 1) }
-{
-    if n < k + 1 { k + 1 } else { n }
 }
 
 // How many chains there are, how much of the row area is used, and 1 once a row found no room.
@@ -123,7 +102,7 @@ fn lay_run(
     let b = 2 * w;
     let c = 3 * w;
     let d = 4 * w;
-    clear(row);
+    row.fill(0);
     join_all(
         row,
         rows,
@@ -133,7 +112,7 @@ fn lay_run(
         parents,
     );
     let k = find_spot(row, &tables[c..d], area.chains);
-    let width = wider(area.chains, k);
+    let width = area.chains.max(k + 1);
     let used = area.used;
     if rows.len() < used + width {
         return Area {
@@ -142,7 +121,7 @@ fn lay_run(
             short: 1,
         };
     }
-    store(rows, used, row, width);
+    rows[used..used + width].copy_from_slice(&row[..width]);
     place(tables, w, r, k, used + width);
     Area {
         chains: width,
@@ -168,21 +147,19 @@ pub fn lay<'a>(
     ensures rows_len_unchanged { length rows.new ≡ length rows.old }
 {
     let d = 4 * (n + 1);
-    clear(&mut tables[0..d]);
+    tables[..d].fill(0);
     let mut area = Area {
         chains: 0,
         used: 0,
         short: 0,
     };
-    let mut r = 0;
-    while r < n {
-        let s = wide(get(starts, r));
-        let e = wide(get(starts, r + 1));
+    for r in 0..n {
+        let s = item(starts, r, 0) as usize;
+        let e = item(starts, r + 1, 0) as usize;
         area = lay_run(rows, tables, row, n + 1, area, r, &items[s..e]);
         if area.short != 0 {
             return area;
         }
-        r += 1;
     }
     area
 }
