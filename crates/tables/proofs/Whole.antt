@@ -6,8 +6,9 @@ use native.Mathlib.Omega.{arith}
 use lib.ListN.{length, take, drop, length-drop}
 use lib.Seq.{take_all}
 use Rattle.lists.specs.Areas.{part}
+use Rattle.std.specs.Prelude.{Option}
 use Rattle.tables.specs.declared.rows.Area.{Area}
-use Rattle.tables.specs.Laid.{grouped, heads_in, items_in, Sound, chains_of, LaidOut, RangeLaid}
+use Rattle.tables.specs.Laid.{grouped, heads_in, items_in, Sound, LaidOut, RangeLaid}
 
 heads_lent : (n : ℕ) (g : List ℕ) → heads_in n g ≡ part 0 (n + 1) g
 unfolding heads_in part
@@ -25,8 +26,8 @@ pub lent_sound : (n : ℕ) (g : List ℕ) → Sound (heads_in n g) (items_in n g
 lent_sound n g sound = subst (λ (y : List ℕ). Sound (part 0 (n + 1) g) y n) (items_lent n g) (subst (λ (x : List ℕ). Sound x (items_in n g) n) (heads_lent n g) sound)
 
 -- Rows laid for them are the range's
-pub range_laid : (pss : List (List ℕ)) (n : ℕ) (g area₀ area tables : List ℕ) (r : Area) → grouped (heads_in n g) (items_in n g) n ≡ pss → Sound (heads_in n g) (items_in n g) n →
-    LaidOut (grouped (part 0 (n + 1) g) (part (n + 1) (length g) g) n) n area₀ (chains_of r (n + 1) tables) area → RangeLaid pss n area₀ r area g tables
+pub range_laid : (pss : List (List ℕ)) (n : ℕ) (g area₀ area tables : List ℕ) (r : Option Area) → grouped (heads_in n g) (items_in n g) n ≡ pss → Sound (heads_in n g) (items_in n g) n →
+    LaidOut (grouped (part 0 (n + 1) g) (part (n + 1) (length g) g) n) n area₀ r area tables → RangeLaid pss n area₀ r area g tables
 range_laid pss n g area₀ area tables r e sound laid =
     let same : grouped (part 0 (n + 1) g) (part (n + 1) (length g) g) n ≡ pss = sym (ap₂ (λ (x y : List ℕ). grouped x y n) (heads_lent n g) (items_lent n g)) ∙ e in
-    record { out = subst (λ (l : List (List ℕ)). LaidOut l n area₀ (chains_of r (n + 1) tables) area) same laid; groups_are = e; sound = sound }
+    record { out = subst (λ (l : List (List ℕ)). LaidOut l n area₀ r area tables) same laid; groups_are = e; sound = sound }

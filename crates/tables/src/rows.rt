@@ -1,5 +1,5 @@
 // Chains and rows of a range: each run's row is made of its parents' rows, lent as parts of the row area.
-ghost use Rattle.std.specs.Prelude.{◌≡◌, ◌+◌, ◌*◌, ◌<◌, ◌≤◌, ◌^◌, max, length, get_or};
+ghost use Rattle.std.specs.Prelude.{◌≡◌, ◌+◌, ◌*◌, ◌<◌, ◌≤◌, ◌^◌, max, length, get_or, MatchOption};
 ghost use Rattle.model.specs.Limits.{max_runs, max_starts};
 ghost use Rattle.tables.specs.Lay.{join_of, raised, join_parent, join_all, spot_from, Fine, FineAll, Safe, place_in, lay_of};
 ghost use Rattle.tables.specs.Laid.{grouped, Sound, chains_of, LaidOut};
@@ -64,12 +64,11 @@ fn find_spot(row: &[u32], lens: &[u32], n: usize) -> usize
     n
 }
 
-// How many chains there are, how much of the row area is used, and 1 once a row found no room.
+// How many chains there are, and how much of the row area is used.
 #[derive(Clone, Copy)]
 pub struct Area {
     pub chains: usize,
     pub used: usize,
-    pub short: usize,
 }
 
 // Run r put on chain k, its row ending at `used`. The tables are four lists of w words: where each run's row starts, each
@@ -85,7 +84,7 @@ fn place(tables: &mut [u32], w: usize, r: usize, k: usize, used: usize)
     tables[3 * w + k] = len + 1;
 }
 
-// Run r's row, made of its parents', and written if it fits.
+// Run r's row, made of its parents', and written; none where it finds no room.
 fn lay_run(
     rows: &mut [u32],
     tables: &mut [u32],
@@ -94,10 +93,11 @@ fn lay_run(
     area: Area,
     r: usize,
     parents: &[u32],
-) -> Area
+) -> Option<Area>
     requires w_in_bounds { (4 * w ≤ length tables.old) × (length row.old ≡ w) }
     requires safe { Safe w rows.old (chains_of area w tables.old) r parents.now }
-    ensures { (chains_of result w tables.new, rows.new) ≡ lay_of (chains_of area w tables.old, rows.old) r parents.now }
+    ensures { let laid = lay_of (chains_of area w tables.old, rows.old) r parents.now in
+        MatchOption result ((laid ≡ None) × (rows.new ≡ rows.old)) (λ a. laid ≡ Some (chains_of a w tables.new, rows.new)) }
 {
     let b = 2 * w;
     let c = 3 * w;
@@ -115,22 +115,17 @@ fn lay_run(
     let width = area.chains.max(k + 1);
     let used = area.used;
     if rows.len() < used + width {
-        return Area {
-            chains: area.chains,
-            used,
-            short: 1,
-        };
+        return None;
     }
     rows[used..used + width].copy_from_slice(&row[..width]);
     place(tables, w, r, k, used + width);
-    Area {
+    Some(Area {
         chains: width,
         used: used + width,
-        short: 0,
-    }
+    })
 }
 
-// All runs' rows and chains, up to the first row that finds no room.
+// All runs' rows and chains; none where a row finds no room, and then the rows before it are written.
 pub fn lay<'a>(
     rows: &mut [u32],
     tables: &mut [u32],
@@ -138,28 +133,21 @@ pub fn lay<'a>(
     starts: &'a [u32],
     items: &'a [u32],
     n: usize,
-) -> Area
+) -> Option<Area>
     requires sound { Sound starts.now items.now n }
     requires n_in_bounds { (4 * (n + 1) ≤ length tables.old) × (length row.old ≡ n + 1) }
-    ensures laid_out { LaidOut (grouped starts.now items.now n) n rows.old (chains_of result (n + 1) tables.new) rows.new }
+    ensures laid_out { LaidOut (grouped starts.now items.now n) n rows.old result rows.new tables.new }
     ensures tables_len_unchanged { length tables.new ≡ length tables.old }
     ensures row_len_unchanged { length row.new ≡ length row.old }
     ensures rows_len_unchanged { length rows.new ≡ length rows.old }
 {
     let d = 4 * (n + 1);
     tables[..d].fill(0);
-    let mut area = Area {
-        chains: 0,
-        used: 0,
-        short: 0,
-    };
+    let mut area = Area { chains: 0, used: 0 };
     for r in 0..n {
         let s = item(starts, r, 0) as usize;
         let e = item(starts, r + 1, 0) as usize;
-        area = lay_run(rows, tables, row, n + 1, area, r, &items[s..e]);
-        if area.short != 0 {
-            return area;
-        }
+        area = lay_run(rows, tables, row, n + 1, area, r, &items[s..e])?;
     }
-    area
+    Some(area)
 }

@@ -15,7 +15,7 @@ use crate::covers::CoverWord;
 use crate::rows::Area;
 use crate::{children, covers, distance, groups, members, rows, words};
 
-// Parents, chains and rows.
+// Parents, chains and rows; none where a row finds no room.
 pub fn lay<'a>(
     heads: &'a [u32],
     parents: &'a [u32],
@@ -25,7 +25,7 @@ pub fn lay<'a>(
     groups: &mut [u32],
     tables: &mut [u32],
     scratch: &mut [u32],
-) -> Area
+) -> Option<Area>
     requires sound { Sound heads.now parents.now (a + n) }
     requires parents_in_bounds { (n + 1 + length parents.now ≤ length groups.old) × (4 * (n + 1) ≤ length tables.old) × (n + 1 ≤ length scratch.old) }
     ensures range_laid { RangeLaid (shares heads.now parents.now a n) n rows.old result rows.new groups.new tables.new }

@@ -2,7 +2,7 @@
 use Rattle.std.proofs.Common.{◌≡◌, ◌+◌, ◌*◌, refl, replicate, rules, arith}
 use Rattle.lists.specs.Areas.{part}
 use Rattle.tables.specs.Laid.{grouped, chains_of}
-use Rattle.tables.proofs.Outcome.{laid_end, turn, turn_safe}
+use Rattle.tables.proofs.Outcome.{laid_end, turn_stops, turn_goes, turn_safe}
 use Rattle.tables.proofs.FirstLanes.{first_clear, clear_laid}
 use Rattle.tables.proofs.Placing.{grouped-length}
 use Rattle.tables.proofs.rows.lay.Goals as goal
@@ -23,39 +23,39 @@ loop-r-init c =
     let cleared : c.fill.new.self ≡ replicate (4 * (a.n + 1)) 0 = search rules in
     let first = first_clear (4 * (a.n + 1)) a.tables.now c.requires.n_in_bounds.0 in
     let size = grouped-length a.starts.now a.items.now a.n c.requires.sound.long in
-    rw cleared (clear_laid (grouped a.starts.now a.items.now a.n) (a.n + 1) _ _ a.rows.now (omega (arith, size)) (omega (arith, c.requires.n_in_bounds.0, first.1)) first.0 refl refl refl)
+    rw cleared (clear_laid (grouped a.starts.now a.items.now a.n) (a.n + 1) _ _ a.rows.now (omega (arith, size)) (omega (arith, c.requires.n_in_bounds.0, first.1)) first.0 refl refl)
 
 pub slice_bounds-lay_run-end : goal.slice_bounds-lay_run-end
 slice_bounds-lay_run-end c = omega (arith, c.requires.sound.inside c.loop-r.r c.loop-r-test.true)
 
-pub lay_run-area-requires-clause-safe : goal.lay_run-area-requires-clause-safe
+pub lay_run-requires-clause-safe : goal.lay_run-requires-clause-safe
 unfolding part
-lay_run-area-requires-clause-safe c =
+lay_run-requires-clause-safe c =
     let a = c.args in
     let l = c.loop-r in
     rw (c.item-s.ensures, c.item-e.ensures)
     (turn_safe a.starts.now a.items.now a.n c.requires.sound a.rows.now l.r c.loop-r-test.true (chains_of l.area (a.n + 1) l.tables) l.rows l.invariant)
 
-pub returns-then-area-ne0-clause-laid_out : goal.returns-then-area-ne0-clause-laid_out
-unfolding part chains_of
-returns-then-area-ne0-clause-laid_out c =
+pub returns-in_err-area-clause-laid_out : goal.returns-in_err-area-clause-laid_out
+unfolding part
+returns-in_err-area-clause-laid_out c =
     let a = c.args in
     let l = c.loop-r in
-    let v = c.lay_run-area in
-    (turn a.starts.now a.items.now a.n c.requires.sound a.rows.now l.r c.loop-r-test.true (chains_of l.area (a.n + 1) l.tables) l.rows l.invariant
-    (chains_of v.result (a.n + 1) v.new.tables, v.new.rows) (rw (c.item-s.ensures, c.item-e.ensures) at v.ensures)).0 c.if-area-ne0.true
+    let stopped = c.in_err-area.ensures in
+    rw (c.from_residual.ensures, stopped.1)
+    (turn_stops a.starts.now a.items.now a.n c.requires.sound a.rows.now l.r c.loop-r-test.true (chains_of l.area (a.n + 1) l.tables) l.rows l.invariant c.lay_run.new.tables
+    (rw (c.item-s.ensures, c.item-e.ensures) at stopped.0))
 
 pub loop-r-preserved : goal.loop-r-preserved
-unfolding part chains_of
+unfolding part
 loop-r-preserved c =
     let a = c.args in
     let l = c.loop-r in
-    let v = c.lay_run-area in
-    (turn a.starts.now a.items.now a.n c.requires.sound a.rows.now l.r c.loop-r-test.true (chains_of l.area (a.n + 1) l.tables) l.rows l.invariant
-    (chains_of v.result (a.n + 1) v.new.tables, v.new.rows) (rw (c.item-s.ensures, c.item-e.ensures) at v.ensures)).1 c.if-area-ne0.false
+    turn_goes a.starts.now a.items.now a.n c.requires.sound a.rows.now l.r c.loop-r-test.true (chains_of l.area (a.n + 1) l.tables) l.rows l.invariant
+    (chains_of c.in_ok-area.area (a.n + 1) c.lay_run.new.tables, c.lay_run.new.rows) (rw (c.item-s.ensures, c.item-e.ensures) at c.in_ok-area.ensures)
 
 pub returns-clause-laid_out : goal.returns-clause-laid_out
 returns-clause-laid_out c =
     let a = c.args in
     let l = c.loop-r in
-    laid_end a.starts.now a.items.now a.n c.requires.sound a.rows.now l.r (chains_of l.area (a.n + 1) l.tables) l.rows (omega arith) l.invariant
+    laid_end a.starts.now a.items.now a.n c.requires.sound a.rows.now l.r l.area l.rows l.tables (omega arith) l.invariant
