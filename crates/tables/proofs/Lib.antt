@@ -19,7 +19,6 @@ pub mod RowsIn
 pub mod Gathering
 pub mod Ranging
 -- Both
-pub mod Whole
 -- Members and sums; versions and distances
 pub mod Standing
 pub mod Summing

@@ -13,7 +13,7 @@ ghost use Rattle.tables.specs.Sizes.{Inside, Sized};
 
 use crate::covers::CoverWord;
 use crate::rows::Area;
-use crate::{children, covers, distance, groups, members, rows, words};
+use crate::{children, covers, distance, groups, members, rows};
 
 // Parents, chains and rows; none where a row finds no room.
 pub fn lay<'a>(
@@ -36,14 +36,8 @@ pub fn lay<'a>(
 {
     let w = n + 1;
     groups::gather(groups, heads, parents, a, n);
-    rows::lay(
-        rows,
-        tables,
-        &mut scratch[0..w],
-        &groups[0..w],
-        &groups[w..],
-        n,
-    )
+    let (starts, items) = groups.split_at(w);
+    rows::lay(rows, tables, &mut scratch[..w], starts, items, n)
 }
 
 // Where each chain's members begin.
@@ -55,8 +49,9 @@ fn list_begins(n: usize, chains: usize, tables: &mut [u32], scratch: &mut [u32])
     let w = n + 1;
     let c = 3 * w;
     let d = 4 * w;
-    members::begins_of(&mut scratch[0..w], &tables[c..d], chains);
-    words::store(tables, d, &scratch[0..w], w);
+    let e = 5 * w;
+    members::begins_of(&mut scratch[..w], &tables[c..d], chains);
+    tables[d..e].copy_from_slice(&scratch[..w]);
 }
 
 // The members.
@@ -72,14 +67,15 @@ fn list_members(n: usize, tables: &mut [u32], scratch: &mut [u32])
     let c = 3 * w;
     let d = 4 * w;
     let e = 5 * w;
+    let f = 6 * w;
     members::members_of(
-        &mut scratch[0..w],
+        &mut scratch[..w],
         &tables[d..e],
         &tables[w..b],
         &tables[b..c],
         n,
     );
-    words::store(tables, e, &scratch[0..w], w);
+    tables[e..f].copy_from_slice(&scratch[..w]);
 }
 
 // The events of the first members.
@@ -91,7 +87,7 @@ fn sum_events(starts: &[u32], n: usize, tables: &[u32], before: &mut [u64])
     let w = n + 1;
     let e = 5 * w;
     let f = 6 * w;
-    members::sums_of(&mut before[0..w], &tables[e..f], starts, n);
+    members::sums_of(&mut before[..w], &tables[e..f], starts, n);
 }
 
 // Members and their sums.
@@ -131,9 +127,11 @@ pub fn children(
 {
     let w = n + 1;
     let f = 6 * w;
-    children::starts_of(&mut scratch[0..w], &groups[0..w], &groups[w..], n);
-    words::store(tables, f, &scratch[0..w], w);
-    children::children_of(children, &mut scratch[0..w], &groups[0..w], &groups[w..], n);
+    let g = 7 * w;
+    let (starts, items) = groups.split_at(w);
+    children::starts_of(&mut scratch[..w], starts, items, n);
+    tables[f..g].copy_from_slice(&scratch[..w]);
+    children::children_of(children, &mut scratch[..w], starts, items, n);
 }
 
 // Weights.
@@ -153,15 +151,16 @@ pub fn weights(
     let w = n + 1;
     let f = 6 * w;
     let g = 7 * w;
+    let h = 8 * w;
     covers::weights_of(
-        &mut scratch[0..w],
+        &mut scratch[..w],
         covers,
         starts,
         &tables[f..g],
         children,
         n,
     );
-    words::store(tables, g, &scratch[0..w], w);
+    tables[g..h].copy_from_slice(&scratch[..w]);
 }
 
 // The sizes of the runs' histories.
@@ -183,9 +182,9 @@ pub fn sizes(
     let e = 5 * w;
     distance::sizes_of(
         sizes,
-        &before[0..w],
+        &before[..w],
         &tables[d..e],
-        &tables[0..w],
+        &tables[..w],
         rows,
         n,
         chains,

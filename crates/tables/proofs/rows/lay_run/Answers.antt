@@ -35,9 +35,11 @@ returns-then-rows-used c =
     let cleared : c.fill.new.self ≡ replicate (length a.row.now) 0 = search rules in
     let made = c.join_all in
     let found = c.find_spot-k in
-    let wide = c.max-width in
-    (run_stops a.w a.area a.tables.now a.rows.now a.parents.now p.0 a.r _ c.fill.new.self made.new.row found.result wide.result p.1 cleared made.ensures found.ensures.0 wide.ensures
-    c.if-rows-used.true, (λ i. a.rows.now))
+    let wide = c.max-width in (
+      run_stops a.w a.area a.tables.now a.rows.now a.parents.now p.0 a.r _ c.fill.new.self made.new.row found.result wide.result p.1 cleared made.ensures found.ensures.0 wide.ensures
+          c.if-rows-used.true,
+      (λ i. a.rows.now),
+    )
 
 pub slice_bounds-copy_from_slice-end-2 : goal.slice_bounds-copy_from_slice-end-2
 unfolding chains_of
