@@ -1,6 +1,5 @@
-// Words of lent lists: a read past the end is 0, a list cleared, a list stored in another.
-ghost use Rattle.std.specs.Prelude.{◌≡◌, ◌+◌, ◌≤◌, length, get_or, replicate};
-ghost use Rattle.std.proofs.Math.Seq.{paste};
+// Words of lent lists: a read past the end is 0.
+ghost use Rattle.std.specs.Prelude.{◌≡◌, length, get_or, replicate};
 
 pub fn wide(x: u32) -> usize
     ensures { result ≡ x }
@@ -31,12 +30,4 @@ pub fn clear(s: &mut [u32])
     ensures { s.new ≡ replicate (length s.old) 0 }
 {
     s.fill(0);
-}
-
-// The first n of a list, stored from `at` on.
-pub fn store(to: &mut [u32], at: usize, list: &[u32], n: usize)
-    requires { (n ≤ length list.now) × (at + n ≤ length to.old) }
-    ensures { to.new ≡ paste to.old at list.now n }
-{
-    to[at..at + n].copy_from_slice(&list[..n]);
 }
