@@ -2,14 +2,14 @@
 use mathlib.Core.Path.{◌≡◌, refl}
 use mathlib.Core.Bool.{Bool, true, false}
 use mathlib.Core.List.{List, [], ◌∷◌}
-use Prim.Native.Nat.{ℕ, suc, ◌+◌, ◌≤◌, ◌<◌}
+use Prim.Native.Nat.{ℕ, suc, ◌+◌, ◌-◌, ◌≤◌, ◌<◌}
 use native.Mathlib.Numerals.{add-one}
 use native.Mathlib.Omega.{arith}
-use lib.ListN.{length, get_or, drop, drop_of_length-le}
-use lib.Seq.{drop-cons}
+use lib.ListN.{length, get_or, take, drop, length-drop, drop_of_length-le}
+use lib.Seq.{drop-cons, take_all, get_or-drop}
 use lib.Dec.{eqb}
 use Rattle.moves.specs.Emit.{Writing, emit_one, emit}
-use Rattle.moves.specs.Stretches.{Open, span_of, pick_l, pick_o, stretch_of, begun, stretch_from, stretches, stretch_on}
+use Rattle.moves.specs.Stretches.{Below, Open, span_of, pick_l, pick_o, stretch_of, begun, stretch_from, stretches, stretch_on}
 
 -- What is still to be written from an open stretch on
 abbrev pub rest : List ℕ → ℕ → ℕ → Open → List ℕ → Writing
@@ -47,3 +47,11 @@ pub stretch_empty : (st : List ℕ) (k b : ℕ) (w : Writing) (xs : List ℕ) �
 unfolding stretches emit
 stretch_empty st k b w [] h = refl
 stretch_empty st k b w (x ∷ xs) h = absurd (omega (arith, h))
+
+-- The runs after the first, as a slice
+pub tail_is : (xs : List ℕ) → take (length xs - 1) (drop 1 xs) ≡ drop 1 xs
+tail_is xs = take_all (length xs - 1) (drop 1 xs) (omega (arith, length-drop 1 xs))
+
+-- are below n if all are
+pub tail_below : (n : ℕ) (xs : List ℕ) → Below n xs → Below n (take (length xs - 1) (drop 1 xs))
+tail_below n xs h i = rw (tail_is xs, get_or-drop 1 xs i 0) (h (1 + i))

@@ -6,7 +6,7 @@ ghost use Rattle.moves.specs.Stretches.{Below, stretches};
 ghost use Rattle.moves.specs.Moves.{Inside, runs_of, moves_from, visit_of};
 
 use crate::writing::{Out, put_step, put_stretches};
-use tables::words::{get, wide};
+use tables::words::item;
 
 // The runs of one chain that are in one version and not in the other.
 fn put_chain<'a>(
@@ -26,12 +26,12 @@ fn put_chain<'a>(
         (stretches starts.now kind base (runs_of members.now begins.now from.now to.now c)) }
     ensures moved_bound { result.moved ≤ out.moved + 2 ^ 42 }
 {
-    let lo = wide(get(to, c));
-    let hi = wide(get(from, c));
+    let lo = item(to, c, 0) as usize;
+    let hi = item(from, c, 0) as usize;
     if hi <= lo {
         return out;
     }
-    let b = wide(get(begins, c));
+    let b = item(begins, c, 0) as usize;
     let s = b + lo;
     let e = b + hi;
     put_stretches(steps, out, starts, kind, base, &members[s..e])
@@ -57,10 +57,8 @@ fn put_moves<'a>(
     ensures moved_bound { result.moved ≤ out.moved + 2 ^ 51 }
 {
     let mut o = out;
-    let mut c = 0;
-    while c < n {
+    for c in 0..n {
         o = put_chain(steps, o, starts, kind, base, members, begins, from, to, c);
-        c += 1;
     }
     o
 }

@@ -4,7 +4,7 @@ ghost use Rattle.model.specs.Limits.{max_runs};
 ghost use Rattle.moves.specs.Emit.{emit_one, emit, step_of, applies};
 ghost use Rattle.moves.specs.Stretches.{Below, span_of, stretch_on, stretches};
 
-use tables::words::get;
+use tables::words::item;
 
 // How many steps are written, the events that they move, and 1 once one found no room.
 #[derive(Clone, Copy)]
@@ -48,10 +48,8 @@ pub fn put_applies(steps: &mut [u32], out: Out, first: u32, end: u32) -> Out
     ensures moved_le_moved { result.moved ≤ out.moved }
 {
     let mut o = out;
-    let mut run = first;
-    while run < end {
+    for run in first..end {
         o = put_step(steps, o, 2, run, run + 1, 0);
-        run += 1;
     }
     o
 }
@@ -60,9 +58,8 @@ pub fn put_applies(steps: &mut [u32], out: Out, first: u32, end: u32) -> Out
 fn span(starts: &[u32], a: u32, b: u32) -> u64
     ensures { (result ≡ get_or starts.now b 0 - get_or starts.now a 0) × (result < 2 ^ 32) }
 {
-    let x = get(starts, a as usize);
-    let y = get(starts, b as usize);
-    if y < x { 0 } else { (y - x) as u64 }
+    let from = item(starts, a as usize, 0);
+    u64::from(item(starts, b as usize, 0).saturating_sub(from))
 }
 
 // A step for the runs `first` to `last` of a range that begins at run `base`.
@@ -89,15 +86,8 @@ fn put_span(
 #[derive(Clone, Copy)]
 pub struct Stretch {
     pub out: Out,
-    pub first: u64,
-    pub last: u64,
-}
-
-fn small(x: u64) -> u32
-    requires { x < 2 ^ 32 }
-    ensures { result ≡ x }
-{
-    x as u32
+    pub first: u32,
+    pub last: u32,
 }
 
 // One run more: it goes on with the stretch, or the stretch is written and it begins one.
@@ -113,22 +103,18 @@ fn stretch_on(
     ensures steps_after { (result, steps.new) ≡ stretch_on starts.now kind base (s, steps.old) run }
     ensures moved_bound { (result.out.moved ≤ s.out.moved + 2 ^ 32) × (result.first < max_runs) × (result.last < max_runs) }
 {
-    let o = s.out;
-    let f = s.first;
-    let l = s.last;
-    let r = run as u64;
-    if r == l + 1 {
+    if run == s.last + 1 {
         return Stretch {
-            out: o,
-            first: f,
-            last: r,
+            out: s.out,
+            first: s.first,
+            last: run,
         };
     }
-    let p = put_span(steps, o, starts, kind, base, small(f), small(l));
+    let out = put_span(steps, s.out, starts, kind, base, s.first, s.last);
     Stretch {
-        out: p,
-        first: r,
-        last: r,
+        out,
+        first: run,
+        last: run,
     }
 }
 
@@ -145,22 +131,16 @@ pub fn put_stretches(
     ensures steps_after { (result, steps.new) ≡ emit (out, steps.old) (stretches starts.now kind base runs.now) }
     ensures moved_bound { result.moved ≤ out.moved + length runs.now * 2 ^ 32 }
 {
-    if runs.len() == 0 {
+    let [first, more @ ..] = runs else {
         return out;
-    }
-    let head = runs[0] as u64;
+    };
     let mut s = Stretch {
         out,
-        first: head,
-        last: head,
+        first: *first,
+        last: *first,
     };
-    let mut i = 1;
-    while i < runs.len() {
-        s = stretch_on(steps, s, starts, kind, base, runs[i]);
-        i += 1;
+    for run in more {
+        s = stretch_on(steps, s, starts, kind, base, *run);
     }
-    let o = s.out;
-    let f = s.first;
-    let l = s.last;
-    put_span(steps, o, starts, kind, base, small(f), small(l))
+    put_span(steps, s.out, starts, kind, base, s.first, s.last)
 }
