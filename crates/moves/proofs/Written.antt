@@ -5,7 +5,7 @@ use Prim.Native.Nat.{ℕ, zero, suc, ◌+◌, ◌-◌, ◌*◌, ◌/◌}
 use native.Mathlib.Omega.{arith}
 use lib.ListN.{length, get_or, take, drop, length-map}
 use lib.Dec.{ltb}
-use Rattle.lists.specs.Lists.{bit, concat, from}
+use Rattle.lists.specs.Lists.{concat, from}
 use Rattle.lists.specs.Areas.{over}
 use Rattle.model.specs.Graph.{Graph, start}
 use Rattle.model.specs.Steps.{Step, retreat, advance, apply, opened, step_words, words, moved_in}
@@ -65,7 +65,7 @@ take-recs gst (suc k) (s ∷ ss) = ap (λ (l : List Rec). rec_of gst s ∷ l) (t
 -- Steps in an empty list of some room: those that fit are written, counted and moved, and it is short if not all fit
 pub written_is : (g : Graph) (ss : List Step) (area : List ℕ) → let fit : List Step = take (length area / 3) ss in
     emit (going 0 0, area) (recs g.starts ss)
-    ≡ (record { count = length fit; moved = moved_in g fit; short = bit (ltb (length area / 3) (length ss)) }, over (words fit) area)
+    ≡ (record { count = length fit; moved = moved_in g fit; short = ltb (length area / 3) (length ss) }, over (words fit) area)
 unfolding over
 written_is g ss area =
     let room : ℕ = length area / 3 in
@@ -74,5 +74,5 @@ written_is g ss area =
     let ws : rec_words (take room (recs g.starts ss)) ≡ words (take room ss) = ap rec_words t ∙ words_are g.starts (take room ss) in
     let mv : rec_events (take room (recs g.starts ss)) ≡ moved_in g (take room ss) = ap rec_events t ∙ events_are g (take room ss) in
     let three : 3 * length (take room (recs g.starts ss)) ≡ length (words (take room ss)) = omega (arith, len, words-length (take room ss)) in
-    let sh : bit (ltb room (length (recs g.starts ss))) ≡ bit (ltb room (length ss)) = ap (λ (n : ℕ). bit (ltb room n)) (length-map ss (rec_of g.starts)) in
+    let sh : ltb room (length (recs g.starts ss)) ≡ ltb room (length ss) = ap (ltb room) (length-map ss (rec_of g.starts)) in
     emit-fresh (recs g.starts ss) area ∙ (λ i. (record { count = len i; moved = mv i; short = sh i }, ws i ++ drop (three i) area))

@@ -1,44 +1,49 @@
 // Steps written one after another into a lent list, as long as they fit.
 ghost use Rattle.std.specs.Prelude.{◌≡◌, ◌+◌, ◌*◌, ◌<◌, ◌^◌, ◌≤◌, ◌-◌, length, get_or};
 ghost use Rattle.model.specs.Limits.{max_runs};
-ghost use Rattle.moves.specs.Emit.{emit_one, emit, step_of, applies};
+ghost use Rattle.moves.specs.Emit.{kind_word, emit_one, emit, step_of, applies};
 ghost use Rattle.moves.specs.Stretches.{Below, span_of, stretch_on, stretches};
 
 use tables::words::item;
 
-// How many steps are written, the events that they move, and 1 once one found no room.
+// The kinds of steps, by the words that stand for them in a list.
+#[derive(Clone, Copy)]
+pub enum Kind {
+    Retreat = 0,
+    Advance = 1,
+    Apply = 2,
+    Open = 3,
+}
+
+// How many steps are written, the events that they move, and whether one found no room.
 #[derive(Clone, Copy)]
 pub struct Out {
     pub count: u64,
     pub moved: u64,
-    pub short: u64,
+    pub short: bool,
 }
 
 // Writes one step if it fits and all before it did.
-pub fn put_step(steps: &mut [u32], out: Out, kind: u32, a: u32, b: u32, events: u64) -> Out
+pub fn put_step(steps: &mut [u32], out: Out, kind: Kind, a: u32, b: u32, events: u64) -> Out
     requires { out.moved + events < 2 ^ 64 }
-    ensures steps_after { (result, steps.new) ≡ emit_one (out, steps.old) (step_of kind a b events) }
+    ensures steps_after { (result, steps.new) ≡ emit_one (out, steps.old) (step_of (kind_word kind) a b events) }
     ensures moved_bound { result.moved ≤ out.moved + events }
 {
-    let n = out.count;
-    if out.short != 0 {
+    if out.short {
         return out;
     }
-    if n < (steps.len() / 3) as u64 {
-        let at = 3 * (n as usize);
-        steps[at] = kind;
-        steps[at + 1] = a;
-        steps[at + 2] = b;
-        return Out {
-            count: n + 1,
-            moved: out.moved + events,
-            short: 0,
-        };
+    let n = out.count as usize;
+    if steps.len() / 3 <= n {
+        return Out { short: true, ..out };
     }
+    let at = 3 * n;
+    steps[at] = kind as u32;
+    steps[at + 1] = a;
+    steps[at + 2] = b;
     Out {
-        count: n,
-        moved: out.moved,
-        short: 1,
+        count: out.count + 1,
+        moved: out.moved + events,
+        short: false,
     }
 }
 
@@ -49,7 +54,7 @@ pub fn put_applies(steps: &mut [u32], out: Out, first: u32, end: u32) -> Out
 {
     let mut o = out;
     for run in first..end {
-        o = put_step(steps, o, 2, run, run + 1, 0);
+        o = put_step(steps, o, Kind::Apply, run, run + 1, 0);
     }
     o
 }
@@ -67,13 +72,13 @@ fn put_span(
     steps: &mut [u32],
     out: Out,
     starts: &[u32],
-    kind: u32,
+    kind: Kind,
     base: u32,
     first: u32,
     last: u32,
 ) -> Out
     requires { (out.moved + 2 ^ 32 < 2 ^ 64) × (base < 2 ^ 31) × (first < max_runs) × (last < max_runs) }
-    ensures steps_after { (result, steps.new) ≡ emit_one (out, steps.old) (span_of starts.now kind base first last) }
+    ensures steps_after { (result, steps.new) ≡ emit_one (out, steps.old) (span_of starts.now (kind_word kind) base first last) }
     ensures moved_bound { result.moved ≤ out.moved + 2 ^ 32 }
 {
     let a = base + first;
@@ -95,12 +100,12 @@ fn stretch_on(
     steps: &mut [u32],
     s: Stretch,
     starts: &[u32],
-    kind: u32,
+    kind: Kind,
     base: u32,
     run: u32,
 ) -> Stretch
     requires { (s.out.moved + 2 ^ 32 < 2 ^ 64) × (base < 2 ^ 31) × (s.first < max_runs) × (s.last < max_runs) × (run < max_runs) }
-    ensures steps_after { (result, steps.new) ≡ stretch_on starts.now kind base (s, steps.old) run }
+    ensures steps_after { (result, steps.new) ≡ stretch_on starts.now (kind_word kind) base (s, steps.old) run }
     ensures moved_bound { (result.out.moved ≤ s.out.moved + 2 ^ 32) × (result.first < max_runs) × (result.last < max_runs) }
 {
     if run == s.last + 1 {
@@ -123,12 +128,12 @@ pub fn put_stretches(
     steps: &mut [u32],
     out: Out,
     starts: &[u32],
-    kind: u32,
+    kind: Kind,
     base: u32,
     runs: &[u32],
 ) -> Out
     requires { (out.moved + (length runs.now + 1) * 2 ^ 32 < 2 ^ 64) × (base < 2 ^ 31) × Below max_runs runs.now }
-    ensures steps_after { (result, steps.new) ≡ emit (out, steps.old) (stretches starts.now kind base runs.now) }
+    ensures steps_after { (result, steps.new) ≡ emit (out, steps.old) (stretches starts.now (kind_word kind) base runs.now) }
     ensures moved_bound { result.moved ≤ out.moved + length runs.now * 2 ^ 32 }
 {
     let [first, more @ ..] = runs else {
