@@ -13,12 +13,12 @@ use lib.Seq.{sets-eq, take_at, drop-append-add, drop-drop, length-take-le, take-
 use lib.Dec.{ltb, leb-suc-suc}
 use Rattle.lists.proofs.Truth.{lt_or_le}
 use Rattle.moves.specs.declared.writing.Out.{Out}
-use Rattle.moves.specs.Emit.{Rec, Writing, put3, emit}
+use Rattle.moves.specs.Emit.{kind_word, Rec, Writing, put3, emit}
 
 -- The words of some records, and the events that they move
 unfoldable pub rec_words : List Rec → List ℕ
 rec_words [] = []
-rec_words (s ∷ ss) = s.kind ∷ s.first ∷ s.past ∷ rec_words ss
+rec_words (s ∷ ss) = kind_word s.kind ∷ s.first ∷ s.past ∷ rec_words ss
 
 unfoldable pub rec_events : List Rec → ℕ
 rec_events [] = 0
@@ -79,7 +79,7 @@ rejoined k ws = let e : 3 * (k + 0) ≡ 3 * k = omega arith in rw e (take-append
 -- A record that fits, and one that does not
 module _ (s : Rec) (ss : List Rec) (k m : ℕ) (ws : List ℕ) where
   abbrev put : List ℕ
-  put = put3 ws (3 * k) s.kind s.first s.past
+  put = put3 ws (3 * k) (kind_word s.kind) s.first s.past
 
   one_more : k < length ws / 3 → (fit : List Rec) → after (k + 1) (m + s.events) put ss fit ≡ after k m ws (s ∷ ss) (s ∷ fit)
   unfolding rec_words rec_events
@@ -92,7 +92,7 @@ module _ (s : Rec) (ss : List Rec) (k m : ℕ) (ws : List ℕ) where
       sym (leb-suc-suc (suc (length ws / 3 - (k + 1))) (length ss)) ∙ ap (λ (r : ℕ). ltb r (suc (length ss))) (sym e) in
       writing_eq (omega arith) (omega arith) room
       (ap (λ (l : List ℕ). l ++ (rec_words fit ++ drop (3 * (k + 1 + n)) put)) (put3-take ws k _ _ _ h)
-      ∙ ap (λ (l : List ℕ). front ws k s.kind s.first s.past h ++ (rec_words fit ++ l)) (put3-drop ws k _ _ _ h n ∙ ap (λ (j : ℕ). drop (3 * (k + j)) ws) (add-one n))
+      ∙ ap (λ (l : List ℕ). front ws k (kind_word s.kind) s.first s.past h ++ (rec_words fit ++ l)) (put3-drop ws k _ _ _ h n ∙ ap (λ (j : ℕ). drop (3 * (k + j)) ws) (add-one n))
       ∙ append_assoc (take (3 * k) ws) _ _)
 
   no_room : length ws / 3 ≤ k → (stopped k m, ws) ≡ after k m ws (s ∷ ss) []

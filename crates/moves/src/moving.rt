@@ -1,7 +1,7 @@
 // A visit's steps: retreats and advances, chain by chain, consecutive runs joined, and Apply.
 ghost use Rattle.std.specs.Prelude.{◌≡◌, ℕ, ◌+◌, ◌<◌, ◌≤◌, ◌^◌, length};
 ghost use Rattle.model.specs.Limits.{max_runs, max_starts};
-ghost use Rattle.moves.specs.Emit.{kind_word, emit};
+ghost use Rattle.moves.specs.Emit.{emit};
 ghost use Rattle.moves.specs.Stretches.{Below, stretches};
 ghost use Rattle.moves.specs.Moves.{Inside, runs_of, moves_from, visit_of};
 
@@ -23,7 +23,7 @@ fn put_chain<'a>(
 ) -> Out
     requires { (out.moved + 2 ^ 42 < 2 ^ 63) × (base < 2 ^ 31) × (length members.now ≤ max_starts) × Below max_runs members.now × Inside members.now begins.now from.now c }
     ensures steps_after { (result, steps.new) ≡ emit (out, steps.old)
-        (stretches starts.now (kind_word kind) base (runs_of members.now begins.now from.now to.now c)) }
+        (stretches starts.now kind base (runs_of members.now begins.now from.now to.now c)) }
     ensures moved_bound { result.moved ≤ out.moved + 2 ^ 42 }
 {
     let lo = item(to, c, 0) as usize;
@@ -53,7 +53,7 @@ fn put_moves<'a>(
     requires { (out.moved + 2 ^ 51 < 2 ^ 63) × (base < 2 ^ 31) × (length members.now ≤ max_starts) × Below max_runs members.now × (n ≤ max_runs) ×
         ((c : ℕ) → c < n → Inside members.now begins.now from.now c) }
     ensures steps_after { (result, steps.new) ≡ emit (out, steps.old)
-        (moves_from starts.now (kind_word kind) base members.now begins.now from.now to.now 0 n) }
+        (moves_from starts.now kind base members.now begins.now from.now to.now 0 n) }
     ensures moved_bound { result.moved ≤ out.moved + 2 ^ 51 }
 {
     let mut o = out;

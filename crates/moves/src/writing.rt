@@ -1,7 +1,7 @@
 // Steps written one after another into a lent list, as long as they fit.
 ghost use Rattle.std.specs.Prelude.{◌≡◌, ◌+◌, ◌*◌, ◌<◌, ◌^◌, ◌≤◌, ◌-◌, length, get_or};
 ghost use Rattle.model.specs.Limits.{max_runs};
-ghost use Rattle.moves.specs.Emit.{kind_word, emit_one, emit, step_of, applies};
+ghost use Rattle.moves.specs.Emit.{emit_one, emit, step_of, applies};
 ghost use Rattle.moves.specs.Stretches.{Below, span_of, stretch_on, stretches};
 
 use tables::words::item;
@@ -26,7 +26,7 @@ pub struct Out {
 // Writes one step if it fits and all before it did.
 pub fn put_step(steps: &mut [u32], out: Out, kind: Kind, a: u32, b: u32, events: u64) -> Out
     requires { out.moved + events < 2 ^ 64 }
-    ensures steps_after { (result, steps.new) ≡ emit_one (out, steps.old) (step_of (kind_word kind) a b events) }
+    ensures steps_after { (result, steps.new) ≡ emit_one (out, steps.old) (step_of kind a b events) }
     ensures moved_bound { result.moved ≤ out.moved + events }
 {
     if out.short {
@@ -78,7 +78,7 @@ fn put_span(
     last: u32,
 ) -> Out
     requires { (out.moved + 2 ^ 32 < 2 ^ 64) × (base < 2 ^ 31) × (first < max_runs) × (last < max_runs) }
-    ensures steps_after { (result, steps.new) ≡ emit_one (out, steps.old) (span_of starts.now (kind_word kind) base first last) }
+    ensures steps_after { (result, steps.new) ≡ emit_one (out, steps.old) (span_of starts.now kind base first last) }
     ensures moved_bound { result.moved ≤ out.moved + 2 ^ 32 }
 {
     let a = base + first;
@@ -105,7 +105,7 @@ fn stretch_on(
     run: u32,
 ) -> Stretch
     requires { (s.out.moved + 2 ^ 32 < 2 ^ 64) × (base < 2 ^ 31) × (s.first < max_runs) × (s.last < max_runs) × (run < max_runs) }
-    ensures steps_after { (result, steps.new) ≡ stretch_on starts.now (kind_word kind) base (s, steps.old) run }
+    ensures steps_after { (result, steps.new) ≡ stretch_on starts.now kind base (s, steps.old) run }
     ensures moved_bound { (result.out.moved ≤ s.out.moved + 2 ^ 32) × (result.first < max_runs) × (result.last < max_runs) }
 {
     if run == s.last + 1 {
@@ -133,7 +133,7 @@ pub fn put_stretches(
     runs: &[u32],
 ) -> Out
     requires { (out.moved + (length runs.now + 1) * 2 ^ 32 < 2 ^ 64) × (base < 2 ^ 31) × Below max_runs runs.now }
-    ensures steps_after { (result, steps.new) ≡ emit (out, steps.old) (stretches starts.now (kind_word kind) base runs.now) }
+    ensures steps_after { (result, steps.new) ≡ emit (out, steps.old) (stretches starts.now kind base runs.now) }
     ensures moved_bound { result.moved ≤ out.moved + length runs.now * 2 ^ 32 }
 {
     let [first, more @ ..] = runs else {

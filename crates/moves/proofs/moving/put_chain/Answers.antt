@@ -1,6 +1,6 @@
 -- `moves::moving::put_chain` meets its contract: the moves of one chain. Assumes nothing.
 use Rattle.std.proofs.Common.{List, ℕ, ap, ◌∙◌, arith}
-use Rattle.moves.specs.Emit.{kind_word, emit}
+use Rattle.moves.specs.Emit.{emit}
 use Rattle.moves.specs.Stretches.{stretches}
 use Rattle.moves.proofs.ByChain.{runs_slice, runs_none}
 use Rattle.moves.proofs.moving.put_chain.Goals as goal
@@ -8,10 +8,10 @@ use Rattle.moves.proofs.moving.put_chain.Goals as goal
 pub returns-then-hi-lo-clause-steps_after : goal.returns-then-hi-lo-clause-steps_after
 returns-then-hi-lo-clause-steps_after c =
     let a = c.args in
-    runs_none (a.out, a.steps.now) a.starts.now (kind_word a.kind) a.base a.members.now a.begins.now a.from.now a.to.now a.c (omega arith)
+    runs_none (a.out, a.steps.now) a.starts.now a.kind a.base a.members.now a.begins.now a.from.now a.to.now a.c (omega arith)
 
 pub returns-clause-steps_after : goal.returns-clause-steps_after
 returns-clause-steps_after c =
     let a = c.args in
     let read = runs_slice a.members.now a.begins.now a.from.now a.to.now a.c _ _ _ c.item-lo.ensures c.item-hi.ensures c.item-b.ensures in
-    c.put_stretches.ensures.steps_after ∙ ap (λ (l : List ℕ). emit (a.out, a.steps.now) (stretches a.starts.now (kind_word a.kind) a.base l)) read
+    c.put_stretches.ensures.steps_after ∙ ap (λ (l : List ℕ). emit (a.out, a.steps.now) (stretches a.starts.now a.kind a.base l)) read

@@ -1,6 +1,6 @@
 -- `moves::moving::put_moves` meets its contract: the moves of all chains, in order. Assumes nothing.
 use Rattle.std.proofs.Common.{◌-◌, ◌+◌, sym, ap, ◌∙◌, arith}
-use Rattle.moves.specs.Emit.{kind_word, Writing, emit}
+use Rattle.moves.specs.Emit.{Writing, emit}
 use Rattle.moves.specs.Moves.{moves_from}
 use Rattle.moves.proofs.ByChain.{moves_next, moves-none}
 use Rattle.moves.proofs.moving.put_moves.Goals as goal
@@ -12,8 +12,8 @@ loop-c-preserved c =
     let put = c.put_chain-o.ensures in
     record {
       small = omega arith;
-      going_on = ap (λ (w : Writing). emit w (moves_from a.starts.now (kind_word a.kind) a.base a.members.now a.begins.now a.from.now a.to.now (l.c + 1) (a.n - (l.c + 1)))) put.steps_after ∙
-          moves_next (l.o, l.steps) a.starts.now (kind_word a.kind) a.base a.members.now a.begins.now a.from.now a.to.now l.c a.n c.loop-c-test.true ∙ l.invariant.going_on;
+      going_on = ap (λ (w : Writing). emit w (moves_from a.starts.now a.kind a.base a.members.now a.begins.now a.from.now a.to.now (l.c + 1) (a.n - (l.c + 1)))) put.steps_after ∙
+          moves_next (l.o, l.steps) a.starts.now a.kind a.base a.members.now a.begins.now a.from.now a.to.now l.c a.n c.loop-c-test.true ∙ l.invariant.going_on;
     }
 
 pub returns-clause-steps_after : goal.returns-clause-steps_after

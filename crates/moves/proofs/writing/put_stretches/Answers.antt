@@ -1,14 +1,13 @@
 -- `moves::writing::put_stretches` meets its contract: a record for each stretch. Assumes nothing.
 use Rattle.std.proofs.Common.{◌+◌, ◌-◌, List, ℕ, length, get_or, take, drop, ap, ◌∙◌, arith}
 use Rattle.moves.specs.Stretches.{Open, begun}
-use Rattle.moves.specs.Emit.{kind_word}
 use Rattle.moves.proofs.Stretching.{rest, stretch_next, stretch_last, stretch_start, stretch_empty, tail_is, tail_below}
 use Rattle.moves.proofs.writing.put_stretches.Goals as goal
 
 pub returns-in_default-clause-steps_after : goal.returns-in_default-clause-steps_after
 returns-in_default-clause-steps_after c =
     let a = c.args in
-    stretch_empty a.starts.now (kind_word a.kind) a.base (a.out, a.steps.now) a.runs.now (omega arith)
+    stretch_empty a.starts.now a.kind a.base (a.out, a.steps.now) a.runs.now (omega arith)
 
 pub stretch_on-s-requires : goal.stretch_on-s-requires
 stretch_on-s-requires c =
@@ -25,7 +24,7 @@ loop-run-preserved c =
       first = on.moved_bound.1;
       last = on.moved_bound.2;
       small = omega arith;
-      going_on = ap (λ (s : Open). rest a.starts.now (kind_word a.kind) a.base s (drop (l.run-index + 1) more)) on.steps_after ∙ stretch_next a.starts.now (kind_word a.kind) a.base (l.s, l.steps) more l.run-index c.loop-run-test.true ∙
+      going_on = ap (λ (s : Open). rest a.starts.now a.kind a.base s (drop (l.run-index + 1) more)) on.steps_after ∙ stretch_next a.starts.now a.kind a.base (l.s, l.steps) more l.run-index c.loop-run-test.true ∙
           l.invariant.going_on;
     }
 
@@ -33,5 +32,5 @@ pub returns-clause-steps_after : goal.returns-clause-steps_after
 returns-clause-steps_after c =
     let a = c.args in
     let l = c.loop-run in
-    c.put_span.ensures.steps_after ∙ stretch_last a.starts.now (kind_word a.kind) a.base (l.s, l.steps) _ l.run-index c.loop-run-test.false ∙ l.invariant.going_on ∙
-    ap (λ (xs : List ℕ). rest a.starts.now (kind_word a.kind) a.base (begun (a.out, a.steps.now) (get_or a.runs.now 0 0)) xs) (tail_is a.runs.now) ∙ stretch_start a.starts.now (kind_word a.kind) a.base (a.out, a.steps.now) a.runs.now (omega arith)
+    c.put_span.ensures.steps_after ∙ stretch_last a.starts.now a.kind a.base (l.s, l.steps) _ l.run-index c.loop-run-test.false ∙ l.invariant.going_on ∙
+    ap (λ (xs : List ℕ). rest a.starts.now a.kind a.base (begun (a.out, a.steps.now) (get_or a.runs.now 0 0)) xs) (tail_is a.runs.now) ∙ stretch_start a.starts.now a.kind a.base (a.out, a.steps.now) a.runs.now (omega arith)
