@@ -59,6 +59,14 @@ pub fn put_applies(steps: &mut [u32], out: Out, first: u32, end: u32) -> Out
     o
 }
 
+// The runs of a range as steps name them: where the graph's runs start, and the graph's run at which the range begins.
+#[derive(Clone, Copy)]
+pub(crate) struct Runs<'a> {
+    pub(crate) starts: &'a [u32],
+    pub(crate) base: u32,
+    ghost low: { base < 2 ^ 31 },
+}
+
 // The events from one run's start to another's.
 fn span(starts: &[u32], a: u32, b: u32) -> u64
     ensures { (result ≡ get_or starts.now b 0 - get_or starts.now a 0) × (result < 2 ^ 32) }
@@ -67,45 +75,30 @@ fn span(starts: &[u32], a: u32, b: u32) -> u64
     u64::from(item(starts, b as usize, 0).saturating_sub(from))
 }
 
-// A step for the runs `first` to `last` of a range that begins at run `base`.
-fn put_span(
-    steps: &mut [u32],
-    out: Out,
-    starts: &[u32],
-    kind: Kind,
-    base: u32,
-    first: u32,
-    last: u32,
-) -> Out
-    requires { (out.moved + 2 ^ 32 < 2 ^ 64) × (base < 2 ^ 31) × (first < max_runs) × (last < max_runs) }
-    ensures steps_after { (result, steps.new) ≡ emit_one (out, steps.old) (span_of starts.now kind base first last) }
+// A step for the runs `first` to `last`.
+fn put_span(steps: &mut [u32], out: Out, runs: Runs, kind: Kind, first: u32, last: u32) -> Out
+    requires { (out.moved + 2 ^ 32 < 2 ^ 64) × (first < max_runs) × (last < max_runs) }
+    ensures steps_after { (result, steps.new) ≡ emit_one (out, steps.old) (span_of runs.entry.starts.now kind runs.entry.base first last) }
     ensures moved_bound { result.moved ≤ out.moved + 2 ^ 32 }
 {
-    let a = base + first;
-    let b = base + last + 1;
-    let events = span(starts, a, b);
+    let a = runs.base + first;
+    let b = runs.base + last + 1;
+    let events = span(runs.starts, a, b);
     put_step(steps, out, kind, a, b, events)
 }
 
 // A stretch of consecutive runs that is still open, and what is written before it.
 #[derive(Clone, Copy)]
-pub struct Stretch {
-    pub out: Out,
-    pub first: u32,
-    pub last: u32,
+struct Stretch {
+    out: Out,
+    first: u32,
+    last: u32,
 }
 
 // One run more: it goes on with the stretch, or the stretch is written and it begins one.
-fn stretch_on(
-    steps: &mut [u32],
-    s: Stretch,
-    starts: &[u32],
-    kind: Kind,
-    base: u32,
-    run: u32,
-) -> Stretch
-    requires { (s.out.moved + 2 ^ 32 < 2 ^ 64) × (base < 2 ^ 31) × (s.first < max_runs) × (s.last < max_runs) × (run < max_runs) }
-    ensures steps_after { (result, steps.new) ≡ stretch_on starts.now kind base (s, steps.old) run }
+fn stretch_on(steps: &mut [u32], s: Stretch, runs: Runs, kind: Kind, run: u32) -> Stretch
+    requires { (s.out.moved + 2 ^ 32 < 2 ^ 64) × (s.first < max_runs) × (s.last < max_runs) × (run < max_runs) }
+    ensures steps_after { (result, steps.new) ≡ stretch_on runs.entry.starts.now kind runs.entry.base (s, steps.old) run }
     ensures moved_bound { (result.out.moved ≤ s.out.moved + 2 ^ 32) × (result.first < max_runs) × (result.last < max_runs) }
 {
     if run == s.last + 1 {
@@ -115,7 +108,7 @@ fn stretch_on(
             last: run,
         };
     }
-    let out = put_span(steps, s.out, starts, kind, base, s.first, s.last);
+    let out = put_span(steps, s.out, runs, kind, s.first, s.last);
     Stretch {
         out,
         first: run,
@@ -123,20 +116,19 @@ fn stretch_on(
     }
 }
 
-// A step for each stretch of consecutive runs.
-pub fn put_stretches(
+// A step for each stretch of consecutive runs of a list.
+pub(crate) fn put_stretches(
     steps: &mut [u32],
     out: Out,
-    starts: &[u32],
+    runs: Runs,
     kind: Kind,
-    base: u32,
-    runs: &[u32],
+    list: &[u32],
 ) -> Out
-    requires { (out.moved + (length runs.now + 1) * 2 ^ 32 < 2 ^ 64) × (base < 2 ^ 31) × Below max_runs runs.now }
-    ensures steps_after { (result, steps.new) ≡ emit (out, steps.old) (stretches starts.now kind base runs.now) }
-    ensures moved_bound { result.moved ≤ out.moved + length runs.now * 2 ^ 32 }
+    requires { (out.moved + (length list.now + 1) * 2 ^ 32 < 2 ^ 64) × Below max_runs list.now }
+    ensures steps_after { (result, steps.new) ≡ emit (out, steps.old) (stretches runs.entry.starts.now kind runs.entry.base list.now) }
+    ensures moved_bound { result.moved ≤ out.moved + length list.now * 2 ^ 32 }
 {
-    let [first, more @ ..] = runs else {
+    let [first, more @ ..] = list else {
         return out;
     };
     let mut s = Stretch {
@@ -145,7 +137,7 @@ pub fn put_stretches(
         last: *first,
     };
     for run in more {
-        s = stretch_on(steps, s, starts, kind, base, *run);
+        s = stretch_on(steps, s, runs, kind, *run);
     }
-    put_span(steps, s.out, starts, kind, base, s.first, s.last)
+    put_span(steps, s.out, runs, kind, s.first, s.last)
 }

@@ -12,8 +12,8 @@ loop-c-preserved c =
     let put = c.put_chain-o.ensures in
     record {
       small = omega arith;
-      going_on = ap (λ (w : Writing). emit w (moves_from a.starts.now a.kind a.base a.members.now a.begins.now a.from.now a.to.now (l.c + 1) (a.n - (l.c + 1)))) put.steps_after ∙
-          moves_next (l.o, l.steps) a.starts.now a.kind a.base a.members.now a.begins.now a.from.now a.to.now l.c a.n c.loop-c-test.true ∙ l.invariant.going_on;
+      going_on = ap (λ (w : Writing). emit w (moves_from a.runs.starts.now a.kind a.runs.base a.chains.members.now a.chains.begins.now a.from.now a.to.now (l.c + 1) (a.n - (l.c + 1)))) put.steps_after ∙
+          moves_next (l.o, l.steps) a.runs.starts.now a.kind a.runs.base a.chains.members.now a.chains.begins.now a.from.now a.to.now l.c a.n c.loop-c-test.true ∙ l.invariant.going_on;
     }
 
 pub returns-clause-steps_after : goal.returns-clause-steps_after

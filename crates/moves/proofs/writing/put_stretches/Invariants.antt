@@ -8,5 +8,5 @@ invariant-loop-run l = record {
   first : l.s.first < 512;
   last : l.s.last < 512;
   small : l.s.out.moved ≤ l.initial.s.out.moved + l.run-index * 2 ^ 32;
-  going_on : rest l.starts l.kind l.base (l.s, l.steps) (drop l.run-index l.more) ≡ rest l.starts l.kind l.base (l.initial.s, l.initial.steps) l.more;
+  going_on : rest l.runs.starts.now l.kind l.runs.base (l.s, l.steps) (drop l.run-index l.more) ≡ rest l.runs.starts.now l.kind l.runs.base (l.initial.s, l.initial.steps) l.more;
 }
