@@ -12,6 +12,7 @@ ghost use Rattle.tables.specs.Covers.{cover_words, Weighable, Weighted};
 ghost use Rattle.tables.specs.Sizes.{Inside, Sized};
 
 use crate::covers::CoverWord;
+use crate::distance::Sums;
 use crate::rows::Area;
 use crate::{children, covers, distance, groups, members, rows};
 
@@ -180,13 +181,10 @@ pub fn sizes(
     let w = n + 1;
     let d = 4 * w;
     let e = 5 * w;
-    distance::sizes_of(
-        sizes,
-        &before[..w],
-        &tables[d..e],
-        &tables[..w],
-        rows,
-        n,
+    let sums = Sums {
+        before: &before[..w],
+        begins: &tables[d..e],
         chains,
-    );
+    };
+    distance::sizes_of(&mut sizes[..n], sums, &tables[..w], rows);
 }

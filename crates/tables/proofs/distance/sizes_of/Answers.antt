@@ -9,5 +9,5 @@ unfolding part
 loop-r-preserved c =
     let a = c.args in
     let l = c.loop-r in
-    let within : l.r < length l.size-items = omega arith in
-    sized_next a.before.now a.begins.now a.starts.now a.rows.now l.size-items a.chains l.r _ within l.invariant cc
+    let within : l.r < length l.sizes = omega arith in
+    sized_next a.sums.before.now a.sums.begins.now a.starts.now a.rows.now l.sizes a.sums.chains l.r _ within l.invariant cc
