@@ -16,39 +16,36 @@ pub fn join(row: &mut [u32], theirs: &[u32])
     }
 }
 
-// A parent's row, and the parent itself, joined into the row being made.
-fn join_parent<'a>(
-    row: &mut [u32],
-    rows: &[u32],
+// The rows so far: their words, where each run's row starts, each run's chain and its place along it.
+#[derive(Clone, Copy)]
+struct Rows<'a> {
+    words: &'a [u32],
     starts: &'a [u32],
     chain: &'a [u32],
     place: &'a [u32],
-    p: usize,
-)
-    requires { Fine (length row.old) rows.now starts.now chain.now place.now p }
-    ensures { row.new ≡ join_parent rows.now starts.now chain.now place.now row.old p }
-{
-    let s = item(starts, p, 0) as usize;
-    let e = item(starts, p + 1, 0) as usize;
-    join(row, &rows[s..e]);
-    let k = item(chain, p, 0) as usize;
-    row[k] = row[k].max(item(place, p, 0) + 1);
 }
 
-// All parents.
-fn join_all<'a>(
-    row: &mut [u32],
-    rows: &[u32],
-    starts: &'a [u32],
-    chain: &'a [u32],
-    place: &'a [u32],
-    parents: &[u32],
-)
-    requires { FineAll (length row.old) rows.now starts.now chain.now place.now parents.now }
-    ensures { row.new ≡ join_all rows.now starts.now chain.now place.now row.old parents.now }
-{
-    for p in parents {
-        join_parent(row, rows, starts, chain, place, *p as usize);
+impl<'a> Rows<'a> {
+    // A parent's row, and the parent itself, joined into the row being made.
+    fn join_parent(self, row: &mut [u32], p: usize)
+        requires { Fine (length row.old) self.words.now self.starts.now self.chain.now self.place.now p }
+        ensures { row.new ≡ join_parent self.entry.words.now self.entry.starts.now self.entry.chain.now self.entry.place.now row.old p }
+    {
+        let s = item(self.starts, p, 0) as usize;
+        let e = item(self.starts, p + 1, 0) as usize;
+        join(row, &self.words[s..e]);
+        let k = item(self.chain, p, 0) as usize;
+        row[k] = row[k].max(item(self.place, p, 0) + 1);
+    }
+
+    // All parents.
+    fn join_all(self, row: &mut [u32], parents: &[u32])
+        requires { FineAll (length row.old) self.words.now self.starts.now self.chain.now self.place.now parents.now }
+        ensures { row.new ≡ join_all self.entry.words.now self.entry.starts.now self.entry.chain.now self.entry.place.now row.old parents.now }
+    {
+        for p in parents {
+            self.join_parent(row, *p as usize);
+        }
     }
 }
 
@@ -102,15 +99,14 @@ fn lay_run(
     let b = 2 * w;
     let c = 3 * w;
     let d = 4 * w;
+    let laid = Rows {
+        words: rows,
+        starts: &tables[0..w],
+        chain: &tables[w..b],
+        place: &tables[b..c],
+    };
     row.fill(0);
-    join_all(
-        row,
-        rows,
-        &tables[0..w],
-        &tables[w..b],
-        &tables[b..c],
-        parents,
-    );
+    laid.join_all(row, parents);
     let k = find_spot(row, &tables[c..d], area.chains);
     let width = area.chains.max(k + 1);
     let used = area.used;

@@ -1,7 +1,0 @@
--- `tables::rows::join_all` meets its contract: all parents joined in. Assumes nothing.
-use Rattle.std.proofs.Common.{◌≡◌, drop}
-use Rattle.tables.specs.Lay.{join_all}
-use Rattle.tables.proofs.rows.join_all.Given as goal
-
-abbrev pub invariant-loop-p : goal.invariant-loop-p
-invariant-loop-p l = join_all l.rows l.starts l.chain l.place l.row (drop l.p-index l.parents) ≡ join_all l.rows l.starts l.chain l.place l.initial.row l.parents
