@@ -176,9 +176,9 @@ TABLES = [
     ("walking::walk", "a chain for each run", "each_run_a_chain"),
     ("walking::walk", "no row is written", "rows.rt", "store(rows, used, row, width);", "store(rows, used, row, 0);"),
     ("walking::walk", "13 though the rows just fit", "rows.rt", "if rows.len() < used + width {", "if rows.len() <= used + width {"),
-    ("walking::walk", "a cover is not joined with its children's", "covers.rt", "&children[s..e]", "&children[s..s]"),
-    ("walking::walk", "a cover's last bit rounded down", "covers.rt", "(x + (y - 1)) / y", "(x + (y - y)) / y"),
-    ("walking::walk", "128 bits to a cover", "covers.rt", "div_up(events, COVER_BITS)", "div_up(events, 128)"),
+    ("walking::walk", "a cover is not joined with its children's", "covers.rt", "kids.row(r)", "&kids.row(r)[0..0]"),
+    ("walking::walk", "a cover's last bit rounded down", "covers.rt", "offset_of(starts, r + 1).div_ceil(per)", "(offset_of(starts, r + 1) / per).div_ceil(1)"),
+    ("walking::walk", "128 bits to a cover", "covers.rt", "events.div_ceil(COVER_BITS)", "events.div_ceil(128)"),
     ("walking::walk", "the range's first run is nobody's parent", "groups.rt", "if p < a {", "if p <= a {"),
 ]
 

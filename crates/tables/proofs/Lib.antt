@@ -1,5 +1,6 @@
 -- The laws behind a range's tables.
 -- Lists in one area
+pub mod JaggedRows
 pub mod Laning
 pub mod Scratch
 -- Chains and rows of a range
