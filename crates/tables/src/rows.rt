@@ -4,6 +4,7 @@ ghost use Rattle.model.specs.Limits.{max_runs, max_starts};
 ghost use Rattle.tables.specs.Lay.{join_of, raised, join_parent, join_all, spot_from, Fine, FineAll, Safe, place_in, lay_of};
 ghost use Rattle.tables.specs.Laid.{grouped, Sound, chains_of, LaidOut};
 
+use crate::jagged::Jagged;
 use crate::words::item;
 
 // Elementwise the larger of the two, in the row being made.
@@ -139,11 +140,10 @@ pub fn lay<'a>(
 {
     let d = 4 * (n + 1);
     tables[..d].fill(0);
+    let parents = Jagged::new(starts, items, n);
     let mut area = Area { chains: 0, used: 0 };
     for r in 0..n {
-        let s = item(starts, r, 0) as usize;
-        let e = item(starts, r + 1, 0) as usize;
-        area = lay_run(rows, tables, row, n + 1, area, r, &items[s..e])?;
+        area = lay_run(rows, tables, row, n + 1, area, r, parents.row(r))?;
     }
     Some(area)
 }
