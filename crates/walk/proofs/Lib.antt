@@ -1,6 +1,8 @@
 -- The laws behind a walk.
 -- A range of a graph's runs by the graph's arrays
 pub mod Arrays
+-- Counts, by the library and by the definitions
+pub mod Counting
 -- The choice
 pub mod Weighing
 pub mod OnlyParent

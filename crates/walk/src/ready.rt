@@ -6,30 +6,13 @@ ghost use Rattle.walk.specs.Readiness.{start_of, start_all, wake_of, wake_all, w
 
 use tables::words::{get, wide};
 
-// 1 for a parent that is not known.
-fn unknown(p: u32, known: u32) -> u32
-    ensures value { result ≡ bit (leb known p) }
-    ensures upper_bound { result ≤ 1 }
-{
-    if known <= p {
-        return 1;
-    }
-    0
-}
-
 // How many of a run's parents are not known.
 fn count_unknown(parents: &[u32], known: u32) -> u32
     requires { length parents.now ≤ 2 ^ 31 }
     ensures value { result ≡ count (λ p. leb known p) parents.now }
     ensures upper_bound { result ≤ 2 ^ 31 }
 {
-    let mut w: u32 = 0;
-    let mut i = 0;
-    while i < parents.len() {
-        w += unknown(parents[i], known);
-        i += 1;
-    }
-    w
+    parents.iter().filter(|p| known <= **p).count() as u32
 }
 
 // 1 for a run that waits until the runs before `first` are visited.
@@ -37,13 +20,7 @@ fn held_back(r: u32, known: u32, first: u32) -> u32
     ensures value { result ≡ bit (ltb known first && leb first r) }
     ensures upper_bound { result ≤ 1 }
 {
-    if first <= known {
-        return 0;
-    }
-    if r < first {
-        return 0;
-    }
-    1
+    u32::from(known < first && first <= r)
 }
 
 // What run r waits for at the start; at none, it is ready unless it is known.
@@ -87,12 +64,10 @@ pub(crate) fn start_all<'a>(
     ensures { (result, waiting.new, ready.new) ≡ start_all known first (0, waiting.old, ready.old) 0 (grouped heads.now items.now n) }
 {
     let mut got = 0;
-    let mut r = 0;
-    while r < n {
+    for r in 0..n {
         let s = wide(get(heads, r));
         let e = wide(get(heads, r + 1));
         got = start_run(waiting, ready, got, r as u32, &items[s..e], known, first);
-        r += 1;
     }
     got
 }
@@ -125,10 +100,8 @@ fn wake_all(waiting: &mut [u32], ready: &mut [u32], n: usize, children: &[u32]) 
     ensures { (result, waiting.new, ready.new) ≡ wake_all (n, waiting.old, ready.old) children.now }
 {
     let mut m = n;
-    let mut i = 0;
-    while i < children.len() {
-        m = wake(waiting, ready, m, children[i]);
-        i += 1;
+    for child in children {
+        m = wake(waiting, ready, m, *child);
     }
     m
 }
@@ -138,10 +111,8 @@ fn wake_range(waiting: &mut [u32], ready: &mut [u32], n: usize, a: u32, e: u32) 
     ensures { (result, waiting.new, ready.new) ≡ wake_all (n, waiting.old, ready.old) (from a (e - a)) }
 {
     let mut m = n;
-    let mut x = a;
-    while x < e {
+    for x in a..e {
         m = wake(waiting, ready, m, x);
-        x += 1;
     }
     m
 }
@@ -190,9 +161,5 @@ pub(crate) fn remove(ready: &mut [u32], n: usize, at: usize)
     requires { (at < n) × (n ≤ length ready.old) }
     ensures { ready.new ≡ taken_out ready.old n at }
 {
-    let mut i = at;
-    while i < n - 1 {
-        ready[i] = ready[i + 1];
-        i += 1;
-    }
+    ready.copy_within(at + 1..n, at);
 }
