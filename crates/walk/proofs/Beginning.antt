@@ -1,6 +1,8 @@
 -- What a walk's start needs of its tables, and that it then begins. Assumes nothing.
 use mathlib.Core.Path.{◌≡◌, refl, ap, ◌∙◌}
 use mathlib.Core.List.{List}
+use Rattle.std.specs.Prelude.{None}
+use Rattle.moves.specs.declared.writing.Out.{Out}
 use Prim.Native.Nat.{ℕ, ◌+◌, ◌-◌, ◌*◌, ◌≤◌, ◌<◌, ◌^◌}
 use native.Mathlib.Omega.{arith}
 use lib.ListN.{length, get_or, take, drop, length-take}
@@ -44,12 +46,12 @@ module _ (g : Given) (P : Prepared g) where
   )
 
   -- Both: the walk begins
-  pub begins : (waiting₀ ready₀ : List ℕ) {count moved short left : ℕ} {steps current waiting ready : List ℕ} {m k : ℕ} → k ≡ g.known → left ≡ g.first - g.known →
+  pub begins : (waiting₀ ready₀ : List ℕ) {out : Out} {left : ℕ} {steps current waiting ready : List ℕ} {m k : ℕ} → k ≡ g.known → left ≡ g.first - g.known →
       ((c : ℕ) → c < g.chains → get_or current c 0 ≡ started (take (2 * (g.runs + 1) - (g.runs + 1)) (drop (g.runs + 1) g.tables)) (take (3 * (g.runs + 1) - 2 * (g.runs + 1)) (drop (2 * (g.runs + 1)) g.tables)) k c) →
       512 ≤ length current → length waiting₀ ≡ g.runs → 512 ≤ length ready₀ →
       (m, waiting, ready) ≡ start_all g.known g.first (0, waiting₀, ready₀) 0 (grouped (take (g.runs + 1 - 0) g.groups) (take (length g.groups - (g.runs + 1)) (drop (g.runs + 1) g.groups)) g.runs) →
-      Begun g (record { count = count; moved = moved; short = short; ready = m; left = left; last = 0 }, steps, current, waiting, ready)
-  begins waiting₀ ready₀ {count} {moved} {short} {left} {steps} {current} {waiting} {ready} {m} {k} e l h room w r s = record {
+      Begun g (record { out = out; ready = m; left = left; last = None }, steps, current, waiting, ready)
+  begins waiting₀ ready₀ {out} {left} {steps} {current} {waiting} {ready} {m} {k} e l h room w r s = record {
     version = λ c lt. h c lt ∙ (unfold chains_in places_in in (started_lent g.runs g.known g.tables k c e));
     room = omega (arith, few-chains, room);
     waiting₀ = waiting₀;

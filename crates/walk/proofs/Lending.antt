@@ -1,13 +1,12 @@
 -- The lists of a range's tables as they are lent: parts of one area. Assumes nothing.
 use mathlib.Core.Path.{◌≡◌, refl, sym, ap, ◌∙◌}
-use mathlib.Core.Bool.{Bool, not}
 use mathlib.Core.List.{List}
+use Rattle.std.specs.Prelude.{Option, None}
 use Prim.Native.Nat.{ℕ, ◌+◌, ◌-◌, ◌*◌, ◌≤◌, ◌<◌, ◌^◌, min}
 use native.Mathlib.Nat.{zero-mul}
 use native.Mathlib.Omega.{arith}
 use lib.ListN.{length, get_or, take, drop, length-drop, length-take}
 use lib.Seq.{take-length}
-use lib.Dec.{eqb}
 use Rattle.lists.specs.Areas.{part}
 use Rattle.tables.specs.Lanes.{lane}
 use Rattle.tables.specs.Laid.{heads_in, items_in, grouped, Sound}
@@ -16,7 +15,7 @@ use Rattle.tables.specs.Reached.{started, arrived, Standing}
 use Rattle.tables.proofs.Laning.{lane_lent, lane_get_d, lane-length}
 use Rattle.moves.specs.Moves.{Inside, visit_of}
 use Rattle.walk.specs.declared.choice.Best.{Best}
-use Rattle.walk.specs.Choose.{only_c, cost_c, weight_c, scan_c, start, AllTabled}
+use Rattle.walk.specs.Choose.{only_c, cost_c, weight_c, scan_c, AllTabled}
 use Rattle.walk.specs.Turns.{best_by, AllSmall, AllInside}
 
 -- The first w words
@@ -58,12 +57,12 @@ module _ (n chains : ℕ) (rows groups tables before : List ℕ) where
   sums_lent h = rw (front n before) h
 
   -- What it finds
-  pub best_lent : (current ready : List ℕ) (m last l : ℕ) (any : Bool) (b : Best) → any ≡ not (eqb last 0) → l ≡ last - 1 →
-      b ≡ scan_c (only_c (take (w - 0) groups) (take (length groups - w) (drop w groups)) any l)
-      (cost_c (take (w - 0) before) (take (5 * w - 4 * w) (drop (4 * w) tables)) current rows (take (w - 0) tables) chains) (weight_c (take (8 * w - 7 * w) (drop (7 * w) tables))) ready m 0 (min 64 m) start →
+  pub best_lent : (current ready : List ℕ) (m : ℕ) (last : Option ℕ) (b : Option Best) →
+      b ≡ scan_c (only_c (take (w - 0) groups) (take (length groups - w) (drop w groups)) last)
+      (cost_c (take (w - 0) before) (take (5 * w - 4 * w) (drop (4 * w) tables)) current rows (take (w - 0) tables) chains) (weight_c (take (8 * w - 7 * w) (drop (7 * w) tables))) ready m 0 (min 64 m) None →
       b ≡ best_by n chains rows groups tables before current ready m last
   unfolding best_by
-  best_lent current ready m last l any b p q e = e ∙ rw (p, q, front n before, fifth n tables, first_lane n tables, heads_are n groups, items_are n groups, eighth n tables)
+  best_lent current ready m last b e = e ∙ rw (front n before, fifth n tables, first_lane n tables, heads_are n groups, items_are n groups, eighth n tables)
 
 -- A word of the k-th list, where the code reads it
 pub word_at : (k n r i : ℕ) (t : List ℕ) → r < n + 1 → i ≡ k * (n + 1) + r → get_or t i 0 ≡ get_or (lane k (n + 1) t) r 0

@@ -1,11 +1,10 @@
 -- The laws behind a walk.
 -- A range of a graph's runs by the graph's arrays
 pub mod Arrays
--- Counts, by the library and by the definitions
-pub mod Counting
+-- Words of the definitions and of the library
+pub mod Library
 -- The choice
 pub mod Weighing
-pub mod OnlyParent
 pub mod Newest
 pub mod Viewing
 pub mod Chosen

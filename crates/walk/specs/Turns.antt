@@ -1,5 +1,5 @@
 -- One visit of a walk, by the tables of its range. Assumes nothing.
-use Rattle.std.specs.Prelude.{◌≡◌, true, not, List, ℕ, ◌+◌, ◌-◌, ◌*◌, ◌≤◌, ◌<◌, ◌^◌, min, length, get_or, take, eqb}
+use Rattle.std.specs.Prelude.{◌≡◌, true, Option, Some, None, List, ℕ, ◌+◌, ◌-◌, ◌*◌, ◌≤◌, ◌<◌, ◌^◌, min, length, get_or, take}
 use Rattle.lists.specs.Lists.{rising}
 use Rattle.lists.specs.Areas.{part}
 use Rattle.model.specs.Limits.{max_runs, max_weighed}
@@ -10,13 +10,12 @@ use Rattle.tables.specs.Laid.{heads_in, items_in, grouped, Sound, chs, chain_of,
 use Rattle.tables.specs.Tables.{Listed, Sums, Children}
 use Rattle.tables.specs.Sizes.{Bounded, row_in, Sized}
 use Rattle.tables.specs.Reached.{started, arrived, Holds}
-use Rattle.moves.specs.declared.writing.Out.{Out}
 use Rattle.moves.specs.Emit.{emit}
 use Rattle.moves.specs.Moves.{Inside, visit_of}
 use Rattle.walk.specs.declared.choice.Best.{Best}
 use Rattle.walk.specs.declared.visiting.Progress.{Progress}
 use Rattle.walk.specs.Ranges.{range_by, offsets}
-use Rattle.walk.specs.Choose.{only_c, cost_c, weight_c, scan_c, start, AllTabled}
+use Rattle.walk.specs.Choose.{index_of, only_c, cost_c, weight_c, scan_c, AllTabled}
 use Rattle.walk.specs.Readiness.{start_all, woken_of, left_after, taken_out}
 
 -- What a walk is given: where the graph's runs start, the range's rows and tables, its first run, how many runs and chains it has, how
@@ -71,31 +70,28 @@ children_for g r = part (get_or (child_starts g) r 0) (get_or (child_starts g) (
 abbrev pub Turn : Type 0
 Turn = Progress × List ℕ × List ℕ × List ℕ × List ℕ
 
-abbrev pub out_in : Progress → Out
-out_in p = record { count = p.count; moved = p.moved; short = p.short }
-
--- The best of the first m ready runs, by the range's lists; `last` is the last run visited plus 1, or 0
-unfoldable pub best_by : ℕ → ℕ → List ℕ → List ℕ → List ℕ → List ℕ → List ℕ → List ℕ → ℕ → ℕ → Best
+-- The best of the first m ready runs, by the range's lists; `last` is the last run visited, if there is one
+unfoldable pub best_by : ℕ → ℕ → List ℕ → List ℕ → List ℕ → List ℕ → List ℕ → List ℕ → ℕ → Option ℕ → Option Best
 best_by n chains rows groups tables before current ready m last =
-    scan_c (only_c (heads_in n groups) (items_in n groups) (not (eqb last 0)) (last - 1))
-    (cost_c (take (n + 1) before) (lane 4 (n + 1) tables) current rows (lane 0 (n + 1) tables) chains) (weight_c (lane 7 (n + 1) tables)) ready m 0 (min max_weighed m) start
+    scan_c (only_c (heads_in n groups) (items_in n groups) last)
+    (cost_c (take (n + 1) before) (lane 4 (n + 1) tables) current rows (lane 0 (n + 1) tables) chains) (weight_c (lane 7 (n + 1) tables)) ready m 0 (min max_weighed m) None
 
-unfoldable pub best_in : Given → Turn → Best
+unfoldable pub best_in : Given → Turn → Option Best
 best_in g t = best_by g.runs g.chains g.rows g.groups g.tables g.before t.2 t.4 t.0.ready t.0.last
 
 -- The run that is visited
 unfoldable pub run_at : Given → Turn → ℕ
-run_at g t = get_or t.4 (best_in g t).at 0
+run_at g t = get_or t.4 (index_of (best_in g t)) 0
 
 -- A visit takes a walk from t to u
 pub record Turned (g : Given) (t u : Turn) : Type 0 where
-  pub written : (out_in u.0, u.1) ≡ emit (out_in t.0, t.1) (visit_of g.starts g.base (members_in g) (begins_in g) t.2 (row_for g (run_at g t)) g.chains (run_at g t))
+  pub written : (u.0.out, u.1) ≡ emit (t.0.out, t.1) (visit_of g.starts g.base (members_in g) (begins_in g) t.2 (row_for g (run_at g t)) g.chains (run_at g t))
   pub version : Holds (arrived (row_for g (run_at g t)) (get_or (chains_in g) (run_at g t) 0) (get_or (places_in g) (run_at g t) 0)) g.chains u.2
-  pub woken : (u.0.ready, u.3, u.4) ≡ woken_of (t.0.ready - 1, t.3, taken_out t.4 t.0.ready (best_in g t).at) (children_for g (run_at g t)) (run_at g t) g.known g.first g.runs t.0.left
+  pub woken : (u.0.ready, u.3, u.4) ≡ woken_of (t.0.ready - 1, t.3, taken_out t.4 t.0.ready (index_of (best_in g t))) (children_for g (run_at g t)) (run_at g t) g.known g.first g.runs t.0.left
   pub left : u.0.left ≡ left_after (run_at g t) g.known g.first t.0.left
-  pub last : u.0.last ≡ run_at g t + 1
+  pub last : u.0.last ≡ Some (run_at g t)
   pub size : length u.2 ≡ length t.2
-  pub moved : u.0.moved ≤ t.0.moved + 2 ^ 52
+  pub moved : u.0.out.moved ≤ t.0.out.moved + 2 ^ 52
 
 -- Members are run numbers, and what a version has of each of n chains lies in the members
 abbrev pub AllSmall : List ℕ → Type 0
@@ -112,13 +108,12 @@ pub record Fit (g : Given) (t : Turn) : Type 0 where
   pub tables : 8 * (g.runs + 1) ≤ length g.tables
   pub groups : g.runs + 1 ≤ length g.groups
   pub before : g.runs + 1 ≤ length g.before
-  pub last : t.0.last ≤ max_runs
   pub some : 0 < t.0.ready
   pub ready : t.0.ready ≤ length t.4
-  pub below : (best_in g t).at < t.0.ready
+  pub below : index_of (best_in g t) < t.0.ready
   pub sums : Bounded (2 ^ 41) (sums_in g)
   pub tabled : AllTabled t.4 t.0.ready (sums_in g) (begins_in g) g.rows (row_starts g) g.chains (heads_in g.runs g.groups) (items_in g.runs g.groups) g.sizes
-  pub moved : t.0.moved + 2 ^ 52 < 2 ^ 63
+  pub moved : t.0.out.moved + 2 ^ 52 < 2 ^ 63
   pub run : run_at g t < g.runs
   pub members : AllSmall (members_in g)
   pub from : AllInside (members_in g) (begins_in g) t.2 g.chains
@@ -172,4 +167,4 @@ pub record Begun (g : Given) (t : Turn) : Type 0 where
   pub readies : g.runs ≤ length ready₀
   pub wakes : (t.0.ready, t.3, t.4) ≡ start_all g.known g.first (0, waiting₀, ready₀) 0 (parents_for g)
   pub left : t.0.left ≡ g.first - g.known
-  pub last : t.0.last ≡ 0
+  pub last : t.0.last ≡ None

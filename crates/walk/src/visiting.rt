@@ -9,9 +9,9 @@ ghost use Rattle.moves.specs.Emit.{emit};
 ghost use Rattle.moves.specs.Moves.{visit_of, recs};
 ghost use Rattle.model.specs.Limits.{max_runs};
 ghost use Rattle.model.specs.Steps.{steps_of};
-ghost use Rattle.walk.specs.Choose.{AllTabled};
+ghost use Rattle.walk.specs.Choose.{index_of, AllTabled};
 ghost use Rattle.walk.specs.Readiness.{woken_of, left_after};
-ghost use Rattle.walk.specs.Turns.{out_in, best_by, AllSmall, AllInside, Turned, Fit, range_for, Prepared, Begun};
+ghost use Rattle.walk.specs.Turns.{best_by, AllSmall, AllInside, Turned, Fit, range_for, Prepared, Begun};
 
 use crate::ready::Woken;
 use crate::{choice, ready};
@@ -21,15 +21,13 @@ use moves::writing::Out;
 use tables::versions;
 use tables::words::{get, wide};
 
-// How far a walk is: what is written, how many runs are ready, how many of the first are left, and the last run visited plus 1.
+// How far a walk is: what is written, how many runs are ready, how many of the first are left, and the last run visited.
 #[derive(Clone, Copy)]
 pub(crate) struct Progress {
-    pub(crate) count: u64,
-    pub(crate) moved: u64,
-    pub(crate) short: u64,
+    pub(crate) out: Out,
     pub(crate) ready: usize,
     pub(crate) left: usize,
-    pub(crate) last: u64,
+    pub(crate) last: Option<u32>,
 }
 
 fn zeros() -> [u32; MAX_RUNS]
@@ -38,21 +36,10 @@ fn zeros() -> [u32; MAX_RUNS]
     [0; MAX_RUNS]
 }
 
-// One less, and 0 of 0.
-fn one_less(x: u64) -> u32
-    requires { x ≤ max_runs }
-    ensures { result ≡ x - 1 }
-{
-    if x == 0 {
-        return 0;
-    }
-    (x - 1) as u32
-}
-
 // Where the run to visit next stands in the ready list.
 fn choose<'a>(
     m: usize,
-    last: u64,
+    last: Option<u32>,
     n: usize,
     chains: usize,
     rows: &[u32],
@@ -63,18 +50,17 @@ fn choose<'a>(
     current: &[u32],
     ready: &[u32],
 ) -> usize
-    requires n_le_max_runs { (n ≤ max_runs) × (chains ≤ max_runs) × (last ≤ max_runs) × (8 * (n + 1) ≤ length tables.now) × (n + 1 ≤ length groups.now) × (n + 1 ≤ length before.now) }
+    requires n_le_max_runs { (n ≤ max_runs) × (chains ≤ max_runs) × (8 * (n + 1) ≤ length tables.now) × (n + 1 ≤ length groups.now) × (n + 1 ≤ length before.now) }
     requires bounded { Bounded (2 ^ 41) (take (n + 1) before.now) }
     requires all_tabled { AllTabled ready.now m (take (n + 1) before.now) (lane 4 (n + 1) tables.now) rows.now (lane 0 (n + 1) tables.now) chains (heads_in n groups.now)
         (items_in n groups.now) sizes.now }
-    ensures { result ≡ (best_by n chains rows.now groups.now tables.now before.now current.now ready.now m last).at }
+    ensures { result ≡ index_of (best_by n chains rows.now groups.now tables.now before.now current.now ready.now m last) }
 {
     let w = n + 1;
     let d = 4 * w;
     let e = 5 * w;
     let g = 7 * w;
     let h = 8 * w;
-    let any = last != 0;
     let best = choice::nearest(
         ready,
         m,
@@ -88,10 +74,12 @@ fn choose<'a>(
         &groups[w..],
         &tables[g..h],
         sizes,
-        any,
-        one_less(last),
+        last,
     );
-    best.at
+    match best {
+        Some(b) => b.at,
+        None => 0,
+    }
 }
 
 // The steps of a run's visit, and the version after it.
@@ -237,13 +225,8 @@ fn visit_next<'a>(
     );
     let run = get(ready, at);
     ready::remove(ready, m, at);
-    let out = Out {
-        count: s.count,
-        moved: s.moved,
-        short: s.short,
-    };
-    let o = visit(
-        out, run, base, n, chains, starts, rows, tables, steps, current,
+    let out = visit(
+        s.out, run, base, n, chains, starts, rows, tables, steps, current,
     );
     let woken = wake(
         m - 1,
@@ -258,16 +241,14 @@ fn visit_next<'a>(
         ready,
     );
     Progress {
-        count: o.count,
-        moved: o.moved,
-        short: o.short,
+        out,
         ready: woken.ready,
         left: woken.left,
-        last: run as u64 + 1,
+        last: Some(run),
     }
 }
 
-// All visits of a walk that begins. `most` counts them down: no run is visited twice.
+// All visits of a walk that begins: at most one of each run, since no run is visited twice.
 fn visit_all<'a>(
     begun: Progress,
     base: EventRunIndex,
@@ -315,8 +296,8 @@ fn visit_all<'a>(
       known = known;
       first = first;
     }) (begun, steps.old, current.old, waiting.old, ready.old) }
-    requires n_bound { begun.moved + (n + 1) * 2 ^ 52 < 2 ^ 63 }
-    ensures steps_after { (out_in result, steps.new) ≡ emit (out_in begun, steps.old)
+    requires n_bound { begun.out.moved + (n + 1) * 2 ^ 52 < 2 ^ 63 }
+    ensures steps_after { (result.out, steps.new) ≡ emit (begun.out, steps.old)
         (recs starts.now (steps_of (range_for (record {
           starts = starts.now;
           rows = rows.now;
@@ -331,16 +312,17 @@ fn visit_all<'a>(
           known = known;
           first = first;
         })) base.0 known first)) }
-    ensures moved_bound { result.moved ≤ begun.moved + n * 2 ^ 52 }
+    ensures moved_bound { result.out.moved ≤ begun.out.moved + n * 2 ^ 52 }
 {
     let mut s = begun;
-    let mut most = n;
-    while 0 < s.ready {
+    for _ in 0..n {
+        if s.ready == 0 {
+            break;
+        }
         s = visit_next(
             s, base, n, chains, known, first, starts, rows, groups, tables, before, sizes,
             children, steps, current, waiting, ready,
         );
-        most -= 1;
     }
     s
 }
@@ -404,22 +386,16 @@ fn visits_in<'a>(
     versions::start_version(current, &tables[w..b], &tables[b..c], chains, wide(known));
     let got = ready::start_all(waiting, ready, &groups[0..w], &groups[w..], n, known, first);
     let begun = Progress {
-        count: out.count,
-        moved: out.moved,
-        short: out.short,
+        out,
         ready: got,
         left: wide(first - known),
-        last: 0,
+        last: None,
     };
     let s = visit_all(
         begun, base, n, chains, known, first, starts, rows, groups, tables, before, sizes,
         children, steps, current, waiting, ready,
     );
-    Out {
-        count: s.count,
-        moved: s.moved,
-        short: s.short,
-    }
+    s.out
 }
 
 // The same with work areas of its own: the walk of the range, after the steps written before.

@@ -1,6 +1,6 @@
 -- `walk::visiting::choose` meets its contract: the place of the best of the last ready runs. Assumes nothing.
-use mathlib.Core.Path.{refl, ap}
-use Rattle.walk.specs.declared.choice.Best.{Best}
+use Rattle.std.proofs.Common.{ap, sym, ◌∙◌}
+use Rattle.walk.specs.Choose.{index_of}
 use Rattle.walk.proofs.Lending.{sums_lent, tabled_lent, best_lent}
 use Rattle.walk.proofs.visiting.choose.Goals as goal
 
@@ -10,7 +10,12 @@ nearest-best-requires c =
     let p = c.requires in
     (p.n_le_max_runs.1, sums_lent a.n a.chains a.rows.now a.groups.now a.tables.now a.before.now p.bounded, tabled_lent a.n a.chains a.rows.now a.groups.now a.tables.now a.before.now a.ready.now a.m a.sizes.now p.all_tabled)
 
-pub returns : goal.returns
-returns c =
+pub returns-in-Some : goal.returns-in-Some
+returns-in-Some c =
     let a = c.args in
-    ap (λ (x : Best). x.at) (best_lent a.n a.chains a.rows.now a.groups.now a.tables.now a.before.now a.current.now a.ready.now a.m a.last _ _ c.nearest-best.result refl c.one_less.ensures c.nearest-best.ensures)
+    ap index_of (sym c.in-Some.is) ∙ ap index_of (best_lent a.n a.chains a.rows.now a.groups.now a.tables.now a.before.now a.current.now a.ready.now a.m a.last c.nearest-best.result c.nearest-best.ensures)
+
+pub returns-in-None : goal.returns-in-None
+returns-in-None c =
+    let a = c.args in
+    ap index_of (sym c.in-None.is) ∙ ap index_of (best_lent a.n a.chains a.rows.now a.groups.now a.tables.now a.before.now a.current.now a.ready.now a.m a.last c.nearest-best.result c.nearest-best.ensures)
