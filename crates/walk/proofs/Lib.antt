@@ -17,6 +17,7 @@ pub mod Waking
 pub mod Telling
 pub mod Removing
 pub mod Starting
+pub mod Keeping
 -- The loop: `first` within the range, and turn by turn
 pub mod Clamping
 pub mod Turning
@@ -24,8 +25,8 @@ pub mod Turning
 pub mod Looping
 pub mod Looped
 pub mod Lending
+pub mod Reading
 pub mod Stepping
-pub mod Beginning
 -- A range prepared
 pub mod Kinship
 pub mod Preparing

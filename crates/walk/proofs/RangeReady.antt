@@ -23,7 +23,7 @@ use Rattle.tables.proofs.Laning.{lane-length}
 use Rattle.tables.proofs.Weighted.{weight-at}
 use Rattle.walk.specs.Ranges.{range_by, range_in, offsets, Arrays}
 use Rattle.walk.specs.Prepare.{Measurable, Measured, Relatable, Related}
-use Rattle.walk.specs.Turns.{Given, row_starts, chains_in, places_in, begins_in, members_in, child_starts, weights_in, sums_in, row_for, parents_for, range_for, chains_for, Prepared}
+use Rattle.walk.specs.Given.{Given, row_starts, chains_in, places_in, begins_in, members_in, child_starts, weights_in, sums_in, row_for, parents_for, range_for, chains_for, Prepared}
 use Rattle.walk.proofs.Preparing.{own, own-order, own-offsets, own-sizes, shares-rise, sums_same}
 
 -- Rows are laid, all of them
@@ -67,7 +67,7 @@ module _ (starts heads parents : List ℕ) (a n : ℕ) (A : Arrays starts heads 
 
   -- The tables are there
   module _ (tables before sizes children : List ℕ) (known first : ℕ) (M : Measured S n r.chains area before sizes tables tables₀) (F : Related S n groups children tables)
-      (gs : length groups ≡ 2561) (ts : length tables ≡ 4104) (bs : length before ≡ 513) (low : known ≤ first) (high : first ≤ n) where
+      (ts : length tables ≡ 4104) (low : known ≤ first) (high : first ≤ n) where
     abbrev given : Given
     given = record { starts = starts; rows = area; groups = groups; tables = tables; before = before; sizes = sizes; children = children; base = a; runs = n; chains = r.chains; known = known; first = first }
 
@@ -109,10 +109,6 @@ module _ (starts heads parents : List ℕ) (a n : ℕ) (A : Arrays starts heads 
       few = A.sound.few;
       known = low;
       first = high;
-      tables = omega (arith, R.sound.few);
-      groups = omega (arith, R.sound.few);
-      items = omega arith;
-      before = omega (arith, R.sound.few);
       sound = R.sound;
       rise = rise;
       number = chain-count;

@@ -11,9 +11,10 @@ use lib.ListN.{get_or}
 use lib.Dec.{ltb, leb, eqb}
 use borrow.Author.Tests.{le-ltb, eq-eqb, ne_eqb, eqb-true, ltb-true, leb-true}
 use Rattle.lists.proofs.Truth.{lt_or_le, false_true, and_left, and_right, or_cases}
-use Rattle.tables.specs.Sizes.{Within, events_from, row_in}
+use Rattle.tables.specs.Sizes.{Within, events_from}
 use Rattle.tables.proofs.Gapping.{events-apart}
 use Rattle.walk.specs.declared.choice.Best.{Best}
+use Rattle.walk.specs.Given.{Given, begins_in, sums_in, row_for}
 use Rattle.walk.specs.Choose.{try_of, free_c, beaten_c, limit_c, weigh_c, cost_c, scan_c}
 
 -- A candidate
@@ -65,10 +66,10 @@ pub within_same : (r : ℕ) {l l' f f' : ℕ} → l ≡ l' → f ≡ f' → With
 within_same r {l} {l'} {f} {f'} p q h = subst (λ (x : ℕ). Within x f' r) p (subst (λ (x : ℕ). Within l x r) q h)
 
 -- The sizes of the current version and of a run's history are no further apart than the run's cost
-pub least_cost : (before begins current rows starts : List ℕ) (n run least here there : ℕ) → least ≡ (here - there) + (there - here) →
-    here ≡ events_from before begins current 0 n → there ≡ events_from before begins (row_in starts rows run) 0 n → least ≤ cost_c before begins current rows starts n run
+pub least_cost : (g : Given) (current : List ℕ) (run least here there : ℕ) → least ≡ (here - there) + (there - here) →
+    here ≡ events_from (sums_in g) (begins_in g) current 0 g.chains → there ≡ events_from (sums_in g) (begins_in g) (row_for g run) 0 g.chains → least ≤ cost_c g current run
 unfolding cost_c
-least_cost before begins current rows starts n run least here there e p q = rw (e, p, q) (events-apart before begins current (row_in starts rows run) 0 n)
+least_cost g current run least here there e p q = rw (e, p, q) (events-apart (sums_in g) (begins_in g) current (row_for g run) 0 g.chains)
 
 -- The next candidate, below place `at`, and none left
 pub scan_next : (t : ℕ → Bool) (d w : ℕ → ℕ) (ready : List ℕ) (n at from : ℕ) (b : Option Best) → from < at → at ≤ n →

@@ -1,10 +1,9 @@
 -- The choice among the last ready runs, as the code makes it. Assumes nothing.
-use Rattle.std.specs.Prelude.{◌≡◌, Bool, true, false, ◌&&◌, ◌||◌, Option, Some, None, List, [], ◌∷◌, ℕ, zero, suc, ◌+◌, ◌-◌, ◌≤◌, ◌<◌, ◌^◌, length, get_or, ltb, leb, eqb}
+use Rattle.std.specs.Prelude.{Bool, true, false, ◌&&◌, ◌||◌, Option, Some, None, List, [], ◌∷◌, ℕ, zero, suc, ◌+◌, ◌-◌, ◌<◌, ◌^◌, get_or, ltb, leb, eqb}
 use Rattle.lists.specs.Lists.{same}
-use Rattle.lists.specs.Areas.{part}
-use Rattle.model.specs.Limits.{max_runs}
+use Rattle.model.specs.History.{at}
 use Rattle.tables.specs.Gaps.{gaps_from}
-use Rattle.tables.specs.Sizes.{events_from, row_in}
+use Rattle.walk.specs.Given.{Given, begins_in, weights_in, sums_in, row_for, parents_for}
 use Rattle.walk.specs.declared.choice.Best.{Best}
 
 abbrev pub pick : Bool → Option Best → Option Best → Option Best
@@ -50,16 +49,16 @@ unfoldable pub is_only : List ℕ → Option ℕ → Bool
 is_only ps None = false
 is_only ps (Some l) = same ps (l ∷ [])
 
--- The same of a run whose parents are grouped
-unfoldable pub only_c : List ℕ → List ℕ → Option ℕ → ℕ → Bool
-only_c heads items last run = is_only (part (get_or heads run 0) (get_or heads (run + 1) 0) items) last
+-- The same of a run of the range
+unfoldable pub only_c : Given → Option ℕ → ℕ → Bool
+only_c g last run = is_only (at (parents_for g) run) last
 
 -- "the events in just one of the current version and its history"
-unfoldable pub cost_c : List ℕ → List ℕ → List ℕ → List ℕ → List ℕ → ℕ → ℕ → ℕ
-cost_c before begins current rows starts n run = gaps_from before begins current (row_in starts rows run) 0 n
+unfoldable pub cost_c : Given → List ℕ → ℕ → ℕ
+cost_c g current run = gaps_from (sums_in g) (begins_in g) current (row_for g run) 0 g.chains
 
-abbrev pub weight_c : List ℕ → ℕ → ℕ
-weight_c weights run = get_or weights run 0
+abbrev pub weight_c : Given → ℕ → ℕ
+weight_c g run = get_or (weights_in g) run 0
 
 -- k candidates of the first n ready runs, from the i-th newest on, by tests, distances and weights of runs
 unfoldable pub scan_c : (ℕ → Bool) → (ℕ → ℕ) → (ℕ → ℕ) → List ℕ → ℕ → ℕ → ℕ → Option Best → Option Best
@@ -68,14 +67,6 @@ scan_c t d w ready n i (suc k) b =
     scan_c t d w ready n (i + 1) k
     (weigh_c (t (get_or ready (n - 1 - i) 0)) (d (get_or ready (n - 1 - i) 0)) (w (get_or ready (n - 1 - i) 0)) (n - 1 - i) b)
 
--- What the tables must say of a run that is weighed
-pub record Tabled (before begins rows starts : List ℕ) (n : ℕ) (heads items sizes : List ℕ) (run : ℕ) : Type 0 where
-  pub few : run < max_runs
-  pub climb : get_or starts run 0 ≤ get_or starts (run + 1) 0
-  pub inside : get_or starts (run + 1) 0 ≤ length rows
-  pub parents : (get_or heads run 0 ≤ get_or heads (run + 1) 0) × (get_or heads (run + 1) 0 ≤ length items)
-  pub size : get_or sizes run 0 ≡ events_from before begins (row_in starts rows run) 0 n
-
--- and of each of the first m ready runs
-abbrev pub AllTabled : List ℕ → ℕ → List ℕ → List ℕ → List ℕ → List ℕ → ℕ → List ℕ → List ℕ → List ℕ → Type 0
-AllTabled ready m before begins rows starts n heads items sizes = (i : ℕ) → i < m → Tabled before begins rows starts n heads items sizes (get_or ready i 0)
+-- Each of the first m ready runs is one of n
+abbrev pub AllIn : List ℕ → ℕ → ℕ → Type 0
+AllIn ready m n = (i : ℕ) → i < m → get_or ready i 0 < n

@@ -1,12 +1,15 @@
 // The nearest of the last 64 ready runs, newest first.
-ghost use Rattle.std.specs.Prelude.{◌≡◌, ◌+◌, ◌≤◌, ◌<◌, ◌^◌, min, length, get_or};
-ghost use Rattle.model.specs.Limits.{max_runs, max_weighed};
-ghost use Rattle.tables.specs.Sizes.{Bounded, Within, events_from};
-ghost use Rattle.walk.specs.Choose.{is_lower, try_of, free_c, beaten_c, limit_c, weigh_c, is_only, only_c, cost_c, weight_c, scan_c, Tabled, AllTabled};
+ghost use Rattle.std.specs.Prelude.{◌≡◌, ◌≤◌, ◌<◌, ◌^◌, None, min, length};
+ghost use Rattle.model.specs.Limits.{max_weighed};
+ghost use Rattle.tables.specs.Sizes.{Within, events_from};
+ghost use Rattle.walk.specs.Given.{begins_in, sums_in};
+ghost use Rattle.walk.specs.Choose.{is_lower, try_of, free_c, beaten_c, limit_c, weigh_c, is_only, only_c, cost_c, weight_c, scan_c, AllIn};
 
+use crate::given::Given;
+use crate::ready::Waits;
 use model::MAX_WEIGHED;
-use tables::distance::{apart, distance, events_of, get_sum};
-use tables::words::{get, long, wide};
+use tables::distance::{apart, distance, events_of};
+use tables::words::wide;
 
 // The best so far: its cost, weight and place in the ready list.
 #[derive(Clone, Copy)]
@@ -79,53 +82,37 @@ fn limit(best: Option<Best>) -> u64
 }
 
 // The events in just one of the current version and the run's history, counted until past the best cost.
-fn cost_of<'a>(
-    best: Option<Best>,
-    before: &[u64],
-    begins: &'a [u32],
-    current: &[u32],
-    rows: &[u32],
-    starts: &'a [u32],
-    n: usize,
-    run: usize,
-) -> u64
-    requires { (n ≤ max_runs) × Bounded (2 ^ 41) before.now × (run < max_runs) × (get_or starts.now run 0 ≤ get_or starts.now (run + 1) 0) ×
-        (get_or starts.now (run + 1) 0 ≤ length rows.now) }
-    ensures { Within (limit_c best) (cost_c before.now begins.now current.now rows.now starts.now n run) result × (result ≤ 2 ^ 50) }
+fn cost_of(best: Option<Best>, given: &Given, current: &[u32], run: usize) -> u64
+    requires { run < given.now.runs }
+    ensures { Within (limit_c best) (cost_c given.now current.now run) result × (result ≤ 2 ^ 50) }
 {
-    let s = wide(get(starts, run));
-    let e = wide(get(starts, run + 1));
-    distance(before, begins, current, &rows[s..e], n, limit(best))
+    distance(
+        given.sums(),
+        given.begins(),
+        current,
+        given.row(run),
+        given.chains,
+        limit(best),
+    )
 }
 
 // A candidate: cost 0 where its only parent is the last run visited; passed over once the best costs nothing, or where the
 // sizes of the two versions are too far apart; else by its distance. `here` is the current version's size.
-fn weigh<'a>(
+fn weigh(
     best: Option<Best>,
-    before: &[u64],
-    begins: &'a [u32],
+    given: &Given,
     current: &[u32],
-    rows: &[u32],
-    starts: &'a [u32],
-    n: usize,
-    heads: &'a [u32],
-    items: &'a [u32],
-    weights: &'a [u32],
-    sizes: &[u64],
     here: u64,
     last: Option<u32>,
     run: usize,
     at: usize,
 ) -> Option<Best>
-    requires { (n ≤ max_runs) × Bounded (2 ^ 41) before.now × (here ≡ events_from before.now begins.now current.now 0 n) × Tabled before.now begins.now rows.now
-        starts.now n heads.now items.now sizes.now run }
-    ensures { result ≡ weigh_c (only_c heads.now items.now last run)
-        (cost_c before.now begins.now current.now rows.now starts.now n run) (weight_c weights.now run) at best }
+    requires run { run < given.now.runs }
+    requires here { here ≡ events_from (sums_in given.now) (begins_in given.now) current.now 0 given.now.chains }
+    ensures { result ≡ weigh_c (only_c given.now last run) (cost_c given.now current.now run) (weight_c given.now run) at best }
 {
-    let weight = long(get(weights, run));
-    let s = wide(get(heads, run));
-    let e = wide(get(heads, run + 1));
-    if is_only_parent(&items[s..e], last) {
+    let weight = given.weight(run);
+    if is_only_parent(given.parents(run), last) {
         return consider(
             best,
             Best {
@@ -138,42 +125,30 @@ fn weigh<'a>(
     if is_free(best) {
         return best;
     }
-    if is_beaten(best, apart(here, get_sum(sizes, run)), weight) {
+    if is_beaten(best, apart(here, given.size(run)), weight) {
         return best;
     }
-    let cost = cost_of(best, before, begins, current, rows, starts, n, run);
+    let cost = cost_of(best, given, current, run);
     consider(best, Best { cost, weight, at })
 }
 
-// The best of the last 64 of m ready runs, newest first.
-pub(crate) fn nearest<'a>(
-    ready: &[u32],
-    m: usize,
-    before: &[u64],
-    begins: &'a [u32],
+// The best of the last 64 ready runs, newest first.
+pub(crate) fn nearest(
+    given: &Given,
     current: &[u32],
-    rows: &[u32],
-    starts: &'a [u32],
-    n: usize,
-    heads: &'a [u32],
-    items: &'a [u32],
-    weights: &'a [u32],
-    sizes: &[u64],
+    waits: &Waits,
     last: Option<u32>,
 ) -> Option<Best>
-    requires { (n ≤ max_runs) × Bounded (2 ^ 41) before.now × AllTabled ready.now m before.now begins.now rows.now starts.now n heads.now items.now sizes.now }
-    ensures { result ≡ scan_c (only_c heads.now items.now last)
-        (cost_c before.now begins.now current.now rows.now starts.now n) (weight_c weights.now) ready.now
-        m 0 (min max_weighed m) None }
+    requires room { waits.now.0 ≤ length waits.now.2 }
+    requires ready { AllIn waits.now.2 waits.now.0 given.now.runs }
+    ensures { result ≡ scan_c (only_c given.now last) (cost_c given.now current.now) (weight_c given.now) waits.now.2 waits.now.0 0 (min max_weighed waits.now.0) None }
 {
-    let here = events_of(before, begins, current, n);
+    let here = events_of(given.sums(), given.begins(), current, given.chains);
+    let m = waits.count;
     let mut best = None;
     for at in (m.saturating_sub(MAX_WEIGHED)..m).rev() {
-        let run = wide(get(ready, at));
-        best = weigh(
-            best, before, begins, current, rows, starts, n, heads, items, weights, sizes, here,
-            last, run, at,
-        );
+        let run = wide(waits.ready[at]);
+        best = weigh(best, given, current, here, last, run, at);
     }
     best
 }

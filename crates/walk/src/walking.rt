@@ -7,6 +7,7 @@ ghost use Rattle.walk.specs.Ranges.{ArraysOf, range_at};
 ghost use Rattle.walk.specs.Walked.{unwritten, walked_in, walked_of};
 
 use crate::areas::Areas;
+use crate::given::Given;
 use crate::visiting;
 use graph::ranges;
 use model::{CausalGraph, EventRunIndex, Outcome, Refusal, Walked};
@@ -68,22 +69,17 @@ pub(crate) fn walk_range(
     let x = wide(a.0);
     let y = x + n + 1;
     areas.prepare(&graph.starts[x..y], n, area.chains, rows);
-    let out = visiting::visits(
-        out,
-        a,
-        n,
-        area.chains,
-        known,
-        clamped(known, first, runs),
-        &graph.starts,
+    let given = Given {
+        starts: &graph.starts,
         rows,
-        &areas.groups,
-        &areas.tables,
-        &areas.before,
-        &areas.sizes,
-        &areas.children,
-        steps,
-    );
+        areas,
+        base: a,
+        runs: n,
+        chains: area.chains,
+        known,
+        first: clamped(known, first, runs),
+    };
+    let out = visiting::visits(&given, out, steps);
     Ranged {
         out,
         rows_too_long: false,

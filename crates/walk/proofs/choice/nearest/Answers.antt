@@ -1,42 +1,36 @@
--- `walk::choice::nearest`: the first candidate, a candidate more, and none.
-use Rattle.std.proofs.Common.{◌≡◌, ℕ, ◌-◌, min, Option, None, sym, ap, ◌∙◌, subst, arith}
+-- `walk::choice::nearest`: a candidate more, and none.
+use Rattle.std.proofs.Common.{◌≡◌, ℕ, ◌-◌, ◌^◌, Option, get_or, sym, ap, ◌∙◌, subst, arith}
+use Rattle.tables.specs.Sizes.{Bounded}
 use Rattle.walk.specs.declared.choice.Best.{Best}
-use Rattle.walk.specs.Choose.{scan_c, weigh_c, only_c, cost_c, weight_c, Tabled}
+use Rattle.walk.specs.Given.{Given, Prepared}
+use Rattle.walk.specs.Readiness.{Wakes}
+use Rattle.walk.specs.Choose.{scan_c, weigh_c, only_c, cost_c, weight_c}
+use Rattle.walk.proofs.Looping.{few-chains}
 use Rattle.walk.proofs.Weighing.{scan_next, scan_none}
 use Rattle.walk.proofs.choice.nearest.Goals as goal
 
-pub weigh-best-requires : goal.weigh-best-requires
-weigh-best-requires c = let a = c.args in
-    let p = c.requires in (
-      p.0,
-      p.1,
-      c.events_of-here.ensures.0,
-      subst (λ (x : ℕ). Tabled a.before.now a.begins.now a.rows.now a.starts.now a.n a.heads.now a.items.now a.sizes.now x) (sym (c.wide-run.ensures ∙ c.get.ensures)) (p.2 (c.loop-at.at - 1) (omega (arith, c.loop-at.auto.at, c.loop-at-test.true))),
-    )
-
-pub loop-at-init : goal.loop-at-init
-loop-at-init c = let a = c.args in
-    let e : a.m - a.m ≡ 0 = omega arith in
-    let f : a.m - c.saturating_sub-at-start.result ≡ min 64 a.m = omega (arith, c.saturating_sub-at-start.ensures) in
-    record { from = omega (arith, c.saturating_sub-at-start.ensures); left = rw (e, f) }
+pub events_of-here-requires : goal.events_of-here-requires
+events_of-here-requires c =
+    let P = subst Prepared c.given.view_is c.given.invariant in
+    (few-chains _ c.given.invariant, subst (Bounded (2 ^ 41)) (sym c.sums.ensures) P.sums.small)
 
 pub loop-at-preserved : goal.loop-at-preserved
 loop-at-preserved c = let a = c.args in
     let l = c.loop-at in
-    let t = only_c a.heads.now a.items.now a.last in
-    let d = cost_c a.before.now a.begins.now a.current.now a.rows.now a.starts.now a.n in
-    let w = weight_c a.weights.now in
-    let turn = c.weigh-best.ensures ∙ ap (λ (r : ℕ). weigh_c (t r) (d r) (w r) (l.at - 1) l.best) (c.wide-run.ensures ∙ c.get.ensures) in
+    let t = only_c a.given.now a.last in
+    let d = cost_c a.given.now a.current.now in
+    let w = weight_c a.given.now in
+    let turn = c.weigh-best.ensures ∙ ap (λ (r : ℕ). weigh_c (t r) (d r) (w r) (l.at - 1) l.best) (c.wide-run.ensures ∙ ap (λ (s : Wakes). get_or s.2 (l.at - 1) 0) c.waits.view_is) in
     record {
       from = omega (arith, c.loop-at-test.true);
-      left = ap (λ (b : Option Best). scan_c t d w a.ready.now a.m (a.m - (l.at - 1)) (l.at - 1 - c.saturating_sub-at-start.result) b) turn ∙
-    (scan_next t d w a.ready.now a.m l.at c.saturating_sub-at-start.result l.best c.loop-at-test.true (omega (arith, l.auto.at)) ∙ l.invariant.left);
+      left = ap (λ (b : Option Best). scan_c t d w a.waits.now.2 a.waits.now.0 (a.waits.now.0 - (l.at - 1)) (l.at - 1 - c.saturating_sub-at-start.result) b) turn ∙
+          (scan_next t d w a.waits.now.2 a.waits.now.0 l.at c.saturating_sub-at-start.result l.best c.loop-at-test.true (omega (arith, l.auto.at, ap (λ (s : Wakes). s.0) c.waits.view_is)) ∙ l.invariant.left);
     }
 
 pub returns : goal.returns
 returns c = let a = c.args in
     let l = c.loop-at in
-    let t = only_c a.heads.now a.items.now a.last in
-    let d = cost_c a.before.now a.begins.now a.current.now a.rows.now a.starts.now a.n in
+    let g = a.given.now in
     let e : l.at ≡ c.saturating_sub-at-start.result = omega (arith, l.invariant.from, c.loop-at-test.false) in
-    sym (ap (λ (k : ℕ). scan_c t d (weight_c a.weights.now) a.ready.now a.m (a.m - l.at) (k - c.saturating_sub-at-start.result) l.best) e ∙ scan_none t d (weight_c a.weights.now) a.ready.now a.m (a.m - l.at) c.saturating_sub-at-start.result l.best) ∙ l.invariant.left
+    sym (ap (λ (k : ℕ). scan_c (only_c g a.last) (cost_c g a.current.now) (weight_c g) a.waits.now.2 a.waits.now.0 (a.waits.now.0 - l.at) (k - c.saturating_sub-at-start.result) l.best) e ∙
+    scan_none (only_c g a.last) (cost_c g a.current.now) (weight_c g) a.waits.now.2 a.waits.now.0 (a.waits.now.0 - l.at) c.saturating_sub-at-start.result l.best) ∙ l.invariant.left

@@ -6,6 +6,6 @@ use Rattle.walk.proofs.choice.nearest.Given as goal
 abbrev pub invariant-loop-at : goal.invariant-loop-at
 invariant-loop-at l = record {
   from : l.at-start ≤ l.at;
-  left : scan_c (only_c l.heads l.items l.last) (cost_c l.before l.begins l.current l.rows l.starts l.n) (weight_c l.weights) l.ready l.m (l.m - l.at) (l.at - l.at-start) l.best ≡
-      scan_c (only_c l.heads l.items l.last) (cost_c l.before l.begins l.current l.rows l.starts l.n) (weight_c l.weights) l.ready l.m 0 (min 64 l.m) None;
+  left : scan_c (only_c l.given l.last) (cost_c l.given l.current) (weight_c l.given) l.waits.2 l.waits.0 (l.waits.0 - l.at) (l.at - l.at-start) l.best ≡
+      scan_c (only_c l.given l.last) (cost_c l.given l.current) (weight_c l.given) l.waits.2 l.waits.0 0 (min 64 l.waits.0) None;
 }

@@ -35,8 +35,8 @@ prepare-requires-clause-relatable c =
     let own_is = own_lent g.starts g.parent_starts g.parents a.a.0 n A c.wide-x.result (c.wide-x.result + n + 1) c.wide-x.ensures refl in
     subst (λ (s : List ℕ). Relatable s n l.new.groups) (sym own_is) (relatable g.starts g.parent_starts g.parents a.a.0 n A a.rows.now l.new.rows l.new.groups l.new.tables l.result l.ensures.range_laid c.if-area-ne0.false)
 
-pub visits-out-requires-clause-prepared : goal.visits-out-requires-clause-prepared
-visits-out-requires-clause-prepared c =
+pub invariant_of-given : goal.invariant_of-given
+invariant_of-given c =
     let a = c.args in
     let g = a.graph.now in
     let n = c.wide-n.result in
@@ -49,7 +49,7 @@ visits-out-requires-clause-prepared c =
     let F = subst (λ (s : List ℕ). Related s n q.groups q.children q.tables) own_is c.prepare.ensures.related in
     let f = c.clamped.ensures in
     let low : c.clamped.result ≤ n = omega (arith, f, c.requires.inside.1, c.wide-n.ensures) in
-    prepared g.starts g.parent_starts g.parents a.a.0 n A a.rows.now l.new.rows q.groups l.new.tables l.result R c.if-area-ne0.false q.tables q.before q.sizes q.children a.known c.clamped.result M F (omega arith) (omega arith) (omega arith) (omega (arith, f)) low
+    prepared g.starts g.parent_starts g.parents a.a.0 n A a.rows.now l.new.rows q.groups l.new.tables l.result R c.if-area-ne0.false q.tables q.before q.sizes q.children a.known c.clamped.result M F (omega (arith, M.kept.size, l.ensures.tables_len_unchanged)) (omega (arith, f)) low
 
 pub returns-clause-steps_after : goal.returns-clause-steps_after
 unfolding range_at
@@ -67,6 +67,6 @@ returns-clause-steps_after c =
     let f = c.clamped.ensures in
     let low : c.clamped.result ≤ n = omega (arith, f, c.requires.inside.1, c.wide-n.ensures) in
     let v = c.visits-out in
-    let same = range_same g.starts g.parent_starts g.parents a.a.0 n A a.rows.now l.new.rows q.groups l.new.tables l.result R c.if-area-ne0.false q.tables q.before q.sizes q.children a.known c.clamped.result M F (omega arith) (omega arith) (omega arith) (omega (arith, f)) low in
+    let same = range_same g.starts g.parent_starts g.parents a.a.0 n A a.rows.now l.new.rows q.groups l.new.tables l.result R c.if-area-ne0.false q.tables q.before q.sizes q.children a.known c.clamped.result M F (omega (arith, M.kept.size, l.ensures.tables_len_unchanged)) (omega (arith, f)) low in
     range_walked g.starts g.parent_starts g.parents a.a.0 n a.rows.now l.new.rows q.groups l.new.tables l.result R (a.b.0 - a.a.0) a.known a.first c.clamped.result _ a.out v.result a.steps.now v.new.steps c.wide-n.ensures c.if-area-ne0.false
     (omega (arith, c.requires.inside.1, c.wide-n.ensures)) (omega (arith, f, c.wide-n.ensures)) same v.ensures.steps_after

@@ -1,8 +1,0 @@
--- `walk::ready::wake_range`: what is left to wake gives the whole.
-use Rattle.std.proofs.Common.{◌≡◌, ◌-◌}
-use Rattle.lists.specs.Lists.{from}
-use Rattle.walk.specs.Readiness.{wake_all}
-use Rattle.walk.proofs.ready.wake_range.Given as goal
-
-abbrev pub invariant-loop-x : goal.invariant-loop-x
-invariant-loop-x l = wake_all (l.m, l.waiting, l.ready) (from l.x (l.e - l.x)) ≡ wake_all (l.initial.m, l.initial.waiting, l.initial.ready) (from l.a (l.e - l.a))
