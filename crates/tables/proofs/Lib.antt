@@ -1,7 +1,6 @@
 -- The laws behind a range's tables.
 -- Lists in one area
 pub mod JaggedRows
-pub mod Clearing
 pub mod Laning
 pub mod Scratch
 -- Chains and rows of a range
@@ -10,6 +9,7 @@ pub mod Chaining
 pub mod Holding
 pub mod Turns
 pub mod Making
+pub mod Pasting
 pub mod Placing
 pub mod Fitted
 pub mod Outcome
@@ -20,7 +20,6 @@ pub mod RowsIn
 pub mod Gathering
 pub mod Ranging
 -- Both
-pub mod Whole
 -- Members and sums; versions and distances
 pub mod Standing
 pub mod Summing

@@ -34,7 +34,7 @@ written-parts g ss area =
 
 -- Rows were too long
 pub walked-rows : (st : List ℕ) (w : Range) (a known first : ℕ) (out : Out) (rows steps : List ℕ) → rows_too_long w rows ≡ true →
-    walked_in st w a known first out rows steps ≡ (ranged out 1, rows_into w rows, steps)
+    walked_in st w a known first out rows steps ≡ (ranged out true, rows_into w rows, steps)
 unfolding walked_in
 walked-rows st w a known first out rows steps e = go (rows_too_long w rows) e
   where
@@ -42,14 +42,14 @@ walked-rows st w a known first out rows steps e = go (rows_too_long w rows) e
     x = emit (out, steps) (recs st (steps_of w a known first))
 
     go : (t : Bool) → t ≡ true →
-        ◌≡◌ {A = State} (elim t as (λ _. State) [ true ↦ (ranged out 1, rows_into w rows, steps) | false ↦ (ranged x.0 0, rows_into w rows, x.1) ]) (ranged out 1, rows_into w rows, steps)
+        ◌≡◌ {A = State} (elim t as (λ _. State) [ true ↦ (ranged out true, rows_into w rows, steps) | false ↦ (ranged x.0 false, rows_into w rows, x.1) ]) (ranged out true, rows_into w rows, steps)
     go true e = refl
     go false e = false_true e
 
 -- none were
 pub walked-steps : (st : List ℕ) (w : Range) (a known first : ℕ) (out : Out) (rows steps : List ℕ) → rows_too_long w rows ≡ false →
     walked_in st w a known first out rows steps ≡
-    (ranged (emit (out, steps) (recs st (steps_of w a known first))).0 0, rows_into w rows, (emit (out, steps) (recs st (steps_of w a known first))).1)
+    (ranged (emit (out, steps) (recs st (steps_of w a known first))).0 false, rows_into w rows, (emit (out, steps) (recs st (steps_of w a known first))).1)
 unfolding walked_in
 walked-steps st w a known first out rows steps e = go (rows_too_long w rows) e
   where
@@ -57,17 +57,17 @@ walked-steps st w a known first out rows steps e = go (rows_too_long w rows) e
     x = emit (out, steps) (recs st (steps_of w a known first))
 
     go : (t : Bool) → t ≡ false →
-        ◌≡◌ {A = State} (elim t as (λ _. State) [ true ↦ (ranged out 1, rows_into w rows, steps) | false ↦ (ranged x.0 0, rows_into w rows, x.1) ])
-        (ranged x.0 0, rows_into w rows, x.1)
+        ◌≡◌ {A = State} (elim t as (λ _. State) [ true ↦ (ranged out true, rows_into w rows, steps) | false ↦ (ranged x.0 false, rows_into w rows, x.1) ])
+        (ranged x.0 false, rows_into w rows, x.1)
     go true e = false_true (sym e)
     go false e = refl
 
 -- The outcome by what is short
-pub outcome_rows : (o : Out) → outcome_of (ranged o 1) ≡ Err RowsTooLong
+pub outcome_rows : (o : Out) → outcome_of (ranged o true) ≡ Err RowsTooLong
 unfolding outcome_of
 outcome_rows o = refl
 
-pub outcome_list : (o : Out) (t : Bool) → o.short ≡ bit t → outcome_of (ranged o 0) ≡ cond t (Err ListTooShort) (Ok tt)
+pub outcome_list : (o : Out) (t : Bool) → o.short ≡ bit t → outcome_of (ranged o false) ≡ cond t (Err ListTooShort) (Ok tt)
 unfolding outcome_of
 outcome_list o true e = rw e
 outcome_list o false e = rw e

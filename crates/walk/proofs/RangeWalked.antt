@@ -16,7 +16,7 @@ use Rattle.tables.proofs.Gathering.{shares-length}
 use Rattle.moves.specs.declared.writing.Out.{Out}
 use Rattle.moves.specs.Emit.{Writing, emit}
 use Rattle.moves.specs.Moves.{recs}
-use Rattle.walk.specs.Ranges.{range_by, range_in, Arrays, Room}
+use Rattle.walk.specs.Ranges.{range_by, range_in, Arrays}
 use Rattle.walk.specs.Walked.{ranged, walked_in}
 use Rattle.walk.proofs.Clamping.{clamp_steps}
 use Rattle.walk.proofs.Answering.{walked-rows, walked-steps}
@@ -24,19 +24,6 @@ use Rattle.walk.proofs.Answering.{walked-rows, walked-steps}
 -- The graph's arrays up to the range's end
 pub arrays_end : (starts heads parents : List ℕ) (a b n : ℕ) → a ≤ b → n ≡ b - a → Arrays starts heads parents b → Arrays starts heads parents (a + n)
 arrays_end starts heads parents a b n le e A = let q : b ≡ a + n = omega arith in rw q at A
-
--- Areas of the same lengths
-pub room_still : (gs ts bs ss cs vs rs gs' ts' bs' ss' cs' vs' rs' : List ℕ) → Room gs ts bs ss cs vs rs → length gs' ≡ length gs → length ts' ≡ length ts → length bs' ≡ length bs → length ss' ≡ length ss →
-    length cs' ≡ length cs → length vs' ≡ length vs → length rs' ≡ length rs → Room gs' ts' bs' ss' cs' vs' rs'
-room_still gs ts bs ss cs vs rs gs' ts' bs' ss' cs' vs' rs' R g t b s k v r = record {
-  groups = g ∙ R.groups;
-  tables = t ∙ R.tables;
-  before = b ∙ R.before;
-  sizes = s ∙ R.sizes;
-  children = k ∙ R.children;
-  covers = v ∙ R.covers;
-  scratch = r ∙ R.scratch;
-}
 
 module _ (starts heads parents : List ℕ) (a n : ℕ) (area₀ area groups tables : List ℕ) (r : Area) (R : RangeLaid (shares heads parents a n) n area₀ r area groups tables) where
   abbrev w : Range
@@ -66,9 +53,9 @@ module _ (starts heads parents : List ℕ) (a n : ℕ) (area₀ area groups tabl
 
   -- Rows were too long
   pub range_short : (d known first : ℕ) (out : Out) (steps : List ℕ) → n ≡ d → (r.short ≡ 0 → ⊥) →
-      (ranged out 1, area, steps) ≡ walked_in starts (range_in starts heads parents a d) a known first out area₀ steps
+      (ranged out true, area, steps) ≡ walked_in starts (range_in starts heads parents a d) a known first out area₀ steps
   range_short d known first out steps e h =
-      ap (λ (l : List ℕ). (ranged out 1, l, steps)) (sym rows_are) ∙
+      ap (λ (l : List ℕ). (ranged out true, l, steps)) (sym rows_are) ∙
       (sym (walked-rows starts w a known first out area₀ steps (too_long h)) ∙ ap (λ (k : ℕ). walked_in starts (range_in starts heads parents a k) a known first out area₀ steps) e)
 
   size : length w.parents ≡ n
@@ -86,10 +73,10 @@ module _ (starts heads parents : List ℕ) (a n : ℕ) (area₀ area groups tabl
   -- All are there
   pub range_walked : (d known first f : ℕ) (v : Range) (out o : Out) (steps steps₂ : List ℕ) → n ≡ d → r.short ≡ 0 → known ≤ n → f ≡ max known (min first n) → v ≡ w →
       ◌≡◌ {A = Writing} (o, steps₂) (emit (out, steps) (recs starts (steps_of v a known f))) →
-      (ranged o 0, area, steps₂) ≡ walked_in starts (range_in starts heads parents a d) a known first out area₀ steps
+      (ranged o false, area, steps₂) ≡ walked_in starts (range_in starts heads parents a d) a known first out area₀ steps
   range_walked d known first f v out o steps steps₂ e done le fe ve written =
       let x : Writing = emit (out, steps) (recs starts (steps_of w a known first)) in
       let same : ◌≡◌ {A = Writing} (o, steps₂) x =
       written ∙ ap (λ (l : List Step). emit (out, steps) (recs starts l)) (ap (λ (u : Range). steps_of u a known f) ve ∙ steps-same known first f le fe) in
-      ap₂ (λ (y : Writing) (l : List ℕ). (ranged y.0 0, l, y.1)) same (sym rows_are) ∙
+      ap₂ (λ (y : Writing) (l : List ℕ). (ranged y.0 false, l, y.1)) same (sym rows_are) ∙
       (sym (walked-steps starts w a known first out area₀ steps (all_fit done)) ∙ ap (λ (k : ℕ). walked_in starts (range_in starts heads parents a k) a known first out area₀ steps) e)
