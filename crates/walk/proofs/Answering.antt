@@ -5,7 +5,6 @@ use mathlib.Core.List.{List}
 use Prim.Native.Nat.{ℕ, ◌/◌}
 use lib.ListN.{length, take}
 use lib.Dec.{ltb}
-use Rattle.lists.specs.Lists.{bit}
 use Rattle.lists.specs.Areas.{over}
 use Rattle.lists.proofs.Truth.{false_true}
 use Rattle.model.specs.declared.answers.Refusal.TheVariants.{RowsTooLong, ListTooShort}
@@ -27,7 +26,7 @@ pub written-parts : (g : Graph) (ss : List Step) (area : List ℕ) → let room 
     ((emit (going 0 0, area) (recs g.starts ss)).1 ≡ over (words (take room ss)) area) ×
     ((emit (going 0 0, area) (recs g.starts ss)).0.count ≡ length (take room ss)) ×
     ((emit (going 0 0, area) (recs g.starts ss)).0.moved ≡ moved_in g (take room ss)) ×
-    ((emit (going 0 0, area) (recs g.starts ss)).0.short ≡ bit (ltb room (length ss)))
+    ((emit (going 0 0, area) (recs g.starts ss)).0.short ≡ ltb room (length ss))
 written-parts g ss area =
     let q = written_is g ss area in
     (ap (λ (y : Writing). y.1) q, ap (λ (y : Writing). y.0.count) q, ap (λ (y : Writing). y.0.moved) q, ap (λ (y : Writing). y.0.short) q)
@@ -67,7 +66,7 @@ pub outcome_rows : (o : Out) → outcome_of (ranged o true) ≡ Err RowsTooLong
 unfolding outcome_of
 outcome_rows o = refl
 
-pub outcome_list : (o : Out) (t : Bool) → o.short ≡ bit t → outcome_of (ranged o false) ≡ cond t (Err ListTooShort) (Ok tt)
+pub outcome_list : (o : Out) (t : Bool) → o.short ≡ t → outcome_of (ranged o false) ≡ cond t (Err ListTooShort) (Ok tt)
 unfolding outcome_of
 outcome_list o true e = rw e
 outcome_list o false e = rw e

@@ -2,17 +2,17 @@
 use mathlib.Core.Path.{◌≡◌, sym, ap, ◌∙◌, subst}
 use mathlib.Core.Bool.{true}
 use mathlib.Core.List.{List}
-use Prim.Native.Nat.{ℕ, ◌+◌, ◌*◌, ◌≤◌, ◌<◌}
+use Prim.Native.Nat.{ℕ, ◌+◌, ◌≤◌, ◌<◌}
 use native.Mathlib.Omega.{arith}
 use lib.ListN.{length, get_or, take}
 use Rattle.lists.specs.Lists.{rising}
 use Rattle.model.specs.History.{at, histories}
 use Rattle.model.specs.Range.{sizes_of}
 use Rattle.model.specs.Cover.{weights}
+use Rattle.std.specs.Prelude.{Some}
 use Rattle.tables.specs.declared.rows.Area.{Area}
 use Rattle.tables.specs.Lanes.{lane}
 use Rattle.tables.specs.Laid.{shares, heads_in, items_in, grouped, chs, row_at, chains_of, Laid, RangeLaid}
-use Rattle.tables.specs.Covers.{cover_words}
 use Rattle.tables.specs.Tables.{Listed, Sums, size_in}
 use Rattle.tables.specs.Indexed.{Indexable, IndexOf}
 use Rattle.tables.specs.Sizes.{Inside, row_in}
@@ -28,7 +28,7 @@ use Rattle.walk.proofs.Preparing.{own, own-order, own-offsets, own-sizes, shares
 
 -- Rows are laid, all of them
 module _ (starts heads parents : List ℕ) (a n : ℕ) (A : Arrays starts heads parents (a + n)) (area₀ area groups tables₀ : List ℕ) (r : Area)
-    (R : RangeLaid (shares heads parents a n) n area₀ r area groups tables₀) (done : r.short ≡ 0) where
+    (R : RangeLaid (shares heads parents a n) n area₀ (Some r) area groups tables₀) where
   abbrev P : List (List ℕ)
   P = grouped (heads_in n groups) (items_in n groups) n
 
@@ -43,7 +43,7 @@ module _ (starts heads parents : List ℕ) (a n : ℕ) (A : Arrays starts heads 
 
   laid : Laid P n (chains_of r (n + 1) tables₀) area area₀
   unfolding chains_of
-  laid = subst (λ (l : List (List ℕ)). Laid l n (chains_of r (n + 1) tables₀) area area₀) (sym R.groups_are) (R.out.chains done)
+  laid = subst (λ (l : List (List ℕ)). Laid l n (chains_of r (n + 1) tables₀) area area₀) (sym R.groups_are) R.out.told.1
 
   laid_all : Laid P (length P) (chains_of r (length P + 1) tables₀) area area₀
   laid_all = subst (λ (k : ℕ). Laid P k (chains_of r (k + 1) tables₀) area area₀) (sym size) laid

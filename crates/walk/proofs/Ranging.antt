@@ -9,7 +9,7 @@ use lib.ListN.{length, take, length-append}
 use lib.Seq.{take-nil}
 use lib.Dec.{ltb, eqb}
 use borrow.Author.Tests.{lt-ltb, le-ltb, eq-eqb, ne_eqb}
-use Rattle.lists.specs.Lists.{bit, from}
+use Rattle.lists.specs.Lists.{from}
 use Rattle.lists.specs.Areas.{over}
 use Rattle.lists.proofs.Truth.{lt_or_le, eq_or-not}
 use Rattle.model.specs.declared.answers.Refusal.{Refusal}
@@ -20,6 +20,7 @@ use Rattle.model.specs.Choice.{Range, range_of}
 use Rattle.model.specs.Steps.{Step, opened, apply, steps_of, words, moved_in}
 use Rattle.model.specs.Walk.{rows_into, rows_too_long}
 use Rattle.model.specs.Replay.{Replayed, replay_range, replay_ranges}
+use Rattle.moves.specs.declared.writing.Kind.TheVariants.{Open}
 use Rattle.moves.specs.Emit.{Writing, step_of, emit, emit_one, applies}
 use Rattle.moves.specs.Moves.{recs}
 use Rattle.moves.proofs.Closing.{going}
@@ -73,47 +74,47 @@ module _ (st : List ℕ) (range : ℕ → ℕ → Range) where
   on_form_lem t u v s c = elim t [
     | true ↦ s
     | false ↦ elim u [
-      | false ↦ s
-      | true ↦
+      | true ↦ s
+      | false ↦
           let x : Writing = open_of (s.0.out, s.2) c in
-          elim v [ false ↦ (ranged x.0 false, s.1, x.1) | true ↦ opening st range x s.1 c ]
+          elim v [ true ↦ (ranged x.0 false, s.1, x.1) | false ↦ opening st range x s.1 c ]
     ]
   ]
 
-  on_form : (s : State) (c : HistoryRange) (t u v : Bool) → s.0.rows_too_long ≡ t → eqb s.0.out.short 0 ≡ u → eqb (open_of (s.0.out, s.2) c).0.short 0 ≡ v →
+  on_form : (s : State) (c : HistoryRange) (t u v : Bool) → s.0.rows_too_long ≡ t → s.0.out.short ≡ u → (open_of (s.0.out, s.2) c).0.short ≡ v →
       replay_on st range s c ≡ on_form_lem t u v s c
   on_form s c t u v p q r = is ∙ λ i. on_form_lem (p i) (q i) (r i) s c
     where
-      is : replay_on st range s c ≡ on_form_lem (s.0.rows_too_long) (eqb s.0.out.short 0) (eqb (open_of (s.0.out, s.2) c).0.short 0) s c
+      is : replay_on st range s c ≡ on_form_lem (s.0.rows_too_long) s.0.out.short (open_of (s.0.out, s.2) c).0.short s c
       is = unfold replay_on on_form_lem in refl
 
   -- Where something was refused nothing more is done
   pub on_rows : (s : State) (c : HistoryRange) → (s.0.rows_too_long ≡ true) → replay_on st range s c ≡ s
   on_rows s c n = on_form s c true _ _ n refl refl ∙ (unfold on_form_lem in refl)
 
-  pub on_short : (s : State) (c : HistoryRange) → s.0.rows_too_long ≡ false → (s.0.out.short ≡ 0 → ⊥) → replay_on st range s c ≡ s
-  on_short s c e n = on_form s c false false _ e (ne_eqb s.0.out.short 0 n) refl ∙ (unfold on_form_lem in refl)
+  pub on_short : (s : State) (c : HistoryRange) → s.0.rows_too_long ≡ false → s.0.out.short ≡ true → replay_on st range s c ≡ s
+  on_short s c e n = on_form s c false true _ e n refl ∙ (unfold on_form_lem in refl)
 
   pub stays-rows : (s : State) (cs : List HistoryRange) → (s.0.rows_too_long ≡ true) → replay_all st range s cs ≡ s
   unfolding replay_all
   stays-rows s [] n = refl
   stays-rows s (c ∷ cs) n = ap (λ (x : State). replay_all st range x cs) (on_rows s c n) ∙ stays-rows s cs n
 
-  pub stays-short : (s : State) (cs : List HistoryRange) → s.0.rows_too_long ≡ false → (s.0.out.short ≡ 0 → ⊥) → replay_all st range s cs ≡ s
+  pub stays-short : (s : State) (cs : List HistoryRange) → s.0.rows_too_long ≡ false → s.0.out.short ≡ true → replay_all st range s cs ≡ s
   unfolding replay_all
   stays-short s [] e n = refl
   stays-short s (c ∷ cs) e n = ap (λ (x : State). replay_all st range x cs) (on_short s c e n) ∙ stays-short s cs e n
 
   -- Open found no room, and it found room
-  pub on_full : (s : State) (c : HistoryRange) → s.0.rows_too_long ≡ false → s.0.out.short ≡ 0 → ((open_of (s.0.out, s.2) c).0.short ≡ 0 → ⊥) →
+  pub on_full : (s : State) (c : HistoryRange) → s.0.rows_too_long ≡ false → s.0.out.short ≡ false → (open_of (s.0.out, s.2) c).0.short ≡ true →
       replay_on st range s c ≡ (ranged (open_of (s.0.out, s.2) c).0 false, s.1, (open_of (s.0.out, s.2) c).1)
   on_full s c e f n =
-      on_form s c false true false e (eq-eqb s.0.out.short 0 f) (ne_eqb (open_of (s.0.out, s.2) c).0.short 0 n) ∙ (unfold on_form_lem in refl)
+      on_form s c false false true e f n ∙ (unfold on_form_lem in refl)
 
-  pub on_open : (s : State) (c : HistoryRange) → s.0.rows_too_long ≡ false → s.0.out.short ≡ 0 → (open_of (s.0.out, s.2) c).0.short ≡ 0 →
+  pub on_open : (s : State) (c : HistoryRange) → s.0.rows_too_long ≡ false → s.0.out.short ≡ false → (open_of (s.0.out, s.2) c).0.short ≡ false →
       replay_on st range s c ≡ opening st range (open_of (s.0.out, s.2) c) s.1 c
   on_open s c e f n =
-      on_form s c false true true e (eq-eqb s.0.out.short 0 f) (eq-eqb (open_of (s.0.out, s.2) c).0.short 0 n) ∙ (unfold on_form_lem in refl)
+      on_form s c false false false e f n ∙ (unfold on_form_lem in refl)
 
 abbrev state_of : Writing → List ℕ → State
 state_of x rows = (ranged x.0 false, rows, x.1)
@@ -154,21 +155,21 @@ module _ (g : Graph) (ws : List ℕ) where
   wrote_on done ss = emit_then st (going 0 0, ws) done ss
 
   wrote-is : (done : List Step) → ((wrote done).1 ≡ over (words (take room done)) ws) × ((wrote done).0.count ≡ length (take room done)) ×
-      ((wrote done).0.moved ≡ moved_in g (take room done)) × ((wrote done).0.short ≡ bit (ltb room (length done)))
+      ((wrote done).0.moved ≡ moved_in g (take room done)) × ((wrote done).0.short ≡ ltb room (length done))
   unfolding wrote
   wrote-is done = written-parts g done ws
 
-  wrote-short : (done : List Step) → (wrote done).0.short ≡ bit (ltb room (length done))
+  wrote-short : (done : List Step) → (wrote done).0.short ≡ ltb room (length done)
   wrote-short done = (wrote-is done).3
 
-  fits : (done : List Step) → length done ≤ room → (wrote done).0.short ≡ 0
-  fits done le = wrote-short done ∙ ap bit (le-ltb room (length done) le)
+  fits : (done : List Step) → length done ≤ room → (wrote done).0.short ≡ false
+  fits done le = wrote-short done ∙ le-ltb room (length done) le
 
-  full : (done : List Step) → room < length done → (wrote done).0.short ≡ 0 → ⊥
-  full done lt e = let z : ◌≡◌ {A = ℕ} 1 0 = sym (wrote-short done ∙ ap bit (lt-ltb room (length done) lt)) ∙ e in omega arith
+  full : (done : List Step) → room < length done → (wrote done).0.short ≡ true
+  full done lt = wrote-short done ∙ lt-ltb room (length done) lt
 
-  open_on : (done : List Step) (c : HistoryRange) (a b : ℕ) (x : Writing) → x ≡ wrote done → open_of x c ≡ emit_one x (step_of 3 a b 0) → open_of x c ≡ wrote (done ++ opened a b ∷ [])
-  open_on done c a b x e q = q ∙ (ap (λ (y : Writing). emit_one y (step_of 3 a b 0)) e ∙ (open_is st (wrote done) a b ∙ wrote_on done (opened a b ∷ [])))
+  open_on : (done : List Step) (c : HistoryRange) (a b : ℕ) (x : Writing) → x ≡ wrote done → open_of x c ≡ emit_one x (step_of Open a b 0) → open_of x c ≡ wrote (done ++ opened a b ∷ [])
+  open_on done c a b x e q = q ∙ (ap (λ (y : Writing). emit_one y (step_of Open a b 0)) e ∙ (open_is st (wrote done) a b ∙ wrote_on done (opened a b ∷ [])))
 
   -- What a replay from there on comes to
   pub record Ends (done : List Step) (r : Replayed) (t : State) : Type 0 where
@@ -255,12 +256,12 @@ module _ (g : Graph) (ws : List ℕ) where
             (subst (Ends done (more.0, ss ++ more.1, more.2)) (sym there) (ends_more done ss more.0 more.1 more.2 _ (rest fit)))
 
   -- The range's Open, from `done`
-  open_at : (done : List Step) (c : HistoryRange) (a b : ℕ) → open_of (wrote done) c ≡ emit_one (wrote done) (step_of 3 a b 0) →
+  open_at : (done : List Step) (c : HistoryRange) (a b : ℕ) → open_of (wrote done) c ≡ emit_one (wrote done) (step_of Open a b 0) →
       (rows : List ℕ) → open_of ((state_at done rows).0.out, (state_at done rows).2) c ≡ wrote (done ++ opened a b ∷ [])
   open_at done c a b q rows = open_on done c a b (wrote done) refl q
 
   -- Open found no room
-  no_room : (done : List Step) (c : HistoryRange) (cs : List HistoryRange) (a b : ℕ) (rows : List ℕ) → open_of (wrote done) c ≡ emit_one (wrote done) (step_of 3 a b 0) →
+  no_room : (done : List Step) (c : HistoryRange) (cs : List HistoryRange) (a b : ℕ) (rows : List ℕ) → open_of (wrote done) c ≡ emit_one (wrote done) (step_of Open a b 0) →
       length done ≡ room → Ends done (replay_ranges g (c ∷ cs) (room - length done) rows) (replay_all st (range_of g) (state_at done rows) (c ∷ cs))
   no_room done c cs a b rows q e =
       let x : Writing = wrote (done ++ opened a b ∷ []) in
@@ -268,7 +269,7 @@ module _ (g : Graph) (ws : List ℕ) where
       let o = open_at done c a b q rows in
       let z : room - length done ≡ 0 = omega arith in
       let on : replay_on st (range_of g) (state_at done rows) c ≡ (ranged x.0 false, rows, x.1) =
-      on_full st (range_of g) (state_at done rows) c refl (fits done (omega arith)) (λ s. full (done ++ opened a b ∷ []) long (sym (ap (λ (y : Writing). y.0.short) o) ∙ s)) ∙
+      on_full st (range_of g) (state_at done rows) c refl (fits done (omega arith)) (ap (λ (y : Writing). y.0.short) o ∙ full (done ++ opened a b ∷ []) long) ∙
       ap (λ (y : Writing). (ranged y.0 false, rows, y.1)) o in
       let there : replay_all st (range_of g) (state_at done rows) (c ∷ cs) ≡ (ranged x.0 false, rows, x.1) =
       all-next (state_at done rows) c cs ∙ (ap (λ (y : State). replay_all st (range_of g) y cs) on ∙ stays-short st (range_of g) (ranged x.0 false, rows, x.1) cs refl (full (done ++ opened a b ∷ []) long)) in
@@ -283,7 +284,7 @@ module _ (g : Graph) (ws : List ℕ) where
       all-next s c cs = unfold replay_all in refl
 
   -- Open found room: what follows it
-  opened_on : (done : List Step) (c : HistoryRange) (a b : ℕ) (rows : List ℕ) → open_of (wrote done) c ≡ emit_one (wrote done) (step_of 3 a b 0) → length done < room →
+  opened_on : (done : List Step) (c : HistoryRange) (a b : ℕ) (rows : List ℕ) → open_of (wrote done) c ≡ emit_one (wrote done) (step_of Open a b 0) → length done < room →
       replay_on st (range_of g) (state_at done rows) c ≡ opening st (range_of g) (wrote (done ++ opened a b ∷ [])) rows c
   opened_on done c a b rows q lt =
       let size : length (done ++ opened a b ∷ []) ≤ room = omega (arith, length-append done (opened a b ∷ [])) in

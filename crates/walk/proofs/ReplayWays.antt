@@ -10,6 +10,7 @@ use borrow.Author.Tests.{eq-eqb, ne_eqb}
 use Rattle.model.specs.declared.record.CausalGraph.{CausalGraph}
 use Rattle.model.specs.Cut.{linear, concurrent}
 use Rattle.model.specs.Choice.{Range}
+use Rattle.moves.specs.declared.writing.Kind.TheVariants.{Open}
 use Rattle.moves.specs.declared.writing.Out.{Out}
 use Rattle.moves.specs.Emit.{Writing, step_of, emit, emit_one, applies}
 use Rattle.walk.specs.declared.walking.Ranged.{Ranged}
@@ -19,11 +20,11 @@ use Rattle.walk.specs.CutRecords.{range_by, ranges_in}
 use Rattle.walk.proofs.Ranging.{on_rows, on_short, on_full, on_open}
 
 -- Of either kind a range has the same Open
-open_by : (x : Writing) (kind a b : ℕ) → open_of x (range_by kind a b) ≡ emit_one x (step_of 3 a b 0)
+open_by : (x : Writing) (kind a b : ℕ) → open_of x (range_by kind a b) ≡ emit_one x (step_of Open a b 0)
 unfolding range_by
 open_by x kind a b = go (eqb kind 0)
   where
-    go : (t : Bool) → open_of x (cond t (linear a b) (concurrent a b)) ≡ emit_one x (step_of 3 a b 0)
+    go : (t : Bool) → open_of x (cond t (linear a b) (concurrent a b)) ≡ emit_one x (step_of Open a b 0)
     go true = unfold open_of in refl
     go false = unfold open_of in refl
 
@@ -49,28 +50,28 @@ module _ (g : CausalGraph) (rows steps : List ℕ) (r : Ranged) (kind a b : ℕ)
   pub next-rows : (r.rows_too_long ≡ true) → (r, rows, steps) ≡ after
   next-rows n = sym (on_rows st range (r, rows, steps) (range_by kind a b) n)
 
-  pub next-short : r.rows_too_long ≡ false → (r.out.short ≡ 0 → ⊥) → (r, rows, steps) ≡ after
+  pub next-short : r.rows_too_long ≡ false → r.out.short ≡ true → (r, rows, steps) ≡ after
   next-short e n = sym (on_short st range (r, rows, steps) (range_by kind a b) e n)
 
   -- Open is written
-  module _ (e : r.rows_too_long ≡ false) (f : r.out.short ≡ 0) (o : Out) (l : List ℕ) (put : (o, l) ≡ emit_one (r.out, steps) (step_of 3 a b 0)) where
+  module _ (e : r.rows_too_long ≡ false) (f : r.out.short ≡ false) (o : Out) (l : List ℕ) (put : (o, l) ≡ emit_one (r.out, steps) (step_of Open a b 0)) where
     opened_is : (o, l) ≡ open_of (r.out, steps) (range_by kind a b)
     opened_is = put ∙ sym (open_by (r.out, steps) kind a b)
 
     short_is : o.short ≡ (open_of (r.out, steps) (range_by kind a b)).0.short
     short_is = ap (λ (x : Writing). x.0.short) opened_is
 
-    pub next_full : (o.short ≡ 0 → ⊥) → (ranged o false, rows, l) ≡ after
+    pub next_full : o.short ≡ true → (ranged o false, rows, l) ≡ after
     next_full n =
         ap (λ (x : Writing). (ranged x.0 false, rows, x.1)) opened_is ∙
-        sym (on_full st range (r, rows, steps) (range_by kind a b) e f (λ z. n (short_is ∙ z)))
+        sym (on_full st range (r, rows, steps) (range_by kind a b) e f (sym short_is ∙ n))
 
-    opening-is : o.short ≡ 0 → opening st range (o, l) rows (range_by kind a b) ≡ after
+    opening-is : o.short ≡ false → opening st range (o, l) rows (range_by kind a b) ≡ after
     opening-is z =
         ap (λ (x : Writing). opening st range x rows (range_by kind a b)) opened_is ∙
         sym (on_open st range (r, rows, steps) (range_by kind a b) e f (sym short_is ∙ z))
 
-    pub next_linear : o.short ≡ 0 → kind ≡ 0 → (y : Out) (m : List ℕ) → (y, m) ≡ emit (o, l) (applies a (b - a)) → (ranged y false, rows, m) ≡ after
+    pub next_linear : o.short ≡ false → kind ≡ 0 → (y : Out) (m : List ℕ) → (y, m) ≡ emit (o, l) (applies a (b - a)) → (ranged y false, rows, m) ≡ after
     next_linear z k y m w =
         ap (λ (x : Writing). (ranged x.0 false, rows, x.1)) w ∙ (is ∙
         (ap (opening st range (o, l) rows) (sym (by_linear kind a b k)) ∙ opening-is z))
@@ -78,7 +79,7 @@ module _ (g : CausalGraph) (rows steps : List ℕ) (r : Ranged) (kind a b : ℕ)
         is : ◌≡◌ {A = State} (ranged (emit (o, l) (applies a (b - a))).0 false, rows, (emit (o, l) (applies a (b - a))).1) (opening st range (o, l) rows (linear a b))
         is = unfold opening in refl
 
-    pub next_walk : o.short ≡ 0 → (kind ≡ 0 → ⊥) → (s : Ranged) (rows' m : List ℕ) →
+    pub next_walk : o.short ≡ false → (kind ≡ 0 → ⊥) → (s : Ranged) (rows' m : List ℕ) →
         (s, rows', m) ≡ walked_in st (range_at g a b) a 0 0 o rows l → (s, rows', m) ≡ after
     next_walk z k s rows' m w = w ∙ (is ∙ (ap (opening st range (o, l) rows) (sym (by_concurrent kind a b k)) ∙ opening-is z))
       where

@@ -5,7 +5,6 @@ use mathlib.Core.List.{List, [], ◌∷◌}
 use Prim.Native.Nat.{ℕ, ◌-◌, ◌/◌, ◌≤◌}
 use native.Mathlib.Omega.{arith}
 use lib.ListN.{length}
-use lib.Dec.{eqb}
 use Rattle.model.specs.declared.record.CausalGraph.{CausalGraph}
 use Rattle.model.specs.declared.answers.Walked.{Walked}
 use Rattle.model.specs.declared.answers.Refusal.TheVariants.{Broken}
@@ -39,9 +38,9 @@ on_same st st' range range' s c h =
     let x : Writing = open_of (s.0.out, s.2) c in
     ap (λ (t : State). elim s.0.rows_too_long as (λ _. State) [
       | true ↦ s
-      | false ↦ elim (eqb s.0.out.short 0) as (λ _. State) [
-        | false ↦ s
-        | true ↦ elim (eqb x.0.short 0) as (λ _. State) [ false ↦ (ranged x.0 false, s.1, x.1) | true ↦ t ]
+      | false ↦ elim s.0.out.short as (λ _. State) [
+        | true ↦ s
+        | false ↦ elim x.0.short as (λ _. State) [ true ↦ (ranged x.0 false, s.1, x.1) | false ↦ t ]
       ]
     ]) (h x s.1)
 

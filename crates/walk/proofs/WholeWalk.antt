@@ -5,8 +5,8 @@ use mathlib.Core.List.{List, [], ◌∷◌}
 use Prim.Native.Nat.{ℕ, ◌-◌, ◌≤◌}
 use native.Mathlib.Omega.{arith}
 use lib.ListN.{get_or}
-use lib.Dec.{ltb, eqb}
-use borrow.Author.Tests.{ltb-false, eq-eqb, ne_eqb}
+use lib.Dec.{ltb}
+use borrow.Author.Tests.{ltb-false}
 use Rattle.lists.proofs.Truth.{or-first, or-last}
 use Rattle.model.specs.declared.record.CausalGraph.{CausalGraph}
 use Rattle.model.specs.declared.answers.Walked.{Walked}
@@ -45,22 +45,22 @@ walked_same st st' h w a known first out rows steps =
 
 -- The answer by what was refused
 told_form : Out → Bool → Bool → Walked
-told_form o t u = record { count = o.count; moved = o.moved; outcome = elim t [ true ↦ Err RowsTooLong | false ↦ elim u [ true ↦ (Ok tt) | false ↦ Err ListTooShort ] ] }
+told_form o t u = record { count = o.count; moved = o.moved; outcome = elim t [ true ↦ Err RowsTooLong | false ↦ elim u [ true ↦ Err ListTooShort | false ↦ (Ok tt) ] ] }
 
-told : (r : Ranged) (t u : Bool) → r.rows_too_long ≡ t → eqb r.out.short 0 ≡ u → told_form r.out t u ≡ walked_of r
+told : (r : Ranged) (t u : Bool) → r.rows_too_long ≡ t → r.out.short ≡ u → told_form r.out t u ≡ walked_of r
 told r t u p q = unfold walked_of outcome_of told_form in (ap₂ (λ (t u : Bool). told_form r.out t u) (sym p) (sym q))
 
 pub told-rows : (r : Ranged) → r.rows_too_long ≡ true → record { count = r.out.count; moved = r.out.moved; outcome = Err RowsTooLong } ≡ walked_of r
 unfolding told_form
-told-rows r e = told r true (eqb r.out.short 0) e refl
+told-rows r e = told r true r.out.short e refl
 
-pub told-short : (r : Ranged) → r.rows_too_long ≡ false → (r.out.short ≡ 0 → ⊥) → record { count = r.out.count; moved = r.out.moved; outcome = Err ListTooShort } ≡ walked_of r
+pub told-short : (r : Ranged) → r.rows_too_long ≡ false → r.out.short ≡ true → record { count = r.out.count; moved = r.out.moved; outcome = Err ListTooShort } ≡ walked_of r
 unfolding told_form
-told-short r e n = told r false false e (ne_eqb r.out.short 0 n)
+told-short r e n = told r false true e n
 
-pub told-done : (r : Ranged) → r.rows_too_long ≡ false → r.out.short ≡ 0 → record { count = r.out.count; moved = r.out.moved; outcome = Ok tt } ≡ walked_of r
+pub told-done : (r : Ranged) → r.rows_too_long ≡ false → r.out.short ≡ false → record { count = r.out.count; moved = r.out.moved; outcome = Ok tt } ≡ walked_of r
 unfolding told_form
-told-done r e f = told r false true e (eq-eqb r.out.short 0 f)
+told-done r e f = told r false false e f
 
 -- The answer and what is left in the lists, by what is written
 pub answer_of : (r : Ranged) (rows steps : List ℕ) (w : Walked) → w ≡ walked_of r → (s : State) → (r, rows, steps) ≡ s → ◌≡◌ {A = WalkResult} (w, rows, steps) (result_of s)

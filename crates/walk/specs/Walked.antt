@@ -1,11 +1,12 @@
 -- What a range, or several, came to: what is written in the step list and in the row area. Assumes nothing.
-use Rattle.std.specs.Prelude.{Bool, true, false, List, [], ◌∷◌, ℕ, ◌-◌, eqb, Ok, Err}
+use Rattle.std.specs.Prelude.{Bool, true, false, List, [], ◌∷◌, ℕ, ◌-◌}
 use Rattle.model.specs.declared.answers.Walked.{Walked}
 use Rattle.model.specs.declared.answers.Refusal.TheVariants.{RowsTooLong, ListTooShort}
 use Rattle.model.specs.Cut.{HistoryRange, linear, concurrent}
 use Rattle.model.specs.Choice.{Range}
 use Rattle.model.specs.Steps.{steps_of}
 use Rattle.model.specs.Walk.{WalkResult, rows_into, rows_too_long}
+use Rattle.moves.specs.declared.writing.Kind.TheVariants.{Open}
 use Rattle.moves.specs.declared.writing.Out.{Out}
 use Rattle.moves.specs.Emit.{Writing, step_of, emit_one, emit, applies}
 use Rattle.moves.specs.Moves.{recs}
@@ -18,7 +19,7 @@ State = Ranged × List ℕ × List ℕ
 
 -- Nothing is written
 abbrev pub unwritten : Out
-unwritten = record { count = 0; moved = 0; short = 0 }
+unwritten = record { count = 0; moved = 0; short = false }
 
 -- Steps written, and whether rows were too long
 abbrev pub ranged : Out → Bool → Ranged
@@ -37,7 +38,7 @@ walked_in st w a known first out rows steps = elim (rows_too_long w rows) [
 unfoldable pub outcome_of : Ranged → Outcome
 outcome_of r = elim r.rows_too_long [
   | true ↦ Err RowsTooLong
-  | false ↦ elim (eqb r.out.short 0) [ true ↦ (Ok tt) | false ↦ Err ListTooShort ]
+  | false ↦ elim r.out.short [ true ↦ Err ListTooShort | false ↦ (Ok tt) ]
 ]
 
 unfoldable pub walked_of : Ranged → Walked
@@ -54,18 +55,18 @@ opening st range x rows (concurrent a b) = walked_in st (range a b) a 0 0 x.0 ro
 
 -- Its Open
 unfoldable pub open_of : Writing → HistoryRange → Writing
-open_of x (linear a b) = emit_one x (step_of 3 a b 0)
-open_of x (concurrent a b) = emit_one x (step_of 3 a b 0)
+open_of x (linear a b) = emit_one x (step_of Open a b 0)
+open_of x (concurrent a b) = emit_one x (step_of Open a b 0)
 
 -- A range of the cut replayed: nothing where something was refused before; Open; and the rest where Open found room
 unfoldable pub replay_on : List ℕ → (ℕ → ℕ → Range) → State → HistoryRange → State
 replay_on st range s c = elim s.0.rows_too_long [
   | true ↦ s
-  | false ↦ elim (eqb s.0.out.short 0) [
-    | false ↦ s
-    | true ↦
+  | false ↦ elim s.0.out.short [
+    | true ↦ s
+    | false ↦
         let x : Writing = open_of (s.0.out, s.2) c in
-        elim (eqb x.0.short 0) [ false ↦ (ranged x.0 false, s.1, x.1) | true ↦ opening st range x s.1 c ]
+        elim x.0.short [ true ↦ (ranged x.0 false, s.1, x.1) | false ↦ opening st range x s.1 c ]
   ]
 ]
 

@@ -11,7 +11,7 @@ use crate::walking;
 use crate::walking::Ranged;
 use model::{CausalGraph, EventRunIndex, MAX_RUNS, Refusal, Walked};
 use moves::writing;
-use moves::writing::Out;
+use moves::writing::{Kind, Out};
 use tables::words::get;
 
 // One range of the cut: Open, then its runs in order (kind 0) or its walk. Nothing where something was refused before.
@@ -34,11 +34,11 @@ fn replay_next(
     if r.rows_too_long {
         return r;
     }
-    if r.out.short != 0 {
+    if r.out.short {
         return r;
     }
-    let out = writing::put_step(steps, r.out, 3, a.0, b.0, 0);
-    if out.short != 0 {
+    let out = writing::put_step(steps, r.out, Kind::Open, a.0, b.0, 0);
+    if out.short {
         return Ranged {
             out,
             rows_too_long: false,
@@ -70,7 +70,7 @@ fn replay_all(
     let out = Out {
         count: 0,
         moved: 0,
-        short: 0,
+        short: false,
     };
     let mut r = Ranged {
         out,

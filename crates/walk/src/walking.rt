@@ -50,7 +50,7 @@ pub(crate) fn walk_range(
 {
     let runs = b.0 - a.0;
     let n = wide(runs);
-    let area = tabling::lay(
+    let Some(area) = tabling::lay(
         &graph.parent_starts,
         &graph.parents,
         a.0,
@@ -59,13 +59,12 @@ pub(crate) fn walk_range(
         &mut areas.groups,
         &mut areas.tables,
         &mut areas.scratch,
-    );
-    if area.short != 0 {
+    ) else {
         return Ranged {
             out,
             rows_too_long: true,
         };
-    }
+    };
     let x = wide(a.0);
     let y = x + n + 1;
     areas.prepare(&graph.starts[x..y], n, area.chains, rows);
@@ -92,7 +91,7 @@ pub(crate) fn walked(r: Ranged) -> Walked
 {
     let outcome = if r.rows_too_long {
         Err(Refusal::RowsTooLong)
-    } else if r.out.short != 0 {
+    } else if r.out.short {
         Err(Refusal::ListTooShort)
     } else {
         Ok(())
@@ -121,12 +120,10 @@ fn walk_held(
     let out = Out {
         count: 0,
         moved: 0,
-        short: 0,
+        short: false,
     };
     let mut areas = Areas::new();
-    walked(walk_range(
-        out, a, b, known, first, &g, rows, steps, &mut areas,
-    ))
+    walked(walk_range(out, a, b, known, first, &g, rows, steps, &mut areas))
 }
 
 // The walk over the runs from `first_run` up to `end_run`: rows into `rows`, steps into `steps`.
