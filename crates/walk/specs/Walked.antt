@@ -1,5 +1,5 @@
 -- What a range, or several, came to: what is written in the step list and in the row area. Assumes nothing.
-use Rattle.std.specs.Prelude.{Bool, true, false, List, [], ◌∷◌, ℕ, ◌-◌}
+use Rattle.std.specs.Prelude.{Bool, true, false, List, [], ◌∷◌, ℕ, ◌-◌, Ok, Err}
 use Rattle.model.specs.declared.answers.Walked.{Walked}
 use Rattle.model.specs.declared.answers.Refusal.TheVariants.{RowsTooLong, ListTooShort}
 use Rattle.model.specs.Cut.{HistoryRange, linear, concurrent}
