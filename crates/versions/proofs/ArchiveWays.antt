@@ -15,8 +15,8 @@ use Rattle.lists.specs.Scans.{kept_in}
 use Rattle.lists.specs.declared.Kept.{Kept}
 use Rattle.lists.proofs.Truth.{lt_or_le, bool_iff}
 use Rattle.lists.proofs.Members.{get_d_all, all-from_on, filter_agree, filter_map}
-use Rattle.lists.proofs.Counts.{mem-from, count_same}
-use Rattle.lists.proofs.Keeping.{kept_list, kept-fits}
+use Rattle.lists.proofs.Counts.{mem-from, count_same, filter-length, from-length}
+use Rattle.lists.proofs.Keeping.{kept_list, kept-count}
 use Rattle.lists.proofs.Passing.{passing}
 use Rattle.lists.proofs.Bounds.{below_of}
 use Rattle.lists.proofs.Pads.{get_pad}
@@ -36,10 +36,9 @@ use Rattle.model.proofs.Archiving.{Parted, point_parted}
 use Rattle.graph.specs.declared.cut.Put.{Put}
 use Rattle.graph.specs.Cutting.{blank, put_all, written_of}
 use Rattle.graph.specs.Loops.{marks_of}
-use Rattle.graph.specs.Rows.{row}
 use Rattle.graph.proofs.Views.{facts, runs-view, start-view, starts-pad}
 use Rattle.graph.proofs.Writing.{put-writing}
-use Rattle.graph.proofs.Entries.{parents-below, parents-rise, row-view}
+use Rattle.graph.proofs.Entries.{parents-below, parents-rise}
 use Rattle.graph.proofs.Marking.{is_mark, marks-filter}
 use Rattle.versions.specs.Heads.{childless, heads, last_in, highest_by, highest, first_children, is_head, whole_in, HeadsFit, HeadCounts, SeenLengths}
 use Rattle.versions.proofs.FirstChildren.{head_is}
@@ -57,16 +56,11 @@ module _ (g : CausalGraph) (held : Held g) where
   abbrev n : ℕ
   n = g.run_count
 
-  abbrev rows : ℕ → List ℕ
-  rows = row g.parent_starts g.parents
-
   rise : (r : ℕ) → rising (at pss r) ≡ true
   rise = parents-rise g held
 
-  same : (c : ℕ) → c < n → rows c ≡ at pss c
-  same c lt = row-view g held c lt
-
-  module _ (firsts : List ℕ) (is : firsts ≡ first_children rows n) where
+  -- By the graph's rows
+  module _ (rows : ℕ → List ℕ) (same : (c : ℕ) → c < n → rows c ≡ at pss c) (firsts : List ℕ) (is : firsts ≡ first_children rows n) where
     -- First children tell the heads, and the counts how many there are
     told : (m p : ℕ) → m ≤ n → p < n → is_head firsts m p ≡ childless pss m p
     told m p le lt =
@@ -176,8 +170,16 @@ module _ (g : CausalGraph) (held : Held g) where
 
   module _ (k : Kept) (kept : k ≡ kept_in point_runs) where
     -- What the writer needs of them
-    pub points_fit : k.count ≤ length k.items
-    points_fit = kept-fits k point_runs kept
+    pub points_fit : k.count ≤ 512
+    unfolding upto
+    points_fit = omega (
+      arith,
+      kept-count k point_runs kept,
+      filter-length (λ r. seen_by_later G (start G r)) (upto (runs G)),
+      from-length 0 (runs G),
+      runs-view g held,
+      (facts g held).runs,
+    )
 
     pub points-below : below (length g.starts) (take k.count k.items) ≡ true
     points-below =

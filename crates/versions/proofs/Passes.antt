@@ -6,58 +6,42 @@ use Prim.Native.Nat.{ℕ, zero, suc, ◌+◌, ◌-◌, ◌<◌, ◌≤◌}
 use native.Mathlib.Nat.{sub-zero}
 use native.Mathlib.Numerals.{add-one}
 use native.Mathlib.Omega.{arith}
-use lib.ListN.{length, get_or, set, get_or-eq_default}
+use lib.ListN.{length, get_or, set, drop, get_or-eq_default}
 use lib.Seq.{drop-cons}
+use Rattle.std.proofs.lemmas.List.{drop_all}
 use lib.Dec.{ltb, eqb}
 use borrow.Author.Tests.{le-leb, lt-leb, ltb-true, eq-eqb, ne_eqb}
 use Rattle.lists.specs.Lists.{bit, any, all, filter, from, upto, below}
-use Rattle.lists.specs.Areas.{part}
-use Rattle.lists.proofs.Truth.{and_left, and_right}
+use Rattle.lists.proofs.Members.{all_get_d}
 use Rattle.lists.proofs.Bounds.{below_of, below_at}
 use Rattle.graph.specs.declared.cut.Put.{Put}
 use Rattle.graph.specs.Cutting.{put, put_all}
 use Rattle.graph.specs.Rows.{row, Rows}
 use Rattle.versions.specs.Flags.{flag_all, flag_parents, flag_down, flagged, flag_child, flag_up, free}
 
--- A part of a list, item by item
-module _ (items : List ℕ) (to : ℕ) (fits : to ≤ length items) (i : ℕ) where
-  pub part-first : i < to → part i to items ≡ get_or items i 0 ∷ part (i + 1) to items
-  unfolding part
-  part-first h = let e : to - i ≡ suc (to - suc i) = omega arith in rw (add-one i, e, drop-cons items i 0 (omega arith))
+-- A list, item by item
+module _ (xs : List ℕ) (i : ℕ) where
+  pub left-first : i < length xs → drop i xs ≡ get_or xs i 0 ∷ drop (i + 1) xs
+  left-first h = rw (add-one i, drop-cons xs i 0 h)
 
-  pub part_none : to ≤ i → part i to items ≡ []
-  unfolding part
-  part_none h = let e : to - i ≡ 0 = omega arith in rw e
+  pub left_none : length xs ≤ i → drop i xs ≡ []
+  left_none h = drop_all i xs h
 
-  pub part_here : (n : ℕ) → i < to → below n (part i to items) ≡ true → get_or items i 0 < n
-  unfolding below all
-  part_here n h e = ltb-true (get_or items i 0) n (and_left (ltb (get_or items i 0) n) (below n (part (i + 1) to items)) (sym (ap (below n) (part-first h)) ∙ e))
+  pub item_below : (n : ℕ) → below n xs ≡ true → i < length xs → get_or xs i 0 < n
+  unfolding below
+  item_below n e h = ltb-true (get_or xs i 0) n (all_get_d (λ x. ltb x n) xs i e h)
 
-  pub part-later : (n : ℕ) → i < to → below n (part i to items) ≡ true → below n (part (i + 1) to items) ≡ true
-  unfolding below all
-  part-later n h e = and_right (ltb (get_or items i 0) n) (below n (part (i + 1) to items)) (sym (ap (below n) (part-first h)) ∙ e)
-
-  pub flag_next : (flags : List ℕ) → i < to → flag_all (set flags (get_or items i 0) 1) (part (i + 1) to items) ≡ flag_all flags (part i to items)
+  pub flag_next : (flags : List ℕ) → i < length xs → flag_all (set flags (get_or xs i 0) 1) (drop (i + 1) xs) ≡ flag_all flags (drop i xs)
   unfolding flag_all
-  flag_next flags h = sym (ap (flag_all flags) (part-first h))
+  flag_next flags h = sym (ap (flag_all flags) (left-first h))
 
-  pub flag_none : (flags : List ℕ) → to ≤ i → flags ≡ flag_all flags (part i to items)
+  pub flag_none : (flags : List ℕ) → length xs ≤ i → flags ≡ flag_all flags (drop i xs)
   unfolding flag_all
-  flag_none flags h = sym (ap (flag_all flags) (part_none h))
-
-  pub any_next : (p : ℕ → Bool) → i < to → any p (part i to items) ≡ p (get_or items i 0) || any p (part (i + 1) to items)
-  unfolding any
-  any_next p h = ap (any p) (part-first h)
-
-  pub any_none : (p : ℕ → Bool) → to ≤ i → any p (part i to items) ≡ false
-  unfolding any
-  any_none p h = ap (any p) (part_none h)
+  flag_none flags h = sym (ap (flag_all flags) (left_none h))
 
 -- A row's numbers are runs
-pub row_below : (starts items : List ℕ) (n m r : ℕ) → Rows starts items n → r < n → n ≤ m →
-    below m (part (get_or starts r 0) (get_or starts (r + 1) 0) items) ≡ true
-unfolding row
-row_below starts items n m r rows h le = below_of m _ (λ x k. omega (arith, below_at r (part (get_or starts r 0) (get_or starts (r + 1) 0) items) (rows.low r h) x k))
+pub row_below : (starts items : List ℕ) (n m r : ℕ) → Rows starts items n → r < n → r ≤ m → below m (row starts items r) ≡ true
+row_below starts items n m r rows h le = below_of m (row starts items r) (λ x k. omega (arith, below_at r (row starts items r) (rows.low r h) x k))
 
 -- Whether a number is flagged
 pub flagged-low : (flags : List ℕ) (r p : ℕ) → p < r → false ≡ flagged flags r p

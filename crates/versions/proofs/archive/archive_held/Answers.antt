@@ -3,12 +3,15 @@ use Rattle.versions.proofs.Points.{points_of}
 use Rattle.versions.proofs.ArchiveWays.{points_fit, points-below, points_are, archive_done}
 use Rattle.versions.proofs.archive.archive_held.Goals as goal
 
+pub shared_ref_as_front-put_points : goal.shared_ref_as_front-put_points
+shared_ref_as_front-put_points c =
+    let r = c.point_runs-points in
+    points_fit c.args.g c.requires r.result r.ensures
+
 pub put_points-p-requires : goal.put_points-p-requires
 put_points-p-requires c =
-    let a = c.args in
-    let p = c.requires in
     let r = c.point_runs-points in
-    record { n_in_bounds = points_fit a.g p r.result r.ensures; points_value = points-below a.g p r.result r.ensures }
+    points-below c.args.g c.requires r.result r.ensures
 
 pub returns : goal.returns
 unfolding points_of

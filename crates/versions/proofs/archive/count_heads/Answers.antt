@@ -1,48 +1,24 @@
--- `versions::archive::count_heads` meets its contract. The loop's invariant: the count with those left is the whole. The measure is what is left of the part. Assumes nothing.
-use native.Mathlib.Omega.{arith}
-use lib.ListN.{length}
+-- `versions::archive::count_heads` meets its contract. The loop's invariant: the count with those left is the whole. Assumes nothing.
+use Rattle.std.proofs.Common.{◌≡◌, length, get_or, ap, arith}
+use Rattle.lists.specs.Lists.{bit}
 use Rattle.versions.specs.Heads.{is_head}
-use Rattle.versions.proofs.Passes.{part_here, part-later}
-use Rattle.versions.proofs.HeadTurns.{part_count, part-ends}
+use Rattle.versions.proofs.Passes.{item_below}
+use Rattle.versions.proofs.HeadTurns.{byte_bit, count-left, count_none}
 use Rattle.versions.proofs.archive.count_heads.Goals as goal
 
-pub loop-i-init : goal.loop-i-init
-loop-i-init c = (omega arith, (c.requires.value, omega arith))
+pub bounds-firsts-p : goal.bounds-firsts-p
+bounds-firsts-p c = item_below c.args.parents.now c.loop-p.p-index (length c.args.firsts.now) c.requires c.loop-p-test.true
 
-pub overflow_cast-items : goal.overflow_cast-items
-overflow_cast-items c = omega (arith, c.type_inv.items c.loop-i.i)
-
-pub offset_bounds-firsts-items : goal.offset_bounds-firsts-items
-offset_bounds-firsts-items c = omega (arith, c.type_inv.items c.loop-i.i)
-
-pub bounds-firsts-items : goal.bounds-firsts-items
-bounds-firsts-items c =
-    let a = c.args in
-    let p = c.requires in
-    let l = c.loop-i in
-    part_here a.items.now a.to p.to_in_bounds l.i (length a.firsts.now) c.loop-i-test.true l.invariant.1.0
-
-pub overflow_add-k : goal.overflow_add-k
-overflow_add-k c = omega (arith, c.one_if_head-k.ensures.1)
-
-pub loop-i-preserved : goal.loop-i-preserved
+pub loop-p-preserved : goal.loop-p-preserved
 unfolding is_head
-loop-i-preserved c =
+loop-p-preserved c =
     let a = c.args in
-    let p = c.requires in
-    let l = c.loop-i in
-    let lt = c.loop-i-test.true in
-    let e = c.one_if_head-k.ensures in (
-      omega (arith, e.1),
-      (
-        part-later a.items.now a.to p.to_in_bounds l.i (length a.firsts.now) lt l.invariant.1.0,
-        omega (arith, e.0, part_count a.items.now a.to p.to_in_bounds l.i (is_head a.firsts.now a.run.0) lt, l.invariant.1.1),
-      ),
-    )
+    let l = c.loop-p in
+    let one = byte_bit c.is_head.result in
+    let is : bit c.is_head.result ≡ bit (is_head a.firsts.now a.run.0 (get_or a.parents.now l.p-index 0)) = ap bit c.is_head.ensures in
+    (omega (arith, c.from-k.ensures), omega (arith, c.from-k.ensures, count-left a.parents.now l.p-index (is_head a.firsts.now a.run.0) c.loop-p-test.true, l.invariant.1))
 
 pub returns : goal.returns
 returns c =
     let a = c.args in
-    let p = c.requires in
-    let l = c.loop-i in
-    omega (arith, part-ends a.items.now a.to p.to_in_bounds l.i (is_head a.firsts.now a.run.0) c.loop-i-test.false, l.invariant.1.1)
+    omega (arith, count_none a.parents.now c.loop-p.p-index (is_head a.firsts.now a.run.0) c.loop-p-test.false, c.loop-p.invariant.1)

@@ -1,61 +1,26 @@
--- `versions::archive::first_children` meets its contract. The loop's invariant: the first children among the runs so far. The measure is what is left of `n`. Assumes nothing.
-use mathlib.Core.Path.{◌≡◌, sym, ◌∙◌, ap}
-use mathlib.Core.List.{List}
-use Prim.Native.Nat.{ℕ, ◌+◌}
-use native.Mathlib.Omega.{arith}
-use lib.ListN.{length}
-use Rattle.graph.specs.Rows.{row}
+-- `versions::archive::first_children` meets its contract. The loop's invariant: the first children among the runs so far. Assumes nothing.
+use Rattle.std.proofs.Common.{◌≡◌, List, ℕ, refl, sym, ◌∙◌, ap, arith, length}
+use Rattle.lists.specs.Areas.{pad}
 use Rattle.versions.specs.Heads.{note_all, first_children}
+use Rattle.versions.specs.Parents.{parents_in}
 use Rattle.versions.proofs.Passes.{row_below}
 use Rattle.versions.proofs.FirstChildren.{firsts-length}
-use Rattle.versions.proofs.HeadTurns.{children-start, children-next}
+use Rattle.versions.proofs.HeadTurns.{children-next}
 use Rattle.versions.proofs.archive.first_children.Goals as goal
 
 pub loop-q-init : goal.loop-q-init
-loop-q-init c =
-    let a = c.args in
-    (omega arith, children-start (row a.starts.now a.items.now) c.nothing-none.result c.nothing-none.ensures)
-
-pub slice_bounds-note_child-end : goal.slice_bounds-note_child-end
-slice_bounds-note_child-end c =
-    let a = c.args in
-    let l = c.loop-q in
-    sym (ap length l.invariant.1 ∙ firsts-length (row a.starts.now a.items.now) l.q)
-
-pub bounds-starts-q : goal.bounds-starts-q
-bounds-starts-q c = omega (arith, c.requires.fits)
-
-pub overflow_cast-starts : goal.overflow_cast-starts
-overflow_cast-starts c = omega (arith, c.type_inv.starts c.loop-q.q)
-
-pub bounds-starts-q-in-loop-q : goal.bounds-starts-q-in-loop-q
-bounds-starts-q-in-loop-q c = omega (arith, c.requires.fits)
-
-pub overflow_cast-starts-in-loop-q : goal.overflow_cast-starts-in-loop-q
-overflow_cast-starts-in-loop-q c = omega (arith, c.type_inv.starts (c.loop-q.q + 1))
-
-pub overflow_cast-q : goal.overflow_cast-q
-overflow_cast-q c = omega (arith, c.requires.few)
+unfolding first_children pad
+loop-q-init c = refl
 
 pub note_child-requires : goal.note_child-requires
 note_child-requires c =
-    let a = c.args in
-    let p = c.requires in
+    let p = c.args.parents in
     let l = c.loop-q in
-    let lt = c.loop-q-test.true in
-    record { to_in_bounds = p.inside l.q lt; value = row_below a.starts.now a.items.now a.n _ l.q p lt (omega (arith, p.few, ap length l.invariant.1, firsts-length (row a.starts.now a.items.now) l.q)) }
+    let e : length l.firsts ≡ 512 = ap length l.invariant ∙ firsts-length (parents_in p) l.q in
+    rw c.of.ensures (row_below p.starts.now p.items.now _ _ l.q p.rows (omega arith) (omega (arith, p.rows.few)))
 
 pub loop-q-preserved : goal.loop-q-preserved
-unfolding row
 loop-q-preserved c =
-    let a = c.args in
+    let rows : ℕ → List ℕ = parents_in c.args.parents in
     let l = c.loop-q in
-    let rows : ℕ → List ℕ = row a.starts.now a.items.now in
-    (omega arith, c.note_child.ensures ∙ (ap (λ (f : List ℕ). note_all f l.q (rows l.q)) l.invariant.1 ∙ children-next rows l.q))
-
-pub returns : goal.returns
-returns c =
-    let a = c.args in
-    let l = c.loop-q in
-    let e : l.q ≡ a.n = omega arith in
-    l.invariant.1 ∙ ap (first_children (row a.starts.now a.items.now)) e
+    c.note_child.ensures ∙ (rw (c.of.ensures, l.invariant) (children-next rows l.q))

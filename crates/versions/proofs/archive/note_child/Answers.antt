@@ -1,56 +1,23 @@
--- `versions::archive::note_child` meets its contract. The loop's invariant: what is left, noted from here, is the whole. The measure is what is left of the part. Assumes nothing.
-use mathlib.Core.Path.{refl, ◌∙◌}
-use native.Mathlib.Omega.{arith}
-use lib.ListN.{length, length-set}
-use Rattle.versions.proofs.Passes.{part_here, part-later}
+-- `versions::archive::note_child` meets its contract. The loop's invariant: what is left, noted from here, is the whole. Assumes nothing.
+use Rattle.std.proofs.Common.{◌∙◌, length, arith}
+use Rattle.versions.proofs.Passes.{item_below}
 use Rattle.versions.proofs.HeadTurns.{note-next, note-none}
 use Rattle.versions.proofs.archive.note_child.Goals as goal
 
-pub loop-i-init : goal.loop-i-init
-loop-i-init c = (refl, (c.requires.value, refl))
+pub bounds-firsts-at : goal.bounds-firsts-at
+bounds-firsts-at c = omega (arith, item_below c.args.parents.now c.loop-p.p-index (length c.args.firsts.now) c.requires c.loop-p-test.true)
 
-pub overflow_cast-p : goal.overflow_cast-p
-overflow_cast-p c = omega (arith, c.type_inv.items c.loop-i.i)
+pub bounds-firsts-at-in-loop-p : goal.bounds-firsts-at-in-loop-p
+bounds-firsts-at-in-loop-p c = omega (arith, item_below c.args.parents.now c.loop-p.p-index (length c.args.firsts.now) c.requires c.loop-p-test.true)
 
-pub offset_bounds-firsts-p : goal.offset_bounds-firsts-p
-offset_bounds-firsts-p c = omega (arith, c.type_inv.items c.loop-i.i)
-
-pub bounds-firsts-p : goal.bounds-firsts-p
-bounds-firsts-p c =
+pub loop-p-preserved : goal.loop-p-preserved
+loop-p-preserved c =
     let a = c.args in
-    let p = c.requires in
-    let l = c.loop-i in
-    omega (arith, part_here a.items.now a.to p.to_in_bounds l.i (length a.firsts.now) c.loop-i-test.true l.invariant.1.0, l.invariant.0)
-
-pub offset_bounds-firsts-p-in-loop-i : goal.offset_bounds-firsts-p-in-loop-i
-offset_bounds-firsts-p-in-loop-i c = omega (arith, c.type_inv.items c.loop-i.i)
-
-pub bounds-firsts-p-in-loop-i : goal.bounds-firsts-p-in-loop-i
-bounds-firsts-p-in-loop-i c =
-    let a = c.args in
-    let p = c.requires in
-    let l = c.loop-i in
-    omega (arith, part_here a.items.now a.to p.to_in_bounds l.i (length a.firsts.now) c.loop-i-test.true l.invariant.1.0, l.invariant.0)
-
-pub loop-i-preserved : goal.loop-i-preserved
-loop-i-preserved c =
-    let a = c.args in
-    let p = c.requires in
-    let l = c.loop-i in
-    let lt = c.loop-i-test.true in (
-      simp length-set l.invariant.0,
-      (
-        part-later a.items.now a.to p.to_in_bounds l.i (length a.firsts.now) lt l.invariant.1.0,
-        rw c.noted.ensures (note-next a.items.now a.to p.to_in_bounds l.i l.firsts a.child.0 lt) ∙ l.invariant.1.1,
-      ),
-    )
-
-pub shape_of-firsts : goal.shape_of-firsts
-shape_of-firsts c = c.loop-i.invariant.0
+    let l = c.loop-p in
+    rw c.noted.ensures (note-next a.parents.now l.p-index l.firsts a.child.0 c.loop-p-test.true) ∙ l.invariant
 
 pub returns : goal.returns
 returns c =
     let a = c.args in
-    let p = c.requires in
-    let l = c.loop-i in
-    note-none a.items.now a.to p.to_in_bounds l.i l.firsts a.child.0 c.loop-i-test.false ∙ l.invariant.1.1
+    let l = c.loop-p in
+    note-none a.parents.now l.p-index l.firsts a.child.0 c.loop-p-test.false ∙ l.invariant
