@@ -6,13 +6,16 @@ use Prim.Native.Nat.{ℕ, zero, suc, ◌+◌, ◌-◌, ◌<◌, ◌≤◌}
 use native.Mathlib.Nat.{sub-zero}
 use native.Mathlib.Numerals.{add-one}
 use native.Mathlib.Omega.{arith}
-use lib.ListN.{length, get_or, set, drop, get_or-eq_default}
-use lib.Seq.{drop-cons}
+use lib.ListN.{length, get_or, set, take, drop, length-take, get_or-eq_default}
+use lib.Seq.{drop-cons, get_or-take}
 use Rattle.std.proofs.lemmas.List.{drop_all}
+use Rattle.std.proofs.lemmas.List.Recursion.{is_count_by}
+use Rattle.std.specs.List.{list_any, count_by}
 use lib.Dec.{ltb, eqb}
 use borrow.Author.Tests.{le-leb, lt-leb, ltb-true, eq-eqb, ne_eqb}
-use Rattle.lists.specs.Lists.{bit, any, all, filter, from, upto, below}
-use Rattle.lists.proofs.Members.{all_get_d}
+use Rattle.lists.specs.Lists.{bit, any, all, filter, count, from, upto, below}
+use Rattle.lists.proofs.Members.{all_get_d, filter_agree}
+use Rattle.lists.proofs.Counts.{mem-from}
 use Rattle.lists.proofs.Bounds.{below_of, below_at}
 use Rattle.graph.specs.declared.cut.Put.{Put}
 use Rattle.graph.specs.Cutting.{put, put_all}
@@ -38,6 +41,12 @@ module _ (xs : List ℕ) (i : ℕ) where
   pub flag_none : (flags : List ℕ) → length xs ≤ i → flags ≡ flag_all flags (drop i xs)
   unfolding flag_all
   flag_none flags h = sym (ap (flag_all flags) (left_none h))
+
+-- Whether a test passes somewhere, in std's word
+pub any_is : (p : ℕ → Bool) (xs : List ℕ) → any p xs ≡ list_any p xs
+unfolding any
+any_is p [] = refl
+any_is p (x ∷ xs) = ap (λ (t : Bool). p x || t) (any_is p xs)
 
 -- A row's numbers are runs
 pub row_below : (starts items : List ℕ) (n m r : ℕ) → Rows starts items n → r < n → r ≤ m → below m (row starts items r) ≡ true
@@ -103,12 +112,40 @@ unfolding free_from filter from
 free-none flags q n h = let e : n - q ≡ 0 = omega arith in rw e
 
 -- counted
-pub count_next : (flags : List ℕ) (q n : ℕ) → q < n → bit (eqb (get_or flags q 0) 0) + length (free_from flags (q + 1) n) ≡ length (free_from flags q n)
-count_next flags q n h = go (eqb (get_or flags q 0) 0) ∙ sym (ap length (free-next flags q n h))
+count_is : (p : ℕ → Bool) (xs : List ℕ) → count p xs ≡ count_by p xs
+unfolding count
+count_is p xs = is_count_by (count p) p refl (λ x ys. go (p x) ys) xs
   where
-    go : (t : Bool) → bit t + length (free_from flags (q + 1) n) ≡ length (cond t (q ∷ free_from flags (q + 1) n) (free_from flags (q + 1) n))
-    go true = omega arith
-    go false = omega arith
+    go : (t : Bool) (ys : List ℕ) → bit t + count p ys ≡ cond t (1 + count p ys) (count p ys)
+    go true ys = refl
+    go false ys = omega arith
+
+count_left : (flags : List ℕ) (k q : ℕ) → k + q ≡ length flags → count (λ f. eqb f 0) (drop q flags) ≡ length (free_from flags q (length flags))
+unfolding count
+count_left flags zero q e = rw (left_none flags q (omega arith), free-none flags q (length flags) (omega arith))
+count_left flags (suc k) q e =
+    let lt : q < length flags = omega arith in
+    rw (left-first flags q lt, free-next flags q (length flags) lt) (go (eqb (get_or flags q 0) 0) (count_left flags k (q + 1) (omega arith)))
+  where
+    go : (t : Bool) → count (λ f. eqb f 0) (drop (q + 1) flags) ≡ length (free_from flags (q + 1) (length flags)) →
+        bit t + count (λ f. eqb f 0) (drop (q + 1) flags) ≡ length (cond t (q ∷ free_from flags (q + 1) (length flags)) (free_from flags (q + 1) (length flags)))
+    go true h = omega arith
+    go false h = omega arith
+
+count_free : (flags : List ℕ) → count_by (λ f. eqb f 0) flags ≡ length (free flags (length flags))
+count_free flags = sym (count_is (λ f. eqb f 0) flags) ∙ count_left flags (length flags) 0 (omega arith) ∙ ap length (free-start flags (length flags))
+
+-- of as many flags as there are runs
+module _ (flags : List ℕ) (n : ℕ) (fits : n ≤ length flags) where
+  pub free_part : free (take n flags) (length (take n flags)) ≡ free flags n
+  unfolding free upto
+  free_part =
+      let long : length (take n flags) ≡ n = omega (arith, length-take n flags) in
+      rw long (filter_agree (λ q. eqb (get_or (take n flags) q 0) 0) (λ q. eqb (get_or flags q 0) 0) (from 0 n) (λ q m.
+      ap (λ (f : ℕ). eqb f 0) (get_or-take n flags q 0 (omega (arith, (mem-from q 0 n m).1)))))
+
+  pub free_counted : count_by (λ f. eqb f 0) (take n flags) ≡ length (free flags n)
+  free_counted = count_free (take n flags) ∙ ap length free_part
 
 -- and written
 pub free-put : (flags : List ℕ) (q n : ℕ) (w : Put × List ℕ) → q < n →

@@ -34,7 +34,7 @@ module _ (ws : List ℕ) (rises : rising ws ≡ true) (e k : ℕ) where
   pub place_on : k < length ws → get_or ws k 0 ≤ e → k + 1 ≤ place_of ws e
   place_on lt h = omega (arith, le_word ws rises k e lt h)
 
-  pub place_end : k ≤ place_of ws e → length ws ≤ k → k ≡ place_of ws e
+  pub place_end : k ≤ place_of ws e → length ws ≤ k → length ws ≡ place_of ws e
   place_end h q = omega (arith, place_most ws rises e)
 
 -- From one run's start to the next

@@ -9,4 +9,4 @@ pub loop-k-preserved : goal.loop-k-preserved
 loop-k-preserved c = place_on c.args.words.now c.requires.rising c.args.e.0 c.loop-k.k c.loop-k-test.true c.if-e-words.false
 
 pub returns : goal.returns
-returns c = ?
+returns c = place_end c.args.words.now c.requires.rising c.args.e.0 c.loop-k.k c.loop-k.invariant c.loop-k-test.false
