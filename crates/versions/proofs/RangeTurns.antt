@@ -116,10 +116,6 @@ module _ (p : ℕ → Bool) where
 
 -- Flags, run by run
 module _ (rows : ℕ → List ℕ) (ends : List ℕ) where
-  pub flags_start : (k : Kept) → k ≡ kept_in [] → k.items ≡ flag_marked rows ends 0
-  unfolding flag_marked kept_in
-  flags_start k e = ap (λ (x : Kept). x.items) e
-
   pub flags_next : (r : ℕ) → cond (eqb (get_or ends r 0) 0) (flag_marked rows ends r) (flag_all (flag_marked rows ends r) (rows r)) ≡ flag_marked rows ends (r + 1)
   unfolding flag_marked
   flags_next r = rw (add-one r)
@@ -149,10 +145,6 @@ module _ (flags ends : List ℕ) where
       go : (t : Bool) → length (tops flags ends r) ≤ r → length (cond t (tops flags ends r ++ last_of r ∷ []) (tops flags ends r)) ≤ suc r
       go true h = simp length-append (omega arith)
       go false h = omega arith
-
-  pub tops_start : (k : Kept) → k ≡ kept_in [] → kept k.items 0 ≡ kept_in (tops flags ends 0)
-  unfolding kept_in tops upto from filter
-  tops_start k e = ap (λ (x : Kept). kept x.items 0) e
 
   pub tops_turn : (r : ℕ) (k : Kept) (t : Bool) (v : ℕ) → r < 512 → t ≡ is_top flags ends r → v ≡ get_or ends r 0 - 1 → k ≡ kept_in (tops flags ends r) →
       add_if t k v ≡ kept_in (tops flags ends (r + 1))

@@ -56,8 +56,8 @@ fn all_whole(flags: &[u32], ends: &[u32], starts: &[u32]) -> bool
     requires starts_reach { length starts.now ≡ length ends.now + 1 }
     ensures { result ≡ all (marked_whole flags.now ends.now starts.now) (upto (length ends.now)) }
 {
-    for r in 0..ends.len() {
-        if !is_whole(flags[r], ends[r], starts[r + 1]) {
+    for (r, end) in ends.iter().enumerate() {
+        if !is_whole(flags[r], *end, starts[r + 1]) {
             return false;
         }
     }
