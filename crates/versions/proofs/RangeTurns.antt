@@ -6,8 +6,8 @@ use mathlib.Core.List.{List, [], ◌∷◌, ◌++◌, map}
 use Prim.Native.Nat.{ℕ, zero, suc, ◌+◌, ◌-◌, ◌%◌, ◌≤◌, ◌<◌, min}
 use native.Mathlib.Numerals.{add-one}
 use native.Mathlib.Omega.{arith}
-use lib.ListN.{length, get_or, take, length-append, get_or-eq_default}
-use lib.Seq.{take-length}
+use lib.ListN.{length, get_or, take, drop, length-append, get_or-eq_default}
+use lib.Seq.{take-length, get_or-take, get_or-drop}
 use lib.Dec.{leb, eqb}
 use borrow.Author.Tests.{le-leb, lt-leb, eq-eqb, ne_eqb}
 use Rattle.lists.specs.declared.Kept.{Kept}
@@ -36,6 +36,12 @@ module _ (ws : List ℕ) (rises : rising ws ≡ true) (e k : ℕ) where
 
   pub place_end : k ≤ place_of ws e → length ws ≤ k → length ws ≡ place_of ws e
   place_end h q = omega (arith, place_most ws rises e)
+
+-- The start after the n-th, as the loop over neighbours has it
+pub next_start : (starts : List ℕ) (n : ℕ) → n < length starts - 1 → get_or (take (length starts - 1) (drop 1 starts)) n 0 ≡ get_or starts (n + 1) 0
+next_start starts n lt =
+    let e : 1 + n ≡ n + 1 = omega arith in
+    get_or-take (length starts - 1) (drop 1 starts) n 0 lt ∙ get_or-drop 1 starts n 0 ∙ ap (λ (k : ℕ). get_or starts k 0) e
 
 -- From one run's start to the next
 pub place-next : (ws : List ℕ) → rising ws ≡ true → (starts : List ℕ) (n r k : ℕ) → Starts starts n → r < n → k ≡ place_of ws (get_or starts r 0) →
