@@ -7,14 +7,13 @@ ghost use Rattle.model.specs.Limits.{max_runs};
 ghost use Rattle.model.specs.Graph.{all_held};
 ghost use Rattle.model.specs.Record.{view};
 ghost use Rattle.model.specs.Broken.{Held};
-ghost use Rattle.model.specs.Wanted;
 ghost use Rattle.model.specs.Wanted.{events_in, wanted_parents_of};
 ghost use Rattle.versions.specs.Parents.{parents_in, runs_in};
 ghost use Rattle.versions.specs.Flags.{flag_all};
 ghost use Rattle.versions.specs.Ranges.{flag_marked, marked_whole, tops};
 
 use crate::concurrent::flag_all;
-use crate::ranges::{all_clear, are_ranges, are_within, marked_ends};
+use crate::ranges::EventRanges;
 use crate::rows::ParentRows;
 use crate::words::put_all;
 use lists::Kept;
@@ -94,21 +93,20 @@ fn top_events(flags: &[u32], ends: &[u32]) -> Kept
 }
 
 // `wanted_parents` on a graph that is known not to be broken, and ranges of held events.
-fn wanted_held(g: CausalGraph, ranges: &[u32], list: &mut [u32]) -> Written
+fn wanted_held(g: CausalGraph, ranges: EventRanges, list: &mut [u32]) -> Written
     requires held { Held g }
-    requires ranges { Wanted.ranges ranges.now ≡ true }
-    requires events_held { all_held (view g) (events_in ranges.now) ≡ true }
-    ensures { (result, list.new) ≡ wanted_parents_of g ranges.now list.old }
+    requires events_held { all_held (view g) (events_in ranges.words.now) ≡ true }
+    ensures { (result, list.new) ≡ wanted_parents_of g ranges.entry.words.now list.old }
 {
     let n = g.run_count;
     let starts = &g.starts[..n + 1];
-    if !all_clear(starts, ranges) {
+    if !ranges.all_clear(starts) {
         return Written {
             count: 0,
             outcome: Outcome::Refused(Refusal::NoSuchParents),
         };
     }
-    let ends = marked_ends(starts, ranges);
+    let ends = ranges.marked_ends(starts);
     let ends = &ends[..n];
     let flags = flag_marked(ends, ParentRows::of_graph(&g));
     let flags = &flags[..n];
@@ -140,17 +138,13 @@ pub fn wanted_parents(g: CausalGraph, ranges: &[u32], list: &mut [u32]) -> Writt
             outcome: Outcome::Refused(Refusal::Broken),
         };
     }
-    if !are_ranges(ranges) {
+    let Some(ranges) = EventRanges::of_words(ranges) else {
         return Written {
             count: 0,
             outcome: Outcome::Refused(Refusal::NotRising),
         };
-    }
-    if !are_within(
-        ranges,
-        EventIndex(g.starts[0]),
-        EventIndex(g.starts[g.run_count]),
-    ) {
+    };
+    if !ranges.are_within(EventIndex(g.starts[0]), EventIndex(g.starts[g.run_count])) {
         return Written {
             count: 0,
             outcome: Outcome::Refused(Refusal::UnknownEvent),

@@ -2,7 +2,6 @@
 use Rattle.std.proofs.Common.{◌≤◌, length, sym, ◌∙◌, arith}
 use Rattle.graph.proofs.Views.{facts}
 use Rattle.versions.specs.Parents.{parents_in}
-use Rattle.versions.proofs.RangeWords.{ranges_even}
 use Rattle.versions.proofs.WantedWays.{starts_of, wanted_inside, wanted_parted, wanted_few, wanted_short, wanted_done}
 use Rattle.versions.proofs.wanted.wanted_held.Goals as goal
 
@@ -13,16 +12,16 @@ pub shared_ref_as_front-starts : goal.shared_ref_as_front-starts
 shared_ref_as_front-starts c = omega (arith, (facts c.args.g c.requires.held).runs)
 
 pub all_clear-requires : goal.all_clear-requires
-all_clear-requires c = record { rising = (ranges_even c.args.ranges.now c.requires.ranges).0; starts = starts_of c.args.g c.requires.held }
+all_clear-requires c = starts_of c.args.g c.requires.held
 
 pub returns-then-not-all_clear : goal.returns-then-not-all_clear
 returns-then-not-all_clear c =
     let a = c.args in
     let p = c.requires in
-    wanted_inside a.g a.ranges.now a.list.now p.held p.ranges p.events_held (sym c.all_clear.ensures ∙ c.if-not-all_clear.true)
+    wanted_inside a.g a.ranges.words.now a.list.now p.held a.ranges.paired p.events_held (sym c.all_clear.ensures ∙ c.if-not-all_clear.true)
 
 pub marked_ends-ends-requires : goal.marked_ends-ends-requires
-marked_ends-ends-requires c = record { rising = (ranges_even c.args.ranges.now c.requires.ranges).0; starts = starts_of c.args.g c.requires.held }
+marked_ends-ends-requires c = starts_of c.args.g c.requires.held
 
 pub returns-then-not-all_whole : goal.returns-then-not-all_whole
 returns-then-not-all_whole c =
@@ -30,7 +29,7 @@ returns-then-not-all_whole c =
     let p = c.requires in
     let all = c.of_graph in
     let long : a.g.run_count ≤ length c.marked_ends-ends.result = omega (arith, (facts a.g p.held).runs) in
-    wanted_parted a.g a.ranges.now a.list.now p.held p.ranges p.events_held (sym c.all_clear.ensures ∙ c.if-not-all_clear.false) c.marked_ends-ends.result c.marked_ends-ends.ensures long
+    wanted_parted a.g a.ranges.words.now a.list.now p.held a.ranges.paired p.events_held (sym c.all_clear.ensures ∙ c.if-not-all_clear.false) c.marked_ends-ends.result c.marked_ends-ends.ensures long
     (parents_in all.result) all.ensures.parents c.flag_marked-flags.result c.flag_marked-flags.ensures (sym c.all_whole.ensures ∙ c.if-not-all_whole.true)
 
 pub returns-then-list-found : goal.returns-then-list-found
@@ -39,7 +38,7 @@ returns-then-list-found c =
     let p = c.requires in
     let all = c.of_graph in
     let long : a.g.run_count ≤ length c.marked_ends-ends.result = omega (arith, (facts a.g p.held).runs) in
-    wanted_short a.g a.ranges.now a.list.now p.held p.ranges p.events_held (sym c.all_clear.ensures ∙ c.if-not-all_clear.false) c.marked_ends-ends.result c.marked_ends-ends.ensures long
+    wanted_short a.g a.ranges.words.now a.list.now p.held a.ranges.paired p.events_held (sym c.all_clear.ensures ∙ c.if-not-all_clear.false) c.marked_ends-ends.result c.marked_ends-ends.ensures long
     (parents_in all.result) all.ensures.parents c.flag_marked-flags.result c.flag_marked-flags.ensures
     (sym c.all_whole.ensures ∙ c.if-not-all_whole.false) c.top_events-found.result c.top_events-found.ensures c.if-list-found.true
 
@@ -49,7 +48,7 @@ shared_ref_as_front-put_all c =
     let p = c.requires in
     let all = c.of_graph in
     let long : a.g.run_count ≤ length c.marked_ends-ends.result = omega (arith, (facts a.g p.held).runs) in
-    wanted_few a.g a.ranges.now a.list.now p.held p.ranges p.events_held (sym c.all_clear.ensures ∙ c.if-not-all_clear.false) c.marked_ends-ends.result c.marked_ends-ends.ensures long
+    wanted_few a.g a.ranges.words.now a.list.now p.held a.ranges.paired p.events_held (sym c.all_clear.ensures ∙ c.if-not-all_clear.false) c.marked_ends-ends.result c.marked_ends-ends.ensures long
     (parents_in all.result) all.ensures.parents c.flag_marked-flags.result c.flag_marked-flags.ensures
     (sym c.all_whole.ensures ∙ c.if-not-all_whole.false) c.top_events-found.result c.top_events-found.ensures
 
@@ -59,6 +58,6 @@ returns c =
     let p = c.requires in
     let all = c.of_graph in
     let long : a.g.run_count ≤ length c.marked_ends-ends.result = omega (arith, (facts a.g p.held).runs) in
-    rw c.written.ensures (wanted_done a.g a.ranges.now a.list.now p.held p.ranges p.events_held (sym c.all_clear.ensures ∙ c.if-not-all_clear.false) c.marked_ends-ends.result c.marked_ends-ends.ensures long
+    rw c.written.ensures (wanted_done a.g a.ranges.words.now a.list.now p.held a.ranges.paired p.events_held (sym c.all_clear.ensures ∙ c.if-not-all_clear.false) c.marked_ends-ends.result c.marked_ends-ends.ensures long
     (parents_in all.result) all.ensures.parents c.flag_marked-flags.result c.flag_marked-flags.ensures
     (sym c.all_whole.ensures ∙ c.if-not-all_whole.false) c.top_events-found.result c.top_events-found.ensures c.if-list-found.false _ _ c.put_all-p.ensures)
