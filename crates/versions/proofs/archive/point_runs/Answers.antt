@@ -15,17 +15,6 @@ head_counts-counts-requires c =
     let firsts = rw runs at c.first_children-firsts.ensures in
     record { firsts_reach = omega (arith, runs, (facts g held).runs); heads_fit = rw runs (counts_fit g held (parents_in all.result) all.ensures.parents _ firsts) }
 
-pub seen_lengths-seen-requires : goal.seen_lengths-seen-requires
-seen_lengths-seen-requires c =
-    let k = facts c.args.g c.requires in
-    let runs = c.of_graph-parents.ensures.counted in
-    record { firsts_reach = omega (arith, runs, k.runs); counts_reach = omega (arith, runs, k.runs); events_reach = omega (arith, runs, k.runs, k.sized.starts) }
-
-pub marks_of-requires : goal.marks_of-requires
-marks_of-requires c =
-    let k = facts c.args.g c.requires in
-    record { n_in_bounds = omega (arith, k.runs, k.sized.starts); n_in_bounds_2 = omega (arith, k.runs); n_le_max_runs = k.runs }
-
 pub returns : goal.returns
 returns c =
     let g = c.args.g in

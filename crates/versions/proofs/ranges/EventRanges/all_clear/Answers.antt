@@ -38,11 +38,3 @@ loop-start-preserved c =
       rw on (all-next (clear_in starts c.args.self.words.now) n c.loop-start.invariant.3 (clear_turn starts c.args.self.words.now n _ _ place clear ∙ c.if-not-is_clear.false)),
     )
 
-pub returns : goal.returns
-returns c =
-    let starts = c.args.starts.now in
-    let all_of : ℕ → Bool = λ m. all (clear_in starts c.args.self.words.now) (upto m) in
-    let e = zip_end starts (take (length starts - 1) (drop 1 starts)) c.loop-start.yielded c.into_iter-start-iterator.result c.loop-start.start-iterator c.next.new.self c.next.result
-    (search rules) (cc (c.zip-start-items.ensures.second.0)) c.loop-start.yielded_by c.in-None.is c.next.ensures.steps in
-    let n : length c.loop-start.yielded ≡ length starts - 1 = omega (arith, e, length-take {A = ℕ}, length-drop {A = ℕ}) in
-    sym (ap all_of (sym n) ∙ c.loop-start.invariant.3)

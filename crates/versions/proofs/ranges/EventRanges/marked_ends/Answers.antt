@@ -7,15 +7,6 @@ use Rattle.versions.proofs.RangeWords.{ranges_even}
 use Rattle.versions.proofs.RangeTurns.{place-next, end_turn}
 use Rattle.versions.proofs.ranges.EventRanges.marked_ends.Goals as goal
 
-pub loop-r-init : goal.loop-r-init
-loop-r-init c = (refl, omega arith, λ q h. absurd (omega arith))
-
-pub place-k-requires : goal.place-k-requires
-place-k-requires c = c.loop-r.invariant.1
-
-pub bounds-ends-r : goal.bounds-ends-r
-bounds-ends-r c = omega (arith, c.requires.few)
-
 pub loop-r-preserved : goal.loop-r-preserved
 loop-r-preserved c =
     let a = c.args in
