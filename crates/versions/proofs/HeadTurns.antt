@@ -14,7 +14,8 @@ use lib.Seq.{get_or-set_same, get_or-set_other}
 use Rattle.lists.specs.Lists.{bit, count, below}
 use Rattle.lists.proofs.Truth.{eq_or-not, lt_of_ne, lt_or_le}
 use Rattle.versions.specs.Heads.{last_in, highest_by, noted, note_all, first_children, is_head, head_count}
-use Rattle.versions.proofs.Passes.{left-first, left_none, item_below}
+use Rattle.versions.proofs.Passes.{left-first, left_none, item_below, row_below}
+use Rattle.versions.proofs.FirstChildren.{firsts-length}
 
 -- The items of a list, one by one
 module _ (xs : List ℕ) (i : ℕ) where
@@ -90,3 +91,12 @@ pub highest-none : (whole : ℕ → List ℕ → Bool) (ps : List ℕ) → lengt
 unfolding highest_by
 highest-none whole [] h = refl
 highest-none whole (p ∷ ps) h = absurd (omega arith)
+
+-- What the loops over a run's parents, and over runs, go by
+pub ruleset noting = (item_below, note-next, note-none)
+
+pub ruleset counting = (item_below, byte_bit, count-left, count_none)
+
+pub ruleset children = (row_below, firsts-length, children-next)
+
+pub ruleset heads_on = (row_below, count_turn, filled_next)

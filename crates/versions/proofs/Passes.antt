@@ -161,3 +161,8 @@ free-put flags q n w h = go (eqb (get_or flags q 0) 0) ∙ sym (ap (λ (l : List
 pub free-written : (flags : List ℕ) (q n : ℕ) (w : Put × List ℕ) → n ≤ q → w ≡ put_all 1 w (map (λ p. p ∷ []) (free_from flags q n))
 unfolding put_all
 free-written flags q n w h = sym (ap (λ (l : List ℕ). put_all 1 w (map (λ p. p ∷ []) l)) (free-none flags q n h))
+
+-- What the loops that flag runs, and that write those without a flag, go by
+pub ruleset flagging = (item_below, flag_next, flag_none)
+
+pub ruleset freeing = (free-put, free-written, free-start)

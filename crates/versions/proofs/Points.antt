@@ -5,7 +5,7 @@ use Prim.Native.Nat.{ℕ, ◌+◌, ◌<◌, ◌≤◌}
 use lib.ListN.{length, drop, get_or}
 use Rattle.graph.specs.declared.cut.Put.{Put}
 use Rattle.graph.specs.Cutting.{put, put_all}
-use Rattle.versions.proofs.Passes.{left-first, left_none}
+use Rattle.versions.proofs.Passes.{left-first, left_none, item_below}
 
 -- A start for each of some runs, a word each
 unfoldable pub points_of : List ℕ → List ℕ → List (List ℕ)
@@ -20,3 +20,6 @@ module _ (f : ℕ → List ℕ) (items : List ℕ) (i : ℕ) where
   pub record_none : (w : Put × List ℕ) → length items ≤ i → w ≡ put_all 1 w (map f (drop i items))
   unfolding put_all
   record_none w h = sym (ap (λ (xs : List ℕ). put_all 1 w (map f xs)) (left_none items i h))
+
+-- What the loops that write words go by
+pub ruleset writing = (item_below, record_next, record_none)

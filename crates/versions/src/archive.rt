@@ -26,6 +26,7 @@ fn noted(first: u32, child: EventRunIndex) -> u32
 }
 
 // Notes `child` as a child of its parents.
+#[tactic(auto, using(crate::proofs::HeadTurns::noting))]
 fn note_child(firsts: &mut [u32], parents: &[u32], child: EventRunIndex)
     requires { below (length firsts.old) parents.now ≡ true }
     ensures { firsts.new ≡ note_all firsts.old child.0 parents.now }
@@ -37,6 +38,7 @@ fn note_child(firsts: &mut [u32], parents: &[u32], child: EventRunIndex)
 }
 
 // The first child of each of some runs.
+#[tactic(auto, using(crate::proofs::HeadTurns::children))]
 fn first_children(parents: ParentRows) -> [u32; MAX_RUNS]
     ensures { result ≡ first_children (parents_in parents.entry) (runs_in parents.entry) }
 {
@@ -56,6 +58,7 @@ fn is_head(first: u32, run: EventRunIndex) -> bool
 }
 
 // How many of some runs have no child below `run`.
+#[tactic(auto, using(crate::proofs::HeadTurns::counting), unfolding(crate::specs::Heads::is_head))]
 fn count_heads(firsts: &[u32], parents: &[u32], run: EventRunIndex) -> usize
     requires { below (length firsts.now) parents.now ≡ true }
     ensures { result ≡ count (is_head firsts.now run.0) parents.now }
@@ -68,6 +71,7 @@ fn count_heads(firsts: &[u32], parents: &[u32], run: EventRunIndex) -> usize
 }
 
 // How many heads lie below each of some runs: the runs below it that have no child below it.
+#[tactic(auto, using(crate::proofs::HeadTurns::heads_on))]
 fn head_counts(firsts: &[u32], parents: ParentRows) -> [u32; MAX_RUNS]
     requires firsts_reach { runs_in parents ≤ length firsts.now }
     requires heads_fit { HeadsFit firsts.now (parents_in parents) (runs_in parents) }
@@ -124,6 +128,7 @@ fn seen_lengths(
 }
 
 // The starts of some runs, a word each.
+#[tactic(auto, using(crate::proofs::Points::writing), unfolding(crate::proofs::Points::points_of))]
 fn put_points(starts: &[u32], points: &[u32], list: &mut [u32]) -> Put
     requires { below (length starts.now) points.now ≡ true }
     ensures { (result, list.new) ≡ put_all 1 (blank, list.old)
@@ -137,6 +142,7 @@ fn put_points(starts: &[u32], points: &[u32], list: &mut [u32]) -> Put
 }
 
 // The runs that start at archive points.
+#[tactic(auto, using(graph::proofs::Views::facts))]
 fn point_runs(g: CausalGraph) -> Kept
     requires { Held g }
     ensures { result ≡ kept_in (filter (λ q. seen_by_later (view g) (start (view g) q)) (upto (runs (view g)))) }

@@ -16,6 +16,7 @@ use graph::cut::Put;
 use model::{CausalGraph, EventRunIndex, MAX_RUNS, Outcome, Refusal, Written};
 
 // Flags some runs.
+#[tactic(auto, using(crate::proofs::Passes::flagging))]
 pub(crate) fn flag_all(flags: &mut [u32], runs: &[u32])
     requires { below (length flags.old) runs.now ≡ true }
     ensures { flags.new ≡ flag_all flags.old runs.now }
@@ -26,6 +27,7 @@ pub(crate) fn flag_all(flags: &mut [u32], runs: &[u32])
 }
 
 // The parents of a run are flagged if it is.
+#[tactic(auto, using(crate::proofs::Passes::row_below), unfolding(crate::specs::Flags::flag_parents))]
 fn flag_parents(flags: &mut [u32], parents: ParentRows, run: EventRunIndex)
     requires flags_reach { runs_in parents ≤ length flags.old }
     requires run_there { run.0 < runs_in parents }
@@ -38,6 +40,7 @@ fn flag_parents(flags: &mut [u32], parents: ParentRows, run: EventRunIndex)
 }
 
 // The same of the runs before `end`, from the last down.
+#[tactic(auto, using(crate::proofs::Passes::down_next, crate::proofs::Passes::down_none))]
 fn flag_down(flags: &mut [u32], parents: ParentRows, end: EventRunIndex)
     requires flags_reach { runs_in parents ≤ length flags.old }
     requires end_there { end.0 ≤ runs_in parents }
@@ -64,6 +67,7 @@ fn has_flagged(flags: &[u32], run: EventRunIndex, runs: &[u32]) -> bool
 }
 
 // A run is flagged if it has such a parent.
+#[tactic(auto, using(crate::proofs::Passes::any_is, crate::proofs::HeadTurns::byte_bit), unfolding(crate::specs::Flags::flag_child))]
 fn flag_child(flags: &mut [u32], run: EventRunIndex, parents: ParentRows, q: EventRunIndex)
     requires flags_reach { runs_in parents ≤ length flags.old }
     requires run_there { q.0 < runs_in parents }
@@ -74,6 +78,7 @@ fn flag_child(flags: &mut [u32], run: EventRunIndex, parents: ParentRows, q: Eve
 }
 
 // The same of the runs from `from` on.
+#[tactic(auto, using(crate::proofs::Passes::up_next, crate::proofs::Passes::up_none))]
 fn flag_up(flags: &mut [u32], run: EventRunIndex, parents: ParentRows, from: EventRunIndex)
     requires { runs_in parents ≤ length flags.old }
     ensures { flags.new ≡ flag_up (parents_in parents.entry) run.0 flags.old from.0 (runs_in parents.entry - from.0) }
@@ -116,6 +121,7 @@ fn put_free(list: &mut [u32], p: Put, run: EventRunIndex, flag: u32) -> Put
 }
 
 // The runs that have no flag, a word each.
+#[tactic(auto, using(crate::proofs::Passes::freeing))]
 fn put_all_free(flags: &[u32], list: &mut [u32]) -> Put
     requires { length flags.now ≤ max_runs }
     ensures { (result, list.new) ≡ put_all 1 (blank, list.old)
@@ -129,6 +135,7 @@ fn put_all_free(flags: &[u32], list: &mut [u32]) -> Put
 }
 
 // `concurrent_runs` on a graph that is known not to be broken.
+#[tactic(auto, using(graph::proofs::Views::facts))]
 fn concurrent_held(g: CausalGraph, run: EventRunIndex, list: &mut [u32]) -> Written
     requires { Held g }
     ensures { (result, list.new) ≡ concurrency_list_of g run.0 list.old }

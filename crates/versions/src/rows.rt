@@ -17,6 +17,7 @@ pub(crate) struct ParentRows<'a> {
 
 impl<'a> ParentRows<'a> {
     // Those of a graph's runs.
+    #[tactic(auto, using(graph::proofs::Views::facts))]
     pub(crate) fn of_graph(g: &'a CausalGraph) -> ParentRows<'a>
         requires { Held g.now }
         ensures counted { length result.starts.now ≡ g.now.run_count + 1 }

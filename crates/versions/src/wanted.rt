@@ -31,6 +31,7 @@ fn flag_if(end: u32, flags: &mut [u32], runs: &[u32])
 }
 
 // A flag for each parent of a run of which something is marked.
+#[tactic(auto, using(crate::proofs::Passes::row_below))]
 fn flag_marked(ends: &[u32], parents: ParentRows) -> [u32; MAX_RUNS]
     requires { runs_in parents ≡ length ends.now }
     ensures { result ≡ flag_marked (parents_in parents.entry) ends.now (length ends.now) }
@@ -93,6 +94,7 @@ fn top_events(flags: &[u32], ends: &[u32]) -> Kept
 }
 
 // `wanted_parents` on a graph that is known not to be broken, and ranges of held events.
+#[tactic(auto, using(graph::proofs::Views::facts))]
 fn wanted_held(g: CausalGraph, ranges: EventRanges, list: &mut [u32]) -> Written
     requires held { Held g }
     requires events_held { all_held (view g) (events_in ranges.words.now) ≡ true }

@@ -23,6 +23,7 @@ pub(crate) fn put_one(list: &mut [u32], p: Put, a: u32) -> Put
 }
 
 // The numbers of a list, a word each.
+#[tactic(auto, using(crate::proofs::Points::writing))]
 pub(crate) fn put_all(items: &[u32], list: &mut [u32]) -> Put
     ensures { (result, list.new) ≡ put_all 1 (blank, list.old) (map (λ x. x ∷ []) items.now) }
 {

@@ -10,11 +10,6 @@ use Rattle.versions.proofs.archive.head_counts.Goals as goal
 pub loop-m-init : goal.loop-m-init
 loop-m-init c = (refl, omega arith, count-start c.args.firsts.now (parents_in c.args.parents), λ k h. absurd (omega arith))
 
-pub count_heads-requires : goal.count_heads-requires
-count_heads-requires c =
-    let p = c.args.parents in
-    rw c.of.ensures (row_below p.starts.now p.items.now _ _ c.loop-m.m p.rows (omega arith) (omega (arith, c.requires.firsts_reach)))
-
 pub loop-m-preserved : goal.loop-m-preserved
 loop-m-preserved c =
     let a = c.args in

@@ -6,9 +6,6 @@ use Rattle.versions.proofs.Passes.{item_below}
 use Rattle.versions.proofs.Points.{points_of, record_next, record_none}
 use Rattle.versions.proofs.archive.put_points.Goals as goal
 
-pub bounds-starts-q : goal.bounds-starts-q
-bounds-starts-q c = item_below c.args.points.now c.loop-q.q-index (length c.args.starts.now) c.requires c.loop-q-test.true
-
 pub loop-q-preserved : goal.loop-q-preserved
 unfolding points_of
 loop-q-preserved c =
@@ -17,9 +14,3 @@ loop-q-preserved c =
     ap (λ (w : Put × List ℕ). put_all 1 w (points_of a.starts.now (drop (l.q-index + 1) a.points.now))) c.put_one-p.ensures ∙
     (record_next (λ m. get_or a.starts.now m 0 ∷ []) a.points.now l.q-index (l.p, l.list) c.loop-q-test.true ∙ l.invariant)
 
-pub returns : goal.returns
-unfolding points_of
-returns c =
-    let a = c.args in
-    let l = c.loop-q in
-    record_none (λ m. get_or a.starts.now m 0 ∷ []) a.points.now l.q-index (l.p, l.list) c.loop-q-test.false ∙ l.invariant

@@ -9,9 +9,6 @@ use Rattle.versions.proofs.concurrent.concurrent_held.Goals as goal
 pub returns-then-n-run : goal.returns-then-n-run
 returns-then-n-run c = concurrent_outside c.args.g c.args.run.0 c.args.list.now c.requires c.if-n-run.true
 
-pub slice_bounds-flags-end : goal.slice_bounds-flags-end
-slice_bounds-flags-end c = omega (arith, (facts c.args.g c.requires).runs)
-
 pub slice_bounds-flags-end-2 : goal.slice_bounds-flags-end-2
 slice_bounds-flags-end-2 c = omega (arith, (facts c.args.g c.requires).runs, length-take {A = ℕ})
 

@@ -12,13 +12,6 @@ pub loop-r-init : goal.loop-r-init
 unfolding flag_marked pad
 loop-r-init c = refl
 
-pub flag_if-requires : goal.flag_if-requires
-flag_if-requires c =
-    let p = c.args.parents in
-    let l = c.loop-r in
-    let long : length l.flags ≡ 512 = ap length l.invariant ∙ flags_long (parents_in p) c.args.ends.now l.r in
-    rw c.of.ensures (row_below p.starts.now p.items.now _ _ l.r p.rows (omega (arith, c.requires)) (omega (arith, p.rows.few, c.requires)))
-
 pub loop-r-preserved : goal.loop-r-preserved
 loop-r-preserved c =
     let l = c.loop-r in

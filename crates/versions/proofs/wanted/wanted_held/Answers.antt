@@ -5,12 +5,6 @@ use Rattle.versions.specs.Parents.{parents_in}
 use Rattle.versions.proofs.WantedWays.{starts_of, wanted_inside, wanted_parted, wanted_few, wanted_short, wanted_done}
 use Rattle.versions.proofs.wanted.wanted_held.Goals as goal
 
-pub overflow_add-starts : goal.overflow_add-starts
-overflow_add-starts c = omega (arith, (facts c.args.g c.requires.held).runs)
-
-pub shared_ref_as_front-starts : goal.shared_ref_as_front-starts
-shared_ref_as_front-starts c = omega (arith, (facts c.args.g c.requires.held).runs)
-
 pub all_clear-requires : goal.all_clear-requires
 all_clear-requires c = starts_of c.args.g c.requires.held
 

@@ -12,7 +12,3 @@ loop-x-preserved c =
     ap (λ (w : Put × List ℕ). put_all 1 w (map (λ x. x ∷ []) (drop (l.x-index + 1) xs))) c.put_one-p.ensures ∙
     (record_next (λ x. x ∷ []) xs l.x-index (l.p, l.list) c.loop-x-test.true ∙ l.invariant)
 
-pub returns : goal.returns
-returns c =
-    let l = c.loop-x in
-    record_none (λ x. x ∷ []) c.args.items.now l.x-index (l.p, l.list) c.loop-x-test.false ∙ l.invariant

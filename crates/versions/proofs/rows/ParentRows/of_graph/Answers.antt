@@ -4,12 +4,6 @@ use Rattle.graph.proofs.Views.{facts}
 use Rattle.versions.proofs.GraphRows.{rows_taken, taken_view}
 use Rattle.versions.proofs.rows.ParentRows.of_graph.Goals as goal
 
-pub overflow_add-starts : goal.overflow_add-starts
-overflow_add-starts c = omega (arith, (facts c.args.g.now c.requires).runs)
-
-pub shared_ref_as_front-starts : goal.shared_ref_as_front-starts
-shared_ref_as_front-starts c = omega (arith, (facts c.args.g.now c.requires).runs)
-
 pub invariant_of-result : goal.invariant_of-result
 invariant_of-result c = record { rows = rows_taken c.args.g.now c.requires }
 
