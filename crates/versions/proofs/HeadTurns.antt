@@ -12,6 +12,7 @@ use Rattle.std.proofs.lemmas.Option.{get_or_from_slice_get, slice_get-get_or}
 use lib.ListN.{length, get_or, drop, set}
 use lib.Seq.{get_or-set_same, get_or-set_other}
 use Rattle.lists.specs.Lists.{bit, count, below}
+use Rattle.lists.proofs.Bounds.{below_of, below_at}
 use Rattle.lists.proofs.Truth.{eq_or-not, lt_of_ne, lt_or_le}
 use Rattle.versions.specs.Heads.{last_in, highest_by, noted, note_all, first_children, is_head, head_count}
 use Rattle.versions.proofs.Passes.{left-first, left_none, item_below, row_below}
@@ -100,3 +101,5 @@ pub ruleset counting = (item_below, byte_bit, count-left, count_none)
 pub ruleset children = (row_below, firsts-length, children-next)
 
 pub ruleset heads_on = (row_below, count_turn, filled_next)
+
+pub ruleset last_parent = (last_some, last_none, last-below, highest-is, highest-none, below_of, below_at)

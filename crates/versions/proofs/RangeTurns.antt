@@ -16,11 +16,11 @@ use Rattle.lists.specs.Scans.{kept_in, kept, add_if}
 use Rattle.lists.proofs.Truth.{lt_or_le, false_true, not_so, and_false, and_true}
 use Rattle.lists.proofs.Members.{all-at, all_both}
 use Rattle.lists.proofs.Counts.{upto-mem, upto_snoc}
-use Rattle.lists.proofs.Keeping.{add_if_kept, filter_snoc}
+use Rattle.lists.proofs.Keeping.{kept-count, kept-long, add_if_kept, filter_snoc}
 use Rattle.model.specs.Wanted.{ranges}
 use Rattle.versions.specs.Flags.{flag_all}
 use Rattle.versions.specs.Ranges.{is_odd, place_of, words_within, clear_at, end_at, clear_in, end_in, flag_marked, is_top, tops, Starts}
-use Rattle.versions.proofs.RangeWords.{paired_even, word_le, le_word, place_most, place_mono}
+use Rattle.versions.proofs.RangeWords.{ranges_even, paired_even, word_le, le_word, place_most, place_mono}
 
 -- The words' place, one word on
 module _ (ws : List ℕ) (rises : rising ws ≡ true) (e k : ℕ) where
@@ -156,3 +156,12 @@ module _ (flags ends : List ℕ) where
       add_if t k v ≡ kept_in (tops flags ends (r + 1))
   unfolding last_of
   tops_turn r k t v lt e f q = rw (q, e, f, add-one r, tops_next r) (add_if_kept (is_top flags ends r) (tops flags ends r) (get_or ends r 0 - 1) (omega (arith, tops-few r)))
+
+-- What the loops over words and over runs go by
+pub ruleset placing = (ranges_even, place_here, place_on, place_end)
+
+pub ruleset pairing = (ranges_odd, ranges-is)
+
+pub ruleset testing = (all_start, all-next, all_stop)
+
+pub ruleset topping = (kept-count, kept-long, tops-few, tops_turn)

@@ -89,6 +89,7 @@ fn head_counts(firsts: &[u32], parents: ParentRows) -> [u32; MAX_RUNS]
 
 // The last run that may start at an archive point for all that the parents of `run` tell: the one after the last of
 // them, if all heads below it are among them, so that `run` has seen every run below it; else the last parent.
+#[tactic(auto, using(crate::proofs::HeadTurns::last_parent), unfolding(crate::specs::Heads::whole_in))]
 fn highest(firsts: &[u32], counts: &[u32], parents: &[u32], run: EventRunIndex) -> EventRunIndex
     requires low { below run.0 parents.now ≡ true }
     requires firsts_reach { run.0 ≤ length firsts.now }
@@ -165,6 +166,7 @@ fn archive_held(g: CausalGraph, list: &mut [u32]) -> Written
 }
 
 // The archive points into `list`, rising.
+#[tactic(auto, using(model::proofs::Stored::held_of, crate::proofs::ArchiveWays::archive_broken))]
 pub fn archive_points(g: CausalGraph, list: &mut [u32]) -> Written
     ensures { (result, list.new) ≡ archive_points_of g list.old }
 {

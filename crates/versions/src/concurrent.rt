@@ -160,6 +160,7 @@ fn concurrent_held(g: CausalGraph, run: EventRunIndex, list: &mut [u32]) -> Writ
 }
 
 // The runs that are neither ancestor nor descendant of `run`, nor `run` itself, into `list`, rising.
+#[tactic(auto, using(model::proofs::Stored::held_of, crate::proofs::ConcurrentWays::concurrent_broken))]
 pub fn concurrent_runs(g: CausalGraph, run: EventRunIndex, list: &mut [u32]) -> Written
     ensures { (result, list.new) ≡ concurrency_list_of g run.0 list.old }
 {

@@ -17,6 +17,7 @@ pub(crate) struct EventRanges<'a> {
 
 impl<'a> EventRanges<'a> {
     // Words as ranges, if they are such.
+    #[tactic(auto, using(crate::proofs::RangeTurns::pairing), unfolding(crate::specs::Ranges::is_odd))]
     pub(crate) fn of_words(words: &'a [u32]) -> Option<EventRanges<'a>>
         ensures { MatchOption result (Wanted.ranges words.now ≡ false) (λ r. r.words.now ≡ words.now) }
     {
@@ -41,6 +42,7 @@ impl<'a> EventRanges<'a> {
     }
 
     // How many of the words are at most an event, where `from` of them are.
+    #[tactic(auto, using(crate::proofs::RangeTurns::placing))]
     fn place(self, from: usize, e: EventIndex) -> usize
         requires { from ≤ place_of self.words.now e.0 }
         ensures { result ≡ place_of self.entry.words.now e.0 }

@@ -51,6 +51,7 @@ fn is_whole(flag: u32, end: u32, next: u32) -> bool
 }
 
 // Whether all of each flagged run is marked.
+#[tactic(auto, using(crate::proofs::RangeTurns::testing), unfolding(crate::specs::Ranges::marked_whole))]
 fn all_whole(flags: &[u32], ends: &[u32], starts: &[u32]) -> bool
     requires flags_reach { length flags.now ≡ length ends.now }
     requires starts_reach { length starts.now ≡ length ends.now + 1 }
@@ -72,6 +73,7 @@ fn is_top(flag: u32, end: u32) -> bool
 }
 
 // The last marked events of the runs of which something is marked and that are not flagged.
+#[tactic(auto, using(crate::proofs::RangeTurns::topping), unfolding(crate::specs::Ranges::is_top))]
 fn top_events(flags: &[u32], ends: &[u32]) -> Kept
     requires few { length ends.now ≤ max_runs }
     requires flags_reach { length flags.now ≡ length ends.now }

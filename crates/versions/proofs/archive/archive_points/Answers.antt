@@ -5,11 +5,6 @@ use Rattle.model.proofs.Stored.{held_of}
 use Rattle.versions.proofs.ArchiveWays.{archive_broken}
 use Rattle.versions.proofs.archive.archive_points.Goals as goal
 
-pub returns-then-is_broken : goal.returns-then-is_broken
-returns-then-is_broken c =
-    let a = c.args in
-    archive_broken a.g a.list.now (sym c.is_broken.ensures ∙ c.if-is_broken.true)
-
 pub archive_held-requires : goal.archive_held-requires
 archive_held-requires c =
     let a = c.args in

@@ -4,9 +4,6 @@ use Rattle.versions.specs.Ranges.{marked_whole}
 use Rattle.versions.proofs.RangeTurns.{all_start, all-next, all_stop}
 use Rattle.versions.proofs.wanted.all_whole.Goals as goal
 
-pub loop-r-init : goal.loop-r-init
-loop-r-init c = all_start (marked_whole c.args.flags.now c.args.ends.now c.args.starts.now)
-
 pub returns-then-not-is_whole : goal.returns-then-not-is_whole
 unfolding marked_whole
 returns-then-not-is_whole c =
@@ -15,10 +12,3 @@ returns-then-not-is_whole c =
     let test = rw (add-one l.r) at c.is_whole.ensures in
     all_stop (marked_whole a.flags.now a.ends.now a.starts.now) l.r (length a.ends.now) c.loop-r-test.true (sym test ∙ c.if-not-is_whole.true)
 
-pub loop-r-preserved : goal.loop-r-preserved
-unfolding marked_whole
-loop-r-preserved c =
-    let a = c.args in
-    let l = c.loop-r in
-    let test = rw (add-one l.r) at c.is_whole.ensures in
-    all-next (marked_whole a.flags.now a.ends.now a.starts.now) l.r l.invariant (sym test ∙ c.if-not-is_whole.false)

@@ -22,9 +22,3 @@ put_if-c-requires c =
     let long : length l.items ≡ 512 = kept-long (kept l.items l.c) _ l.invariant (omega (arith, few, p.few)) in
     record { n_in_bounds = omega (arith, few, count, long, p.few); n_lt_max_kept = omega (arith, few, count, p.few) }
 
-pub loop-r-preserved : goal.loop-r-preserved
-unfolding is_top
-loop-r-preserved c =
-    let a = c.args in
-    let l = c.loop-r in
-    c.put_if-c.ensures ∙ tops_turn a.flags.now a.ends.now l.r (kept l.items l.c) _ _ (omega (arith, c.requires.few)) c.is_top.ensures c.saturating_sub.ensures l.invariant
