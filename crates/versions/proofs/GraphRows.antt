@@ -1,7 +1,7 @@
 -- The rows of a held graph's parents, by as many starts as it has runs, and one. Assumes nothing.
-use mathlib.Core.Path.{◌≡◌, sym, ◌∙◌}
+use mathlib.Core.Path.{◌≡◌, ◌∙◌}
 use mathlib.Core.List.{List}
-use Prim.Native.Nat.{ℕ, ◌+◌, ◌-◌, ◌<◌, ◌≤◌}
+use Prim.Native.Nat.{ℕ, ◌+◌, ◌-◌, ◌<◌}
 use native.Mathlib.Omega.{arith}
 use lib.ListN.{length, get_or, take, length-take}
 use lib.Seq.{get_or-take}
@@ -10,7 +10,6 @@ use Rattle.model.specs.Record.{view}
 use Rattle.model.specs.Broken.{Held}
 use Rattle.model.specs.History.{at}
 use Rattle.graph.specs.Rows.{row, Rows}
-use Rattle.graph.proofs.Views.{facts}
 use Rattle.graph.proofs.Entries.{row-view, rows_of}
 
 -- Of so many starts as reach past a run, its row is the same

@@ -1,26 +1,26 @@
 -- The loops of the passes that flag runs, turn by turn. Assumes nothing.
 use mathlib.Core.Path.{◌≡◌, refl, sym, ap, ◌∙◌}
-use mathlib.Core.Bool.{Bool, true, false, not, cond, ◌||◌}
+use mathlib.Core.Bool.{Bool, true, false, cond, ◌||◌}
 use mathlib.Core.List.{List, [], ◌∷◌, map}
 use Prim.Native.Nat.{ℕ, zero, suc, ◌+◌, ◌-◌, ◌<◌, ◌≤◌}
 use native.Mathlib.Nat.{sub-zero}
 use native.Mathlib.Numerals.{add-one}
 use native.Mathlib.Omega.{arith}
-use lib.ListN.{length, get_or, set, take, drop, length-take, get_or-eq_default}
+use lib.ListN.{length, get_or, set, take, drop, length-take}
 use lib.Seq.{drop-cons, get_or-take}
 use Rattle.std.proofs.lemmas.List.{drop_all}
 use Rattle.std.proofs.lemmas.List.Recursion.{is_count_by}
 use Rattle.std.specs.List.{list_any, count_by}
 use lib.Dec.{ltb, eqb}
-use borrow.Author.Tests.{le-leb, lt-leb, ltb-true, eq-eqb, ne_eqb}
-use Rattle.lists.specs.Lists.{bit, any, all, filter, count, from, upto, below}
+use borrow.Author.Tests.{ltb-true}
+use Rattle.lists.specs.Lists.{bit, any, filter, count, from, upto, below}
 use Rattle.lists.proofs.Members.{all_get_d, filter_agree}
 use Rattle.lists.proofs.Counts.{mem-from}
 use Rattle.lists.proofs.Bounds.{below_of, below_at}
 use Rattle.graph.specs.declared.cut.Put.{Put}
 use Rattle.graph.specs.Cutting.{put, put_all}
 use Rattle.graph.specs.Rows.{row, Rows}
-use Rattle.versions.specs.Flags.{flag_all, flag_parents, flag_down, flagged, flag_child, flag_up, free}
+use Rattle.versions.specs.Flags.{flag_all, flag_parents, flag_down, flag_child, flag_up, free}
 
 -- A list, item by item
 module _ (xs : List ℕ) (i : ℕ) where
@@ -52,29 +52,7 @@ any_is p (x ∷ xs) = ap (λ (t : Bool). p x || t) (any_is p xs)
 pub row_below : (starts items : List ℕ) (n m r : ℕ) → Rows starts items n → r < n → r ≤ m → below m (row starts items r) ≡ true
 row_below starts items n m r rows h le = below_of m (row starts items r) (λ x k. omega (arith, below_at r (row starts items r) (rows.low r h) x k))
 
--- Whether a number is flagged
-pub flagged-low : (flags : List ℕ) (r p : ℕ) → p < r → false ≡ flagged flags r p
-unfolding flagged
-flagged-low flags r p h = rw (lt-leb r p h)
-
-pub flagged-out : (flags : List ℕ) (r p : ℕ) → r ≤ p → length flags ≤ p → false ≡ flagged flags r p
-unfolding flagged
-flagged-out flags r p h o = rw (le-leb r p h, get_or-eq_default flags 0 o)
-
-pub flagged-is : (flags : List ℕ) (r p : ℕ) → r ≤ p → not (eqb (get_or flags p 0) 0) ≡ flagged flags r p
-unfolding flagged
-flagged-is flags r p h = rw (le-leb r p h)
-
 module _ (rows : ℕ → List ℕ) where
-  -- A run that is flagged, and one that is not
-  pub parents-none : (flags : List ℕ) (c : ℕ) → get_or flags c 0 ≡ 0 → flags ≡ flag_parents rows flags c
-  unfolding flag_parents
-  parents-none flags c e = rw (eq-eqb (get_or flags c 0) 0 e)
-
-  pub parents-all : (flags : List ℕ) (c : ℕ) → (get_or flags c 0 ≡ 0 → ⊥) → flag_all flags (rows c) ≡ flag_parents rows flags c
-  unfolding flag_parents
-  parents-all flags c n = rw (ne_eqb (get_or flags c 0) 0 n)
-
   -- The way down
   pub down_next : (flags : List ℕ) (c : ℕ) → 0 < c → flag_down rows (flag_parents rows flags (c - 1)) (c - 1) ≡ flag_down rows flags c
   unfolding flag_down

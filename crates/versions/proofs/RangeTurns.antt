@@ -1,25 +1,24 @@
--- The loops behind the wanted parents, turn by turn, and the ways out of the tests. Assumes nothing.
+-- The loops behind the wanted parents, turn by turn, and whether words are ranges. Assumes nothing.
 use mathlib.Core.Path.{◌≡◌, refl, sym, ap, ◌∙◌}
 use mathlib.Core.Logic.{◌⊎◌, inl, inr}
 use mathlib.Core.Bool.{Bool, true, false, cond}
 use mathlib.Core.List.{List, [], ◌∷◌, ◌++◌, map}
-use Prim.Native.Nat.{ℕ, zero, suc, ◌+◌, ◌-◌, ◌%◌, ◌≤◌, ◌<◌, min}
+use Prim.Native.Nat.{ℕ, zero, suc, ◌+◌, ◌-◌, ◌≤◌, ◌<◌}
 use native.Mathlib.Numerals.{add-one}
 use native.Mathlib.Omega.{arith}
-use lib.ListN.{length, get_or, take, drop, length-append, get_or-eq_default}
+use lib.ListN.{length, get_or, take, drop, length-append}
 use lib.Seq.{take-length, get_or-take, get_or-drop}
-use lib.Dec.{leb, eqb}
-use borrow.Author.Tests.{le-leb, lt-leb, eq-eqb, ne_eqb}
+use lib.Dec.{eqb}
 use Rattle.lists.specs.declared.Kept.{Kept}
 use Rattle.lists.specs.Lists.{all, filter, from, upto, rising}
-use Rattle.lists.specs.Scans.{kept_in, kept, add_if}
+use Rattle.lists.specs.Scans.{kept_in, add_if}
 use Rattle.lists.proofs.Truth.{lt_or_le, false_true, not_so, and_false, and_true}
 use Rattle.lists.proofs.Members.{all-at, all_both}
 use Rattle.lists.proofs.Counts.{upto-mem, upto_snoc}
 use Rattle.lists.proofs.Keeping.{kept-count, kept-long, add_if_kept, filter_snoc}
 use Rattle.model.specs.Wanted.{ranges}
 use Rattle.versions.specs.Flags.{flag_all}
-use Rattle.versions.specs.Ranges.{is_odd, place_of, words_within, clear_at, end_at, clear_in, end_in, flag_marked, is_top, tops, Starts}
+use Rattle.versions.specs.Ranges.{is_odd, place_of, clear_at, end_at, clear_in, end_in, flag_marked, is_top, tops, Starts}
 use Rattle.versions.proofs.RangeWords.{ranges_even, paired_even, word_le, le_word, place_most, place_mono}
 
 -- The words' place, one word on
@@ -59,7 +58,7 @@ module _ (starts ws : List ℕ) (r k : ℕ) where
   unfolding end_in
   end_turn v e f = f ∙ rw (e, add-one r)
 
--- The ways out of the tests of words
+-- Whether words are ranges
 module _ (ws : List ℕ) where
   pub ranges_odd : is_odd (length ws) ≡ true → false ≡ ranges ws
   unfolding ranges
@@ -68,44 +67,6 @@ module _ (ws : List ℕ) where
   pub ranges-is : is_odd (length ws) ≡ false → (b : Bool) → b ≡ rising (take (length ws) ws) → b ≡ ranges ws
   unfolding ranges
   ranges-is h b e = e ∙ rw (take-length, paired_even ws, h) (sym (and_true (rising ws)))
-
-  module _ (first end : ℕ) where
-    pub within_none : length ws ≡ 0 → true ≡ words_within first end ws
-    unfolding words_within
-    within_none h = rw (eq-eqb (length ws) 0 h)
-
-    pub within_low : (length ws ≡ 0 → ⊥) → get_or ws 0 0 < first → false ≡ words_within first end ws
-    unfolding words_within
-    within_low h k = rw (ne_eqb (length ws) 0 h, lt-leb first (get_or ws 0 0) k)
-
-    pub within-is : (length ws ≡ 0 → ⊥) → first ≤ get_or ws 0 0 → leb (get_or ws (length ws - 1) 0) end ≡ words_within first end ws
-    unfolding words_within
-    within-is h k = rw (ne_eqb (length ws) 0 h, le-leb first (get_or ws 0 0) k)
-
-  module _ (k end : ℕ) where
-    pub clear_end : length ws ≤ k + k % 2 → true ≡ clear_at ws k end
-    unfolding clear_at
-    clear_end h = rw (le-leb (length ws) (k + k % 2) h)
-
-    pub clear_is : k + k % 2 < length ws → leb end (get_or ws (k + k % 2) 0) ≡ clear_at ws k end
-    unfolding clear_at
-    clear_is h = rw (lt-leb (length ws) (k + k % 2) h)
-
-    pub end_even : is_odd k ≡ false → 0 ≡ end_at ws k end
-    unfolding end_at
-    end_even h = rw h
-
-    pub end_past : length ws ≤ k → 0 ≡ end_at ws k end
-    unfolding end_at
-    end_past h = rw (get_or-eq_default ws 0 h) (go (is_odd k))
-      where
-        go : (t : Bool) → 0 ≡ cond t (min 0 end) 0
-        go true = omega arith
-        go false = refl
-
-    pub end_is : is_odd k ≡ true → (v : ℕ) → v ≡ min (get_or ws k 0) end → v ≡ end_at ws k end
-    unfolding end_at
-    end_is h v e = rw h e
 
 -- A test of the numbers below a bound, one by one
 module _ (p : ℕ → Bool) where

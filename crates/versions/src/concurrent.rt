@@ -63,7 +63,8 @@ fn is_flagged(flags: &[u32], run: EventRunIndex, p: EventRunIndex) -> bool
 fn has_flagged(flags: &[u32], run: EventRunIndex, runs: &[u32]) -> bool
     ensures { result ≡ list_any (flagged flags.now run.0) runs.now }
 {
-    runs.iter().any(|p| is_flagged(flags, run, EventRunIndex(*p)))
+    runs.iter()
+        .any(|p| is_flagged(flags, run, EventRunIndex(*p)))
 }
 
 // A run is flagged if it has such a parent.

@@ -82,12 +82,7 @@ fn top_events(flags: &[u32], ends: &[u32]) -> Kept
     let mut items = [0; MAX_RUNS];
     let mut c = 0;
     for (r, end) in ends.iter().enumerate() {
-        c = lists::put_if(
-            is_top(flags[r], *end),
-            &mut items,
-            c,
-            end.saturating_sub(1),
-        );
+        c = lists::put_if(is_top(flags[r], *end), &mut items, c, end.saturating_sub(1));
     }
     Kept {
         items: items,

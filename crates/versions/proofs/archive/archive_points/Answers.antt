@@ -2,7 +2,6 @@
 use borrow.Author.Rules.{rules}
 use mathlib.Core.Path.{sym, ◌∙◌}
 use Rattle.model.proofs.Stored.{held_of}
-use Rattle.versions.proofs.ArchiveWays.{archive_broken}
 use Rattle.versions.proofs.archive.archive_points.Goals as goal
 
 pub archive_held-requires : goal.archive_held-requires

@@ -1,9 +1,8 @@
 -- `versions::archive::head_counts` meets its contract. The loop's invariant: the count below the next run, and each place so far. Assumes nothing.
-use Rattle.std.proofs.Common.{◌≡◌, List, ℕ, refl, arith}
+use Rattle.std.proofs.Common.{List, ℕ, refl, arith}
 use Rattle.std.proofs.Math.ListN.{length-set}
 use Rattle.versions.specs.Heads.{head_count}
 use Rattle.versions.specs.Parents.{parents_in}
-use Rattle.versions.proofs.Passes.{row_below}
 use Rattle.versions.proofs.HeadTurns.{count-start, count_turn, filled_next}
 use Rattle.versions.proofs.archive.head_counts.Goals as goal
 

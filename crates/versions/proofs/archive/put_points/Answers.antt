@@ -1,9 +1,8 @@
 -- `versions::archive::put_points` meets its contract. The loop's invariant: what is left, written from here, is the whole. Assumes nothing.
-use Rattle.std.proofs.Common.{List, ℕ, [], ◌∷◌, ◌+◌, drop, get_or, length, ◌∙◌, ap}
+use Rattle.std.proofs.Common.{List, ℕ, [], ◌∷◌, ◌+◌, drop, get_or, ◌∙◌, ap}
 use Rattle.graph.specs.declared.cut.Put.{Put}
 use Rattle.graph.specs.Cutting.{put_all}
-use Rattle.versions.proofs.Passes.{item_below}
-use Rattle.versions.proofs.Points.{points_of, record_next, record_none}
+use Rattle.versions.proofs.Points.{points_of, record_next}
 use Rattle.versions.proofs.archive.put_points.Goals as goal
 
 pub loop-q-preserved : goal.loop-q-preserved
@@ -13,4 +12,3 @@ loop-q-preserved c =
     let l = c.loop-q in
     ap (λ (w : Put × List ℕ). put_all 1 w (points_of a.starts.now (drop (l.q-index + 1) a.points.now))) c.put_one-p.ensures ∙
     (record_next (λ m. get_or a.starts.now m 0 ∷ []) a.points.now l.q-index (l.p, l.list) c.loop-q-test.true ∙ l.invariant)
-

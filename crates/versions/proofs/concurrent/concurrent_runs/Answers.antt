@@ -2,7 +2,6 @@
 use borrow.Author.Rules.{rules}
 use mathlib.Core.Path.{sym, ◌∙◌}
 use Rattle.model.proofs.Stored.{held_of}
-use Rattle.versions.proofs.ConcurrentWays.{concurrent_broken}
 use Rattle.versions.proofs.concurrent.concurrent_runs.Goals as goal
 
 pub concurrent_held-requires : goal.concurrent_held-requires

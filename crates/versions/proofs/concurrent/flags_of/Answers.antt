@@ -4,7 +4,6 @@ use Rattle.model.specs.Record.{view}
 use Rattle.lists.specs.Areas.{pad}
 use Rattle.versions.specs.Flags.{flag_up, flag_down, Flags}
 use Rattle.versions.specs.Parents.{parents_in, runs_in}
-use Rattle.graph.proofs.Views.{facts}
 use Rattle.versions.proofs.ConcurrentWays.{passes_flag}
 use Rattle.versions.proofs.concurrent.flags_of.Goals as goal
 

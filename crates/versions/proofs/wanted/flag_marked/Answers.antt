@@ -1,10 +1,8 @@
 -- `versions::wanted::flag_marked` meets its contract. The loop's invariant: the flags of the runs so far. Assumes nothing.
-use Rattle.std.proofs.Common.{◌≡◌, ℕ, List, refl, ◌∙◌, ap, arith, length}
+use Rattle.std.proofs.Common.{refl, ◌∙◌}
 use Rattle.lists.specs.Areas.{pad}
 use Rattle.versions.specs.Ranges.{flag_marked}
 use Rattle.versions.specs.Parents.{parents_in}
-use Rattle.versions.proofs.Passes.{row_below}
-use Rattle.versions.proofs.MarkedRuns.{flags_long}
 use Rattle.versions.proofs.RangeTurns.{flags_next}
 use Rattle.versions.proofs.wanted.flag_marked.Goals as goal
 

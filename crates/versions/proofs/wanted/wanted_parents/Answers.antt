@@ -1,6 +1,5 @@
 -- `versions::wanted::wanted_parents` meets its contract: a broken graph, faulty ranges and events that are not held are refused. Assumes nothing.
-use Rattle.std.proofs.Common.{◌≡◌, true, sym, ◌∙◌, arith, rules}
-use Rattle.model.specs.Broken.{Held}
+use Rattle.std.proofs.Common.{sym, ◌∙◌, arith, rules}
 use Rattle.model.proofs.Stored.{held_of}
 use Rattle.graph.proofs.Views.{facts}
 use Rattle.versions.proofs.WantedWays.{wanted_broken, wanted_faulty, wanted_unknown, held-is}

@@ -2,7 +2,7 @@
 use Rattle.std.proofs.Common.{List, ℕ, [], ◌∷◌, ◌+◌, map, drop, ◌∙◌, ap}
 use Rattle.graph.specs.declared.cut.Put.{Put}
 use Rattle.graph.specs.Cutting.{put_all}
-use Rattle.versions.proofs.Points.{record_next, record_none}
+use Rattle.versions.proofs.Points.{record_next}
 use Rattle.versions.proofs.words.put_all.Goals as goal
 
 pub loop-x-preserved : goal.loop-x-preserved
@@ -11,4 +11,3 @@ loop-x-preserved c =
     let l = c.loop-x in
     ap (λ (w : Put × List ℕ). put_all 1 w (map (λ x. x ∷ []) (drop (l.x-index + 1) xs))) c.put_one-p.ensures ∙
     (record_next (λ x. x ∷ []) xs l.x-index (l.p, l.list) c.loop-x-test.true ∙ l.invariant)
-

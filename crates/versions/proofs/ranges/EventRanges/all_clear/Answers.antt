@@ -1,8 +1,7 @@
 -- `versions::ranges::EventRanges::all_clear` meets its contract. The loop's invariant: the runs so far are clear, and the place is not past the next start's. Assumes nothing.
-use Rattle.std.proofs.Common.{◌≡◌, [], ◌∷◌, ◌++◌, ◌<◌, ◌≤◌, ◌-◌, ◌+◌, ℕ, length, get_or, take, drop, length-take, length-drop, Bool, rules, sym, ap, ◌∙◌, arith}
+use Rattle.std.proofs.Common.{◌≡◌, [], ◌∷◌, ◌++◌, ◌<◌, ◌-◌, ◌+◌, ℕ, length, take, drop, length-take, rules, ◌∙◌, arith}
 use Rattle.std.proofs.lemmas.List.{length_push}
-use Rattle.std.proofs.lemmas.Slice.Zip.{zip_turn, zip_end}
-use Rattle.lists.specs.Lists.{all, upto}
+use Rattle.std.proofs.lemmas.Slice.Zip.{zip_turn}
 use Rattle.versions.specs.Ranges.{clear_in}
 use Rattle.versions.proofs.RangeWords.{ranges_even}
 use Rattle.versions.proofs.RangeTurns.{next_start, place-next, clear_turn, all_start, all-next, all_stop}
@@ -37,4 +36,3 @@ loop-start-preserved c =
       rw on (place-next c.args.self.words.now (ranges_even c.args.self.words.now c.args.self.paired).0 starts _ n _ c.requires lt place),
       rw on (all-next (clear_in starts c.args.self.words.now) n c.loop-start.invariant.3 (clear_turn starts c.args.self.words.now n _ _ place clear ∙ c.if-not-is_clear.false)),
     )
-

@@ -1,5 +1,5 @@
 -- `versions::ranges::EventRanges::marked_ends` meets its contract. The loop's invariant: each place so far. Assumes nothing.
-use Rattle.std.proofs.Common.{refl, arith}
+use Rattle.std.proofs.Common.{arith}
 use Rattle.std.proofs.Math.ListN.{length-set}
 use Rattle.versions.specs.Ranges.{end_in}
 use Rattle.versions.proofs.HeadTurns.{filled_next}

@@ -1,6 +1,4 @@
 -- `versions::rows::ParentRows::of_graph` meets its contract: the rows of a held graph fit. Assumes nothing.
-use native.Mathlib.Omega.{arith}
-use Rattle.graph.proofs.Views.{facts}
 use Rattle.versions.proofs.GraphRows.{rows_taken, taken_view}
 use Rattle.versions.proofs.rows.ParentRows.of_graph.Goals as goal
 
