@@ -3,6 +3,7 @@
 ghost use Rattle.std.specs.Prelude.{◌≡◌, true, ◌||◌, [], ◌∷◌, map, ◌≤◌, ◌<◌, length, get_or, leb, eqb};
 ghost use Rattle.lists.specs.Lists.{filter, count, upto, below};
 ghost use Rattle.lists.specs.Scans.{kept_in};
+ghost use Rattle.model.specs.Limits.{max_runs};
 ghost use Rattle.model.specs.Graph.{runs, start};
 ghost use Rattle.model.specs.Record.{view};
 ghost use Rattle.model.specs.Broken.{Held};
@@ -72,9 +73,8 @@ fn count_heads(firsts: &[u32], parents: &[u32], run: EventRunIndex) -> usize
 
 // How many heads lie below each of some runs: the runs below it that have no child below it.
 #[tactic(auto, using(crate::proofs::HeadTurns::heads_on))]
-fn head_counts(firsts: &[u32], parents: ParentRows) -> [u32; MAX_RUNS]
-    requires firsts_reach { runs_in parents ≤ length firsts.now }
-    requires heads_fit { HeadsFit firsts.now (parents_in parents) (runs_in parents) }
+fn head_counts(firsts: &[u32; MAX_RUNS], parents: ParentRows) -> [u32; MAX_RUNS]
+    requires { HeadsFit firsts.now (parents_in parents) (runs_in parents) }
     ensures { HeadCounts firsts.now (parents_in parents.entry) (runs_in parents.entry) result }
 {
     let mut counts = [0; MAX_RUNS];
@@ -90,10 +90,9 @@ fn head_counts(firsts: &[u32], parents: ParentRows) -> [u32; MAX_RUNS]
 // The last run that may start at an archive point for all that the parents of `run` tell: the one after the last of
 // them, if all heads below it are among them, so that `run` has seen every run below it; else the last parent.
 #[tactic(auto, using(crate::proofs::HeadTurns::last_parent), unfolding(crate::specs::Heads::whole_in))]
-fn highest(firsts: &[u32], counts: &[u32], parents: &[u32], run: EventRunIndex) -> EventRunIndex
+fn highest(firsts: &[u32; MAX_RUNS], counts: &[u32; MAX_RUNS], parents: &[u32], run: EventRunIndex) -> EventRunIndex
     requires low { below run.0 parents.now ≡ true }
-    requires firsts_reach { run.0 ≤ length firsts.now }
-    requires counts_reach { run.0 < length counts.now }
+    requires run_there { run.0 < max_runs }
     ensures { (result.0 ≡ highest_by (whole_in firsts.now counts.now) parents.now) × (result.0 ≤ run.0) }
 {
     let Some(last) = parents.last() else {
@@ -109,14 +108,12 @@ fn highest(firsts: &[u32], counts: &[u32], parents: &[u32], run: EventRunIndex) 
 
 // How far each of some runs has seen, as far as archive points need it: up to the start of the run that `highest` tells.
 fn seen_lengths(
-    firsts: &[u32],
-    counts: &[u32],
+    firsts: &[u32; MAX_RUNS],
+    counts: &[u32; MAX_RUNS],
     events: &[u32],
     parents: ParentRows,
 ) -> [u32; MAX_RUNS]
-    requires firsts_reach { runs_in parents ≤ length firsts.now }
-    requires counts_reach { runs_in parents ≤ length counts.now }
-    requires events_reach { runs_in parents ≤ length events.now }
+    requires { runs_in parents ≤ length events.now }
     ensures { SeenLengths firsts.now counts.now events.now (parents_in parents.entry) (runs_in parents.entry) result }
 {
     let mut seen = [0; MAX_RUNS];

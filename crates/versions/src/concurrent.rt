@@ -28,9 +28,8 @@ pub(crate) fn flag_all(flags: &mut [u32], runs: &[u32])
 
 // The parents of a run are flagged if it is.
 #[tactic(auto, using(crate::proofs::Passes::row_below), unfolding(crate::specs::Flags::flag_parents))]
-fn flag_parents(flags: &mut [u32], parents: ParentRows, run: EventRunIndex)
-    requires flags_reach { runs_in parents ≤ length flags.old }
-    requires run_there { run.0 < runs_in parents }
+fn flag_parents(flags: &mut [u32; MAX_RUNS], parents: ParentRows, run: EventRunIndex)
+    requires { run.0 < runs_in parents }
     ensures { flags.new ≡ flag_parents (parents_in parents.entry) flags.old run.0 }
 {
     if flags[run.0 as usize] == 0 {
@@ -41,9 +40,8 @@ fn flag_parents(flags: &mut [u32], parents: ParentRows, run: EventRunIndex)
 
 // The same of the runs before `end`, from the last down.
 #[tactic(auto, using(crate::proofs::Passes::down_next, crate::proofs::Passes::down_none))]
-fn flag_down(flags: &mut [u32], parents: ParentRows, end: EventRunIndex)
-    requires flags_reach { runs_in parents ≤ length flags.old }
-    requires end_there { end.0 ≤ runs_in parents }
+fn flag_down(flags: &mut [u32; MAX_RUNS], parents: ParentRows, end: EventRunIndex)
+    requires { end.0 ≤ runs_in parents }
     ensures { flags.new ≡ flag_down (parents_in parents.entry) flags.old end.0 }
 {
     for c in (0..end.0).rev() {
@@ -69,9 +67,8 @@ fn has_flagged(flags: &[u32], run: EventRunIndex, runs: &[u32]) -> bool
 
 // A run is flagged if it has such a parent.
 #[tactic(auto, using(crate::proofs::Passes::any_is, crate::proofs::HeadTurns::byte_bit), unfolding(crate::specs::Flags::flag_child))]
-fn flag_child(flags: &mut [u32], run: EventRunIndex, parents: ParentRows, q: EventRunIndex)
-    requires flags_reach { runs_in parents ≤ length flags.old }
-    requires run_there { q.0 < runs_in parents }
+fn flag_child(flags: &mut [u32; MAX_RUNS], run: EventRunIndex, parents: ParentRows, q: EventRunIndex)
+    requires { q.0 < runs_in parents }
     ensures { flags.new ≡ flag_child (parents_in parents.entry) run.0 flags.old q.0 }
 {
     let flag = has_flagged(flags, run, parents.of(q));
@@ -80,8 +77,7 @@ fn flag_child(flags: &mut [u32], run: EventRunIndex, parents: ParentRows, q: Eve
 
 // The same of the runs from `from` on.
 #[tactic(auto, using(crate::proofs::Passes::up_next, crate::proofs::Passes::up_none))]
-fn flag_up(flags: &mut [u32], run: EventRunIndex, parents: ParentRows, from: EventRunIndex)
-    requires { runs_in parents ≤ length flags.old }
+fn flag_up(flags: &mut [u32; MAX_RUNS], run: EventRunIndex, parents: ParentRows, from: EventRunIndex)
     ensures { flags.new ≡ flag_up (parents_in parents.entry) run.0 flags.old from.0 (runs_in parents.entry - from.0) }
 {
     for q in from.0 as usize..parents.len() {

@@ -13,7 +13,7 @@ head_counts-counts-requires c =
     let all = c.of_graph-parents in
     let runs : runs_in all.result ≡ g.run_count = omega (arith, all.ensures.counted) in
     let firsts = rw runs at c.first_children-firsts.ensures in
-    record { firsts_reach = omega (arith, runs, (facts g held).runs); heads_fit = rw runs (counts_fit g held (parents_in all.result) all.ensures.parents _ firsts) }
+    rw runs (counts_fit g held (parents_in all.result) all.ensures.parents _ firsts)
 
 pub returns : goal.returns
 returns c =
