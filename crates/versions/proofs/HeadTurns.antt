@@ -53,7 +53,8 @@ unfolding head_count
 count-start firsts rows = refl
 
 -- A table filled place by place
-pub filled_next : (f : ℕ → ℕ) (a : List ℕ) (i v : ℕ) → i < length a → ((k : ℕ) → k < i → get_or a k 0 ≡ f k) → v ≡ f i → (k : ℕ) → k < i + 1 → get_or (set a i v) k 0 ≡ f k
+pub filled_next : (f : ℕ → ℕ) (a : List ℕ) (i v : ℕ) → i < length a → ((k : ℕ) → k < i → get_or a k 0 ≡ f k) → v ≡ f i →
+    (k : ℕ) → k < i + 1 → get_or (set a i v) k 0 ≡ f k
 filled_next f a i v h done e k lt = go (eq_or-not k i)
   where
     go : (k ≡ i) ⊎ (k ≡ i → ⊥) → get_or (set a i v) k 0 ≡ f k

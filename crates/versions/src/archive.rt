@@ -90,7 +90,12 @@ fn head_counts(firsts: &[u32; MAX_RUNS], parents: ParentRows) -> [u32; MAX_RUNS]
 // The last run that may start at an archive point for all that the parents of `run` tell: the one after the last of
 // them, if all heads below it are among them, so that `run` has seen every run below it; else the last parent.
 #[tactic(auto, using(crate::proofs::HeadTurns::last_parent), unfolding(crate::specs::Heads::whole_in))]
-fn highest(firsts: &[u32; MAX_RUNS], counts: &[u32; MAX_RUNS], parents: &[u32], run: EventRunIndex) -> EventRunIndex
+fn highest(
+    firsts: &[u32; MAX_RUNS],
+    counts: &[u32; MAX_RUNS],
+    parents: &[u32],
+    run: EventRunIndex,
+) -> EventRunIndex
     requires low { below run.0 parents.now ≡ true }
     requires run_there { run.0 < max_runs }
     ensures { (result.0 ≡ highest_by (whole_in firsts.now counts.now) parents.now) × (result.0 ≤ run.0) }

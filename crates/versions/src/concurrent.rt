@@ -67,7 +67,12 @@ fn has_flagged(flags: &[u32], run: EventRunIndex, runs: &[u32]) -> bool
 
 // A run is flagged if it has such a parent.
 #[tactic(auto, using(crate::proofs::Passes::any_is, crate::proofs::HeadTurns::byte_bit), unfolding(crate::specs::Flags::flag_child))]
-fn flag_child(flags: &mut [u32; MAX_RUNS], run: EventRunIndex, parents: ParentRows, q: EventRunIndex)
+fn flag_child(
+    flags: &mut [u32; MAX_RUNS],
+    run: EventRunIndex,
+    parents: ParentRows,
+    q: EventRunIndex,
+)
     requires { q.0 < runs_in parents }
     ensures { flags.new ≡ flag_child (parents_in parents.entry) run.0 flags.old q.0 }
 {
@@ -77,7 +82,12 @@ fn flag_child(flags: &mut [u32; MAX_RUNS], run: EventRunIndex, parents: ParentRo
 
 // The same of the runs from `from` on.
 #[tactic(auto, using(crate::proofs::Passes::up_next, crate::proofs::Passes::up_none))]
-fn flag_up(flags: &mut [u32; MAX_RUNS], run: EventRunIndex, parents: ParentRows, from: EventRunIndex)
+fn flag_up(
+    flags: &mut [u32; MAX_RUNS],
+    run: EventRunIndex,
+    parents: ParentRows,
+    from: EventRunIndex,
+)
     ensures { flags.new ≡ flag_up (parents_in parents.entry) run.0 flags.old from.0 (runs_in parents.entry - from.0) }
 {
     for q in from.0 as usize..parents.len() {

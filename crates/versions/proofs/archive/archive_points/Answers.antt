@@ -1,6 +1,5 @@
 -- `versions::archive::archive_points` meets its contract: a broken graph is refused, any other is held. Assumes nothing.
-use borrow.Author.Rules.{rules}
-use mathlib.Core.Path.{sym, ◌∙◌}
+use Rattle.std.proofs.Common.{sym, ◌∙◌, rules}
 use Rattle.model.proofs.Stored.{held_of}
 use Rattle.versions.proofs.archive.archive_points.Goals as goal
 

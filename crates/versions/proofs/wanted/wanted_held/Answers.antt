@@ -22,8 +22,10 @@ returns-then-not-all_whole c =
     let a = c.args in
     let p = c.requires in
     let all = c.of_graph in
-    let long : a.g.run_count ≤ length c.marked_ends-ends.result = omega (arith, (facts a.g p.held).runs) in
-    wanted_parted a.g a.ranges.words.now a.list.now p.held a.ranges.paired p.events_held (sym c.all_clear.ensures ∙ c.if-not-all_clear.false) c.marked_ends-ends.result c.marked_ends-ends.ensures long
+    let ends = c.marked_ends-ends in
+    let clear = sym c.all_clear.ensures ∙ c.if-not-all_clear.false in
+    let long : a.g.run_count ≤ length ends.result = omega (arith, (facts a.g p.held).runs) in
+    wanted_parted a.g a.ranges.words.now a.list.now p.held a.ranges.paired p.events_held clear ends.result ends.ensures long
     (parents_in all.result) all.ensures.parents c.flag_marked-flags.result c.flag_marked-flags.ensures (sym c.all_whole.ensures ∙ c.if-not-all_whole.true)
 
 pub returns-then-list-found : goal.returns-then-list-found
@@ -31,8 +33,10 @@ returns-then-list-found c =
     let a = c.args in
     let p = c.requires in
     let all = c.of_graph in
-    let long : a.g.run_count ≤ length c.marked_ends-ends.result = omega (arith, (facts a.g p.held).runs) in
-    wanted_short a.g a.ranges.words.now a.list.now p.held a.ranges.paired p.events_held (sym c.all_clear.ensures ∙ c.if-not-all_clear.false) c.marked_ends-ends.result c.marked_ends-ends.ensures long
+    let ends = c.marked_ends-ends in
+    let clear = sym c.all_clear.ensures ∙ c.if-not-all_clear.false in
+    let long : a.g.run_count ≤ length ends.result = omega (arith, (facts a.g p.held).runs) in
+    wanted_short a.g a.ranges.words.now a.list.now p.held a.ranges.paired p.events_held clear ends.result ends.ensures long
     (parents_in all.result) all.ensures.parents c.flag_marked-flags.result c.flag_marked-flags.ensures
     (sym c.all_whole.ensures ∙ c.if-not-all_whole.false) c.top_events-found.result c.top_events-found.ensures c.if-list-found.true
 
@@ -41,8 +45,10 @@ shared_ref_as_front-put_all c =
     let a = c.args in
     let p = c.requires in
     let all = c.of_graph in
-    let long : a.g.run_count ≤ length c.marked_ends-ends.result = omega (arith, (facts a.g p.held).runs) in
-    wanted_few a.g a.ranges.words.now a.list.now p.held a.ranges.paired p.events_held (sym c.all_clear.ensures ∙ c.if-not-all_clear.false) c.marked_ends-ends.result c.marked_ends-ends.ensures long
+    let ends = c.marked_ends-ends in
+    let clear = sym c.all_clear.ensures ∙ c.if-not-all_clear.false in
+    let long : a.g.run_count ≤ length ends.result = omega (arith, (facts a.g p.held).runs) in
+    wanted_few a.g a.ranges.words.now a.list.now p.held a.ranges.paired p.events_held clear ends.result ends.ensures long
     (parents_in all.result) all.ensures.parents c.flag_marked-flags.result c.flag_marked-flags.ensures
     (sym c.all_whole.ensures ∙ c.if-not-all_whole.false) c.top_events-found.result c.top_events-found.ensures
 
@@ -51,7 +57,9 @@ returns c =
     let a = c.args in
     let p = c.requires in
     let all = c.of_graph in
-    let long : a.g.run_count ≤ length c.marked_ends-ends.result = omega (arith, (facts a.g p.held).runs) in
-    rw c.written.ensures (wanted_done a.g a.ranges.words.now a.list.now p.held a.ranges.paired p.events_held (sym c.all_clear.ensures ∙ c.if-not-all_clear.false) c.marked_ends-ends.result c.marked_ends-ends.ensures long
+    let ends = c.marked_ends-ends in
+    let clear = sym c.all_clear.ensures ∙ c.if-not-all_clear.false in
+    let long : a.g.run_count ≤ length ends.result = omega (arith, (facts a.g p.held).runs) in
+    rw c.written.ensures (wanted_done a.g a.ranges.words.now a.list.now p.held a.ranges.paired p.events_held clear ends.result ends.ensures long
     (parents_in all.result) all.ensures.parents c.flag_marked-flags.result c.flag_marked-flags.ensures
     (sym c.all_whole.ensures ∙ c.if-not-all_whole.false) c.top_events-found.result c.top_events-found.ensures c.if-list-found.false _ _ c.put_all-p.ensures)
