@@ -1,24 +1,23 @@
--- `versions::wanted::top_events` meets its contract: a turn asks one run more. Assumes nothing.
-use Rattle.std.proofs.Common.{◌≡◌, ◌∙◌, ap, arith}
-use Rattle.versions.specs.Ranges.{is_top, tops}
-use Rattle.versions.proofs.RangeTurns.{tops-few, tops_start, tops_turn}
+-- `versions::wanted::top_events` meets its contract. The loop's invariant: the last marked events of the top runs so far are kept. Assumes nothing.
+use Rattle.std.proofs.Common.{◌≡◌, refl, length, arith}
+use Rattle.lists.specs.Areas.{pad}
+use Rattle.lists.specs.Lists.{upto, from, filter}
+use Rattle.lists.specs.Scans.{kept_in, kept}
+use Rattle.lists.proofs.Keeping.{kept-count, kept-long}
+use Rattle.versions.specs.Ranges.{tops}
+use Rattle.versions.proofs.RangeTurns.{tops-few}
 use Rattle.versions.proofs.wanted.top_events.Goals as goal
 
 pub loop-r-init : goal.loop-r-init
-loop-r-init c = c.new-tops.ensures ∙ tops_start _ _
+unfolding kept_in tops upto from filter pad
+loop-r-init c = refl
 
-pub push_if-requires : goal.push_if-requires
-push_if-requires c =
+pub put_if-c-requires : goal.put_if-c-requires
+put_if-c-requires c =
     let a = c.args in
-    rw c.loop-r.invariant (omega (arith, tops-few a.flags.now a.ends.now c.loop-r.r, c.requires.n_le_max_runs))
-
-pub loop-r-preserved : goal.loop-r-preserved
-unfolding is_top
-loop-r-preserved c =
-    let a = c.args in
-    c.push_if.ensures ∙ tops_turn a.flags.now a.ends.now c.loop-r.r c.loop-r.tops _ _ c.is_top.ensures c.last_before.ensures c.loop-r.invariant
-
-pub returns : goal.returns
-returns c =
-    let e : c.loop-r.r ≡ c.args.n = omega arith in
-    c.loop-r.invariant ∙ ap (tops c.args.flags.now c.args.ends.now) e
+    let p = c.requires in
+    let l = c.loop-r in
+    let few = tops-few a.flags.now a.ends.now l.r in
+    let count = kept-count (kept l.items l.c) _ l.invariant in
+    let long : length l.items ≡ 512 = kept-long (kept l.items l.c) _ l.invariant (omega (arith, few, p.few)) in
+    record { n_in_bounds = omega (arith, few, count, long, p.few); n_lt_max_kept = omega (arith, few, count, p.few) }
