@@ -4,7 +4,6 @@ pub mod Taking
 pub mod Turning
 pub mod Heading
 pub mod Decimals
-pub mod Lining
 pub mod Fits
 pub mod Numbers
 pub mod Whole

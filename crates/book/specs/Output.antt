@@ -9,7 +9,6 @@ use Rattle.model.specs.declared.answers.BookRead.{BookRead}
 use Rattle.model.specs.declared.answers.BookAnswer.TheVariants.{Whole, Refused, PushRefused}
 use Rattle.model.specs.Refusals.{number}
 use Rattle.model.specs.Print.{Line as PrintLine, step_line, refused_line, push_refused_line, ascii, line_text, text, replay_lines}
-use Rattle.book.specs.declared.printing.Line.{Line}
 use Rattle.book.specs.declared.printing.Printed.{Printed}
 
 -- how many bytes a line has room for
@@ -19,21 +18,6 @@ max_line = 64
 -- how many bytes the lines of any book take at most
 abbrev pub max_text : ℕ
 max_text = 131072
-
--- a line's text
-unfoldable pub shown : Line → List ℕ
-shown l = take l.count l.bytes
-
--- a line has just this text
-pub record Shows (l : Line) (xs : List ℕ) : Type 0 where
-  pub text : shown l ≡ xs
-  pub count : l.count ≡ length xs
-  pub fits : l.count ≤ max_line
-
--- a line is another with a text after it
-pub record Adds (l : Line) (xs : List ℕ) (r : Line) : Type 0 where
-  pub text : shown r ≡ shown l ++ xs
-  pub count : r.count ≡ l.count + length xs
 
 -- a line of 01's, and its end
 unfoldable pub ended : PrintLine → List ℕ
