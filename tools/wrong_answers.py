@@ -205,14 +205,14 @@ BOOK = [
     ("reading::read", "takes bytes left over", "left_over_taken"),
     ("reading::read", "pushes counted from 1", "pushes_from_one"),
     ("reading::read", "a book of 65,537 bytes is taken", "reading.rt", "if MAX_BOOK < bytes.len() {", "if MAX_BOOK < bytes.len() - 1 {"),
-    ("reading::read", "the header's frontier is not tried, and pushes are made under a header that is refused", "reading.rt", "&words[2..end]", "&words[2..2]"),
-    ("reading::read", "a refused header is told as push 0", "reading.rt", "answered(g, BookAnswer::Refused(r))", "answered(g, BookAnswer::PushRefused(r, 0))"),
-    ("reading::read", "a refused push does not end it", "reading.rt", "            is_refused: true,\n            answer: BookAnswer::PushRefused(r, k),", "            is_refused: false,\n            answer: BookAnswer::PushRefused(r, k),"),
-    ("reading::read", "no bytes are refused with 14", "reading.rt", "return fresh(BookAnswer::Whole);", "return fresh(BookAnswer::Refused(Refusal::BookTooShort));"),
-    ("reading::read", "a book of one byte is taken for the empty one", "reading.rt", "if bytes.len() == 0 {", "if bytes.len() / 2 == 0 {"),
-    ("replaying::replayed", "prints no steps", "replaying.rt", "&steps[0..n]", "&steps[0..0]"),
+    ("reading::read", "the header's frontier is not tried, and pushes are made under a header that is refused", "reading.rt", "header.frontier);", "&header.frontier[0..0]);"),
+    ("reading::read", "a refused header is told as push 0", "reading.rt", "answered(made.graph, BookAnswer::Refused(r))", "answered(made.graph, BookAnswer::PushRefused(r, 0))"),
+    ("reading::read", "a refused push does not end it", "reading.rt", "EventsAnswer::Refused(r) => Err(answered(pushed.graph, BookAnswer::PushRefused(r, k))),", "EventsAnswer::Refused(_) => Ok(Turn {\n            graph: pushed.graph,\n            left,\n        }),"),
+    ("reading::read", "no bytes are refused with 14", "reading.rt", "return answered(graph::fresh::new(), BookAnswer::Whole);", "return answered(graph::fresh::new(), BookAnswer::Refused(Refusal::BookTooShort));"),
+    ("reading::read", "a book of one byte is taken for the empty one", "reading.rt", "if bytes.is_empty() {", "if bytes.len() / 2 == 0 {"),
+    ("replaying::replayed", "prints no steps", "replaying.rt", "&steps[..words]", "&steps[..0]"),
     ("replaying::replayed", "leaves out a line that just fits", "full_buffer"),
-    ("replaying::replayed", "moved 0", "replaying.rt", "last_line(outcome, walked.moved)", "last_line(outcome, 0)"),
+    ("replaying::replayed", "moved 0", "replaying.rt", "last_line(walked.outcome, walked.moved)", "last_line(walked.outcome, 0)"),
 ]
 
 TRIES = {"model": MODEL, "graph": GRAPH, "versions": VERSIONS, "reader": READER, "lent": LENT, "calls": CALLS, "moves": MOVES, "tables": TABLES, "walk": WALK, "book": BOOK}

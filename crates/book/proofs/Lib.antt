@@ -2,7 +2,6 @@
 pub mod Decoding
 pub mod Taking
 pub mod Turning
-pub mod Heading
 pub mod Decimals
 pub mod Fits
 pub mod Numbers

@@ -1,5 +1,5 @@
 -- Lines written into a lent buffer: the whole lines that fit. Assumes nothing.
-use Rattle.std.specs.Prelude.{◌≡◌, true, false, not, cond, ◌&&◌, List, [], ◌∷◌, ◌++◌, map, ℕ, ◌+◌, ◌≤◌, length, take, drop, leb, ltb}
+use Rattle.std.specs.Prelude.{true, false, not, cond, ◌&&◌, List, [], ◌∷◌, ◌++◌, map, ℕ, ◌+◌, length, take, drop, leb, ltb}
 use Rattle.std.proofs.Math.Option.{Option, none, some}
 use Rattle.lists.specs.Lists.{concat}
 use Rattle.lists.specs.Areas.{over, fitting}

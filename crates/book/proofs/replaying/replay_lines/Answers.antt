@@ -1,5 +1,5 @@
 -- `book::replaying::replay_lines` meets its contract: the steps that the replay wrote are those that are put, and the last line after them. Assumes nothing.
-use Rattle.std.proofs.Common.{rules, arith}
+use Rattle.std.proofs.Common.{rules}
 use Rattle.book.proofs.Whole.{count_fits, replay_printed}
 use Rattle.book.proofs.replaying.replay_lines.Goals as goal
 
