@@ -154,12 +154,12 @@ CALLS = [
     ("calls::lending::take_changed_from", "gives back the graph that it was given", "lending.rt", "    Taken {\n        graph: h,", "    Taken {\n        graph: g,"),
     ("calls::made_by", "a push's graph is dropped", "push_dropped"),
     ("calls::made_by", "a run start at another event", "another_event"),
-    ("calls::made_by", "an after is made as new", "lib.rt", "    let g = made.graph;\n    g\n", "    let g = graph::fresh::new();\n    g\n"),
-    ("calls::made_by", "the start is read as a call too", "lib.rt", "calls(begin(words), words, start)", "calls(begin(words), words, 0)"),
-    ("calls::start_again", "the later run start gets the graph of the first", "lib.rt", "(again_lent, given, at)", "(again_lent, started.graph, at)"),
-    ("calls::start_again", "makes the calls before once more, not those between", "lib.rt", "calls(started.graph, between, 0)", "calls(started.graph, words, 0)"),
-    ("calls::start_again", "tells the first answer twice", "lib.rt", "again: again,", "again: first,"),
-    ("calls::start_again", "always gives back the graph that it was given", "lib.rt", "left: left,", "left: given,"),
+    ("calls::made_by", "an after is made as new", "said.rt", "                made.graph\n", "                graph::fresh::new()\n"),
+    ("calls::made_by", "the start is read as a call too", "lib.rt", "calls(start.begin(), rest)", "calls(start.begin(), words)"),
+    ("calls::start_again", "the later run start gets the graph of the first", "lib.rt", "again_form.start_run_at(given, at)", "again_form.start_run_at(started.graph, at)"),
+    ("calls::start_again", "makes the calls before once more, not those between", "lib.rt", "calls(started.graph, between)", "calls(started.graph, words)"),
+    ("calls::start_again", "tells the first answer twice", "lib.rt", "again: started_again.answer,", "again: started.answer,"),
+    ("calls::start_again", "always gives back the graph that it was given", "lib.rt", "left: started_again.graph,", "left: given,"),
 ]
 
 MOVES = [
@@ -209,7 +209,7 @@ BOOK = [
     ("reading::read", "a refused header is told as push 0", "reading.rt", "answered(made.graph, BookAnswer::Refused(r))", "answered(made.graph, BookAnswer::PushRefused(r, 0))"),
     ("reading::read", "a refused push does not end it", "reading.rt", "EventsAnswer::Refused(r) => Err(answered(pushed.graph, BookAnswer::PushRefused(r, k))),", "EventsAnswer::Refused(_) => Ok(Turn {\n            graph: pushed.graph,\n            left,\n        }),"),
     ("reading::read", "no bytes are refused with 14", "reading.rt", "return answered(graph::fresh::new(), BookAnswer::Whole);", "return answered(graph::fresh::new(), BookAnswer::Refused(Refusal::BookTooShort));"),
-    ("reading::read", "a book of one byte is taken for the empty one", "reading.rt", "if bytes.is_empty() {", "if bytes.len() / 2 == 0 {"),
+    ("reading::read", "a book of one byte is taken for the empty one", "reading.rt", "if bytes.is_empty() {", "if bytes[..bytes.len() / 2].is_empty() {"),
     ("replaying::replayed", "prints no steps", "replaying.rt", "&steps[..words]", "&steps[..0]"),
     ("replaying::replayed", "leaves out a line that just fits", "full_buffer"),
     ("replaying::replayed", "moved 0", "replaying.rt", "last_line(walked.outcome, walked.moved)", "last_line(walked.outcome, 0)"),
