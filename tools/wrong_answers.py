@@ -131,15 +131,15 @@ VERSIONS = [
 ]
 
 READER = [
-    ("reader::new", "stands at the second step", "lib.rt", "StepReader { words, at: 0 }", "StepReader { words, at: 3 }"),
-    ("reader::new", "stands one word in", "lib.rt", "StepReader { words, at: 0 }", "StepReader { words, at: 1 }"),
-    ("reader::next", "moves past a kind above 3", "moves_on_refusal"),
-    ("reader::next", "moves on by two words", "lib.rt", "let past = at + 3;", "let past = at + 2;"),
+    ("reader::StepReader::new", "stands at the second step", "lib.rt", "StepReader { words, at: 0 }", "StepReader { words, at: 3 }"),
+    ("reader::StepReader::new", "stands one word in", "lib.rt", "StepReader { words, at: 0 }", "StepReader { words, at: 1 }"),
+    ("reader::StepReader::next", "moves past a kind above 3", "moves_on_refusal"),
+    ("reader::StepReader::next", "moves on by two words", "lib.rt", "answer(NextStep::Step(step), at + 3)", "answer(NextStep::Step(step), at + 2)"),
     ("reader::step_at", "takes kind 4 as a step", "kind_four"),
-    ("reader::step_at", "the last step is the end", "lib.rt", "if n - 3 < at {", "if n - 3 <= at {"),
-    ("reader::step_at", "an advance read as a retreat", "lib.rt", "WalkStep::Advance(a, b)", "WalkStep::Retreat(a, b)"),
-    ("reader::step_from", "an apply's end as its run", "lib.rt", "WalkStep::Apply(a)", "WalkStep::Apply(b)"),
-    ("reader::step_from", "an open's end is its first run", "lib.rt", "WalkStep::Open(a, b)", "WalkStep::Open(a, a)"),
+    ("reader::step_at", "the last step is the end", "lib.rt", "    let [kind, a, b, ..] = left else {", "    if left.len() <= 3 {\n        return answer(NextStep::End, at);\n    }\n    let [kind, a, b, ..] = left else {"),
+    ("reader::step_at", "an advance read as a retreat", "lib.rt", "Some(WalkStep::Advance(a, b))", "Some(WalkStep::Retreat(a, b))"),
+    ("reader::step_from", "an apply's end as its run", "lib.rt", "Some(WalkStep::Apply(a))", "Some(WalkStep::Apply(b))"),
+    ("reader::step_from", "an open's end is its first run", "lib.rt", "Some(WalkStep::Open(a, b))", "Some(WalkStep::Open(a, a))"),
 ]
 
 LENT = [

@@ -8,7 +8,7 @@ ghost use Rattle.book.specs.Output;
 ghost use Rattle.book.specs.Output.{max_line, step_bytes, word_lines, put_line, put_lines};
 
 use itoa::Buffer;
-use model::{EventRunIndex, Outcome, Refusal};
+use model::{EventRunIndex, Outcome, Refusal, WalkStep};
 use std::marker::Model;
 
 // How many bytes a line has room for: no line of 01's is longer.
@@ -88,12 +88,12 @@ fn two(name: &[u8], a: EventRunIndex, b: EventRunIndex) -> Line
 fn step_line(kind: u32, a: EventRunIndex, b: EventRunIndex) -> Line
     ensures { result ≡ step_bytes (decoded kind a.0 b.0) }
 {
-    match kind {
-        0 => two(b"retreat ", a, b),
-        1 => two(b"advance ", a, b),
-        2 => one(b"apply ", u64::from(a.0)),
-        3 => two(b"open ", a, b),
-        _ => Line::new(),
+    match reader::step_of(kind, a, b) {
+        Some(WalkStep::Retreat(a, b)) => two(b"retreat ", a, b),
+        Some(WalkStep::Advance(a, b)) => two(b"advance ", a, b),
+        Some(WalkStep::Apply(r)) => one(b"apply ", u64::from(r.0)),
+        Some(WalkStep::Open(a, b)) => two(b"open ", a, b),
+        None => Line::new(),
     }
 }
 

@@ -5,9 +5,18 @@ use Rattle.std.specs.Borrow.{Bor}
 use Rattle.model.specs.declared.steps.WalkStep.{WalkStep}
 use Rattle.model.specs.declared.steps.NextStep.{NextStep}
 use Rattle.model.specs.declared.steps.NextStep.TheVariants.{Step as Given, End, Refused}
+use Rattle.model.specs.declared.steps.WalkStep.TheVariants.{Retreat, Advance, Apply, Open}
+use Rattle.model.specs.Steps.{Step, retreat, advance, opened, apply}
 use Rattle.model.specs.Reader.{next_of}
 use Rattle.reader.specs.declared.StepAt.{StepAt}
 use Rattle.reader.specs.declared.StepReader.{StepReader}
+
+-- A step that was read, as the model has it
+abbrev pub step_read : WalkStep → Step
+step_read (Retreat a b) = retreat a.0 b.0
+step_read (Advance a b) = advance a.0 b.0
+step_read (Apply r) = apply r.0
+step_read (Open a b) = opened a.0 b.0
 
 -- An answer, and the place where the reader then stands
 abbrev pub step_at : NextStep → ℕ → StepAt
