@@ -4,6 +4,7 @@ pub mod Taking
 pub mod Turning
 pub mod Decimals
 pub mod Fits
+pub mod Lining
 pub mod Numbers
 pub mod Whole
 pub mod Enough

@@ -47,6 +47,8 @@ module _ (bs : List ℕ) where
       unfolding header
       header_whole n left h = rw (e, f, h, header)
 
+pub ruleset header_parts = (first_cut, frontier_cut, count_cut, header_whole)
+
 -- A push: cut short, or whole and then tried
 unfoldable pub tried : ℕ → ℕ → Pushed → List ℕ → BookRead
 tried n k r bs = elim r.answer [ Events first end ↦ read_pushes n (suc k) r.graph bs | Refused refusal ↦ book_read r.graph (PushRefused refusal k) ]

@@ -84,7 +84,7 @@ fn two(name: &[u8], a: EventRunIndex, b: EventRunIndex) -> Line
 }
 
 // A step's line, by its three words; nothing where there is no such step.
-#[tactic(auto, unfolding(model::specs::Print::ascii, model::specs::Print::say, model::specs::Print::say_range, model::specs::Print::step_text, model::specs::Print::line_text, model::specs::Reader::decoded, crate::specs::Output::ended, crate::specs::Output::step_bytes))]
+#[tactic(auto, using(crate::proofs::Lining::step_lines), unfolding(model::specs::Print::ascii, crate::specs::Output::step_bytes))]
 fn step_line(kind: u32, a: EventRunIndex, b: EventRunIndex) -> Line
     ensures { result ≡ step_bytes (decoded kind a.0 b.0) }
 {
@@ -108,7 +108,9 @@ pub(crate) fn refused_line(r: Refusal) -> Line
 pub(crate) fn push_refused_line(r: Refusal, k: u32) -> Line
     ensures { result ≡ Output.ended (push_refused_line (Refusals.number r) k) }
 {
-    let told = Line::new().text(b"refused ").number(u64::from(model::number(r)));
+    let told = Line::new()
+        .text(b"refused ")
+        .number(u64::from(model::number(r)));
     told.text(b" push ").number(u64::from(k)).text(b"\n")
 }
 
@@ -148,8 +150,8 @@ impl Printed {
         !self.short && n <= room && self.used <= room - n
     }
 
-    #[tactic(auto, unfolding(crate::specs::Output::put_line))]
     // Puts a line after the used bytes, if it fits and all before it did.
+    #[tactic(auto, unfolding(crate::specs::Output::put_line))]
     pub(crate) fn put(&mut self, out: &mut [u8], line: &Line)
         ensures { (self.new, out.new) ≡ put_line (self.old, out.old) line.now }
     {

@@ -27,6 +27,7 @@ struct Header<'a> {
 
 impl<'a> Header<'a> {
     // The header that a book begins with; none where it is cut short.
+    #[tactic(auto, using(crate::proofs::Taking::header_parts))]
     fn take(book: Words<'a>) -> Option<Header<'a>>
         ensures { MatchOption result (header book.entry.bytes.now ≡ none)
             (λ h. header book.entry.bytes.now ≡ some (h.first.0, h.frontier.now, h.pushes, h.left.bytes.now)) }
@@ -79,6 +80,7 @@ fn take_push<'a>(t: Turn<'a>, k: u32) -> Result<Turn<'a>, BookRead>
 }
 
 // The pushes are in: nothing may be left.
+#[tactic(auto, using(crate::proofs::Taking::none_over, crate::proofs::Taking::some_over), unfolding(model::specs::Book::book_read))]
 fn finish(t: Turn) -> BookRead
     ensures { result ≡ read_pushes 0 0 t.entry.graph t.entry.left.bytes.now }
 {
@@ -108,7 +110,10 @@ fn read_words(book: Words) -> BookRead
     ensures { result ≡ read_header book.entry.bytes.now }
 {
     let Some(header) = Header::take(book) else {
-        return answered(graph::fresh::new(), BookAnswer::Refused(Refusal::BookTooShort));
+        return answered(
+            graph::fresh::new(),
+            BookAnswer::Refused(Refusal::BookTooShort),
+        );
     };
     let made = graph::fresh::after(header.first, header.frontier);
     match made.outcome {
@@ -131,7 +136,10 @@ pub fn read(bytes: &[u8]) -> BookRead
         return answered(graph::fresh::new(), BookAnswer::Whole);
     }
     if MAX_BOOK < bytes.len() {
-        return answered(graph::fresh::new(), BookAnswer::Refused(Refusal::BookTooLong));
+        return answered(
+            graph::fresh::new(),
+            BookAnswer::Refused(Refusal::BookTooLong),
+        );
     }
     let count = bytes.len() / 4;
     let mut words = [0; MAX_WORDS];

@@ -34,6 +34,7 @@ impl<'a> Words<'a> {
     }
 
     // The next word.
+    #[tactic(auto, using(crate::proofs::Decoding::one_word))]
     pub(crate) fn next(self) -> Option<(u32, Words<'a>)>
         ensures { MatchOption result (take_words 1 self.entry.bytes.now ≡ none)
             (λ t. take_words 1 self.entry.bytes.now ≡ some (t.0 ∷ [], t.1.bytes.now)) }
@@ -43,6 +44,7 @@ impl<'a> Words<'a> {
     }
 
     // A count, and as many words as it says.
+    #[tactic(auto, using(crate::proofs::Taking::counted_none, crate::proofs::Taking::counted_by))]
     pub(crate) fn take_counted(self) -> Option<(&'a [u32], Words<'a>)>
         ensures { MatchOption result (take_counted self.entry.bytes.now ≡ none)
             (λ t. take_counted self.entry.bytes.now ≡ some (t.0.now, t.1.bytes.now)) }

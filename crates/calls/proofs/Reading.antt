@@ -37,6 +37,8 @@ pub start_unknown : (ws rest : List ℕ) (op : ℕ) → ws ≡ op ∷ rest → (
 unfolding start_size operation
 start_unknown ws rest op e m n = ap start_size e ∙ rw (ne_eqb op 0 m, ne_eqb op 1 n)
 
+pub ruleset no_start = (start_none, start_first_cut, start_list_cut, start_unknown)
+
 -- No call
 pub call_none : (ws : List ℕ) → length ws ≡ 0 → call_size ws ≡ 0
 unfolding call_size call_operation operation
@@ -60,6 +62,8 @@ unfolding call_size call_operation operation whole
 start_run_cut true ws [] e h = ap call_size e
 start_run_cut false ws [] e h = ap call_size e
 start_run_cut lent ws (r ∷ rest) e h = absurd (omega arith)
+
+pub ruleset no_call = (call_none, push_first_cut, push_list_cut, start_run_cut)
 
 -- by its operation
 by_operation : ℕ → List ℕ → ℕ

@@ -67,7 +67,7 @@ pub fn start_again(
     let started_again = again_form.start_run_at(given, at);
     StartedAgain {
         first: started.answer,
-        given: given,
+        given,
         again: started_again.answer,
         left: started_again.graph,
     }

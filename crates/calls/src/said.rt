@@ -8,12 +8,14 @@ ghost use Rattle.calls.specs.Said.{is_lent, operation_word, start_said, call_sai
 use crate::forms::Form;
 use model::{CausalGraph, EventIndex};
 
+// How a list of calls starts.
 #[derive(Clone, Copy)]
 pub(crate) enum Start<'a> {
     New,
     After(EventIndex, &'a [u32]),
 }
 
+// A call, with the list that it is given.
 #[derive(Clone, Copy)]
 pub(crate) enum Call<'a> {
     Push(&'a [u32], u32),
@@ -21,8 +23,9 @@ pub(crate) enum Call<'a> {
     TakeChangedFrom,
 }
 
+// What the first word of a call says.
 #[derive(Clone, Copy)]
-pub(crate) enum Operation {
+enum Operation {
     Push,
     StartRunAt,
     TakeChangedFrom,
@@ -37,8 +40,8 @@ fn list<'a>(words: &'a [u32]) -> Option<(&'a [u32], &'a [u32])>
     rest.split_at_checked(*count as usize)
 }
 
-#[tactic(auto, using(crate::proofs::Reading::start_none, crate::proofs::Reading::start_first_cut, crate::proofs::Reading::start_list_cut, crate::proofs::Reading::start_unknown), unfolding(crate::specs::Words::start_words))]
 // The start that words begin with; none where it is missing, unknown or cut off.
+#[tactic(auto, using(crate::proofs::Reading::no_start), unfolding(crate::specs::Words::start_words))]
 pub(crate) fn next_start<'a>(words: &'a [u32]) -> Option<(Start<'a>, &'a [u32])>
     ensures { MatchOption result (start_size words.now ≡ 0) (λ t. words.now ≡ start_words (start_said t.0) ++ t.1.now) }
 {
@@ -71,8 +74,8 @@ impl Operation {
     }
 }
 
-#[tactic(auto, using(crate::proofs::Reading::call_none, crate::proofs::Reading::push_first_cut, crate::proofs::Reading::push_list_cut, crate::proofs::Reading::start_run_cut), unfolding(crate::specs::Words::call_words))]
 // The call that words begin with; none where it is missing, unknown or cut off.
+#[tactic(auto, using(crate::proofs::Reading::no_call), unfolding(crate::specs::Words::call_words))]
 pub(crate) fn next_call<'a>(words: &'a [u32]) -> Option<(Form, Call<'a>, &'a [u32])>
     ensures { MatchOption result (call_size words.now ≡ 0) (λ t. words.now ≡ call_words (is_lent t.0) (call_said t.1) ++ t.2.now) }
 {
@@ -93,8 +96,8 @@ pub(crate) fn next_call<'a>(words: &'a [u32]) -> Option<(Form, Call<'a>, &'a [u3
 }
 
 impl<'a> Start<'a> {
-    #[tactic(auto, unfolding(model::specs::Log::begin))]
     // The graph that the start makes.
+    #[tactic(auto, unfolding(model::specs::Log::begin))]
     pub(crate) fn begin(self) -> CausalGraph
         ensures { result ≡ (Log.begin (start_said self.entry)).1 }
     {
