@@ -1,5 +1,5 @@
 -- Each line of a book's output as texts and numbers. Assumes nothing.
-use Rattle.std.proofs.Common.{◌≡◌, refl, append_assoc, ◌++◌, ℕ}
+use Rattle.std.proofs.Common.{◌≡◌, refl, ◌++◌, ℕ}
 use Rattle.model.specs.Steps.{retreat, advance, opened, apply}
 use Rattle.model.specs.Print.{step_line, ascii, decimal, say, say_range, step_text, line_text}
 use Rattle.book.specs.Output.{ended}
