@@ -131,15 +131,15 @@ VERSIONS = [
 ]
 
 READER = [
-    ("reader::new", "stands at the second step", "lib.rt", "StepReader { words, at: 0 }", "StepReader { words, at: 3 }"),
-    ("reader::new", "stands one word in", "lib.rt", "StepReader { words, at: 0 }", "StepReader { words, at: 1 }"),
-    ("reader::next", "moves past a kind above 3", "moves_on_refusal"),
-    ("reader::next", "moves on by two words", "lib.rt", "let past = at + 3;", "let past = at + 2;"),
+    ("reader::StepReader::new", "stands at the second step", "lib.rt", "StepReader { words, at: 0 }", "StepReader { words, at: 3 }"),
+    ("reader::StepReader::new", "stands one word in", "lib.rt", "StepReader { words, at: 0 }", "StepReader { words, at: 1 }"),
+    ("reader::StepReader::next", "moves past a kind above 3", "moves_on_refusal"),
+    ("reader::StepReader::next", "moves on by two words", "lib.rt", "answer(NextStep::Step(step), at + 3)", "answer(NextStep::Step(step), at + 2)"),
     ("reader::step_at", "takes kind 4 as a step", "kind_four"),
-    ("reader::step_at", "the last step is the end", "lib.rt", "if n - 3 < at {", "if n - 3 <= at {"),
-    ("reader::step_at", "an advance read as a retreat", "lib.rt", "WalkStep::Advance(a, b)", "WalkStep::Retreat(a, b)"),
-    ("reader::step_from", "an apply's end as its run", "lib.rt", "WalkStep::Apply(a)", "WalkStep::Apply(b)"),
-    ("reader::step_from", "an open's end is its first run", "lib.rt", "WalkStep::Open(a, b)", "WalkStep::Open(a, a)"),
+    ("reader::step_at", "the last step is the end", "lib.rt", "    let [kind, a, b, ..] = left else {", "    if left.len() <= 3 {\n        return answer(NextStep::End, at);\n    }\n    let [kind, a, b, ..] = left else {"),
+    ("reader::step_at", "an advance read as a retreat", "lib.rt", "Some(WalkStep::Advance(a, b))", "Some(WalkStep::Retreat(a, b))"),
+    ("reader::step_from", "an apply's end as its run", "lib.rt", "Some(WalkStep::Apply(a))", "Some(WalkStep::Apply(b))"),
+    ("reader::step_from", "an open's end is its first run", "lib.rt", "Some(WalkStep::Open(a, b))", "Some(WalkStep::Open(a, a))"),
 ]
 
 LENT = [
@@ -154,12 +154,12 @@ CALLS = [
     ("calls::lending::take_changed_from", "gives back the graph that it was given", "lending.rt", "    Changed {\n        graph: h,", "    Changed {\n        graph: g,", 2),
     ("calls::made_by", "a push's graph is dropped", "push_dropped"),
     ("calls::made_by", "a run start at another event", "another_event"),
-    ("calls::made_by", "an after is made as new", "lib.rt", "    let g = made.graph;\n    g\n", "    let g = graph::fresh::new();\n    g\n"),
-    ("calls::made_by", "the start is read as a call too", "lib.rt", "calls(begin(words), words, start)", "calls(begin(words), words, 0)"),
-    ("calls::start_again", "the later run start gets the graph of the first", "lib.rt", "(again_lent, given, at)", "(again_lent, started.graph, at)"),
-    ("calls::start_again", "makes the calls before once more, not those between", "lib.rt", "calls(started.graph, between, 0)", "calls(started.graph, words, 0)"),
-    ("calls::start_again", "tells the first answer twice", "lib.rt", "again: again,", "again: first,"),
-    ("calls::start_again", "always gives back the graph that it was given", "lib.rt", "left: left,", "left: given,"),
+    ("calls::made_by", "an after is made as new", "said.rt", "                made.graph\n", "                graph::fresh::new()\n"),
+    ("calls::made_by", "the start is read as a call too", "lib.rt", "calls(start.begin(), rest)", "calls(start.begin(), words)"),
+    ("calls::start_again", "the later run start gets the graph of the first", "lib.rt", "again_form.start_run_at(given, at)", "again_form.start_run_at(started.graph, at)"),
+    ("calls::start_again", "makes the calls before once more, not those between", "lib.rt", "calls(started.graph, between)", "calls(started.graph, words)"),
+    ("calls::start_again", "tells the first answer twice", "lib.rt", "again: started_again.answer,", "again: started.answer,"),
+    ("calls::start_again", "always gives back the graph that it was given", "lib.rt", "left: started_again.graph,", "left: given,"),
 ]
 
 MOVES = [
@@ -205,14 +205,14 @@ BOOK = [
     ("reading::read", "takes bytes left over", "left_over_taken"),
     ("reading::read", "pushes counted from 1", "pushes_from_one"),
     ("reading::read", "a book of 65,537 bytes is taken", "reading.rt", "if MAX_BOOK < bytes.len() {", "if MAX_BOOK < bytes.len() - 1 {"),
-    ("reading::read", "the header's frontier is not tried, and pushes are made under a header that is refused", "reading.rt", "&words[2..end]", "&words[2..2]"),
-    ("reading::read", "a refused header is told as push 0", "reading.rt", "answered(g, Err(BookRefusal::Refused(r)))", "answered(g, Err(BookRefusal::PushRefused(r, 0)))"),
-    ("reading::read", "a refused push does not end it", "reading.rt", "            is_refused: true,\n            answer: Err(BookRefusal::PushRefused(r, k)),", "            is_refused: false,\n            answer: Err(BookRefusal::PushRefused(r, k)),"),
-    ("reading::read", "no bytes are refused with 14", "reading.rt", "return fresh(Ok(()));", "return fresh(Err(BookRefusal::Refused(Refusal::BookTooShort)));"),
-    ("reading::read", "a book of one byte is taken for the empty one", "reading.rt", "if bytes.len() == 0 {", "if bytes.len() / 2 == 0 {"),
-    ("replaying::replayed", "prints no steps", "replaying.rt", "&steps[0..n]", "&steps[0..0]"),
+    ("reading::read", "the header's frontier is not tried, and pushes are made under a header that is refused", "reading.rt", "header.frontier);", "&header.frontier[0..0]);"),
+    ("reading::read", "a refused header is told as push 0", "reading.rt", "answered(made.graph, BookAnswer::Refused(r))", "answered(made.graph, BookAnswer::PushRefused(r, 0))"),
+    ("reading::read", "a refused push does not end it", "reading.rt", "EventsAnswer::Refused(r) => Err(answered(pushed.graph, BookAnswer::PushRefused(r, k))),", "EventsAnswer::Refused(_) => Ok(Turn {\n            graph: pushed.graph,\n            left,\n        }),"),
+    ("reading::read", "no bytes are refused with 14", "reading.rt", "return answered(graph::fresh::new(), BookAnswer::Whole);", "return answered(graph::fresh::new(), BookAnswer::Refused(Refusal::BookTooShort));"),
+    ("reading::read", "a book of one byte is taken for the empty one", "reading.rt", "if bytes.is_empty() {", "if bytes[..bytes.len() / 2].is_empty() {"),
+    ("replaying::replayed", "prints no steps", "replaying.rt", "&steps[..words]", "&steps[..0]"),
     ("replaying::replayed", "leaves out a line that just fits", "full_buffer"),
-    ("replaying::replayed", "moved 0", "replaying.rt", "last_line(outcome, walked.moved)", "last_line(outcome, 0)"),
+    ("replaying::replayed", "moved 0", "replaying.rt", "last_line(walked.outcome, walked.moved)", "last_line(walked.outcome, 0)"),
 ]
 
 TRIES = {"model": MODEL, "graph": GRAPH, "versions": VERSIONS, "reader": READER, "lent": LENT, "calls": CALLS, "moves": MOVES, "tables": TABLES, "walk": WALK, "book": BOOK}

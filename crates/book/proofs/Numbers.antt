@@ -172,7 +172,7 @@ range_in_lem g N (concurrent a b) rows lo end cs h k = go (rows_too_long (range_
 
     go : (t : Bool) → Smalls N (elim t as (λ _. Replayed) [
       | true ↦ (Err RowsTooLong, opened a b ∷ [], rows_into (range_of g a b) rows)
-      | false ↦ (Ok tt, opened a b ∷ steps_of (range_of g a b) a 0 0, rows_into (range_of g a b) rows)
+      | false ↦ ((Ok tt), opened a b ∷ steps_of (range_of g a b) a 0 0, rows_into (range_of g a b) rows)
     ]).1
     go true = ((omega (arith, h.1, e), omega (arith, e)), tt)
     go false = ((omega (arith, h.1, e), omega (arith, e)), steps_in g N a b (omega (arith, h.1, e, range_span g a b)))
@@ -187,7 +187,7 @@ turn_in : (N room : ℕ) (this later : Replayed) (rows : List ℕ) (b t : Bool) 
     ]).1
 turn_in N room this later rows true t o h k = tt
 turn_in N room this later rows false true o h k = smalls_take N room this.1 h
-turn_in N room this later rows false false (Ok _) h k = smalls_append N this.1 later.1 h k
+turn_in N room this later rows false false (Ok tt) h k = smalls_append N this.1 later.1 h k
 turn_in N room this later rows false false (Err r) h k = h
 
 ranges_in_lem : (g : Graph) (N : ℕ) (cs : List HistoryRange) (lo end room : ℕ) (rows : List ℕ) → Laid lo cs end → end ≤ N →
