@@ -187,7 +187,7 @@ turn_in : (N room : ℕ) (this later : Replayed) (rows : List ℕ) (b t : Bool) 
     ]).1
 turn_in N room this later rows true t o h k = tt
 turn_in N room this later rows false true o h k = smalls_take N room this.1 h
-turn_in N room this later rows false false (Ok tt) h k = smalls_append N this.1 later.1 h k
+turn_in N room this later rows false false (Ok _) h k = smalls_append N this.1 later.1 h k
 turn_in N room this later rows false false (Err r) h k = h
 
 ranges_in_lem : (g : Graph) (N : ℕ) (cs : List HistoryRange) (lo end room : ℕ) (rows : List ℕ) → Laid lo cs end → end ≤ N →

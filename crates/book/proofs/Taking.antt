@@ -97,7 +97,7 @@ module _ (bs : List ℕ) where
     read_is : read_header bs ≡ headed (some (first, frontier, n, left))
     read_is = header_read bs ∙ ap headed e
 
-    pub header_done : m.outcome ≡ (Ok tt) → read_pushes n 0 m.graph left ≡ read_header bs
+    pub header_done : m.outcome ≡ Ok tt → read_pushes n 0 m.graph left ≡ read_header bs
     unfolding by_outcome
     header_done o = sym (read_is ∙ ap (λ (x : Made). by_outcome n left x.graph x.outcome) (sym q) ∙ ap (by_outcome n left m.graph) o)
 

@@ -26,7 +26,7 @@ pushed-held g H ps n = go (push_outcome (view g) ps n) refl
   where
     go : (o : Outcome) → push_outcome (view g) ps n ≡ o →
         Held (elim o as (λ _. Pushed) [ Ok _ ↦ pushed (view g) ps n | Err r ↦ push_refused g r ]).graph
-    go (Ok tt) e = held-store (push (view g) ps n) (push-formed (view g) H.formed ps n e) (push-limits (view g) H.formed H.limits ps n e)
+    go (Ok _) e = held-store (push (view g) ps n) (push-formed (view g) H.formed ps n e) (push-limits (view g) H.formed H.limits ps n e)
     go (Err r) e = H
 
 -- What was pushed, by its answer

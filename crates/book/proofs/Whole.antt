@@ -49,7 +49,7 @@ turn_room : (room : ℕ) (this later : Replayed) (rows : List ℕ) (b t : Bool) 
     ]).1 ≤ room
 turn_room room this later rows true t e o h = omega arith
 turn_room room this later rows false true e o h = omega (arith, length-take room this.1)
-turn_room room this later rows false false e (Ok tt) h = omega (arith, ltb-false room (length this.1) e, length-append this.1 later.1)
+turn_room room this later rows false false e (Ok _) h = omega (arith, ltb-false room (length this.1) e, length-append this.1 later.1)
 turn_room room this later rows false false e (Err r) h = ltb-false room (length this.1) e
 
 ranges-room : (g : Graph) (cs : List HistoryRange) (room : ℕ) (rows : List ℕ) → length (replay_ranges g cs room rows).1 ≤ room
@@ -156,7 +156,7 @@ pub line_printed : (out l : List ℕ) (x : PrintLine) {w : Printed × List ℕ} 
 line_printed out l x e p = p ∙ ap (put_line (unused, out)) e ∙ line_printing x out
 
 -- The lines of a book by its answer
-unfoldable pub by_answer : CausalGraph → (Result (Unit {0}) BookRefusal) → List PrintLine
+unfoldable pub by_answer : CausalGraph → Result (Unit {0}) BookRefusal → List PrintLine
 by_answer g a = elim a [
   | Ok _ ↦ replay_lines g
   | Err (BookRefused r) ↦ refused_line (number r) ∷ []
@@ -164,7 +164,7 @@ by_answer g a = elim a [
 ]
 
 module _ (b : BookRead) where
-  pub lines_whole : b.answer ≡ (Ok tt) → replay_lines b.graph ≡ lines_of b
+  pub lines_whole : b.answer ≡ Ok tt → replay_lines b.graph ≡ lines_of b
   unfolding lines_of by_answer
   lines_whole e = sym (ap (by_answer b.graph) e)
 

@@ -20,14 +20,14 @@ book_by bs = ((book_of bs).graph, book_log bs)
 -- refused
 pub record Replayed (made : CausalGraph × Log) (rows steps : List ℕ) (result : WalkResult) : Type 0 where
   pub is : result ≡ replay_of made.0 rows steps
-  pub follows : result.0.outcome ≡ (Ok tt) → ReplayFollows made.1 result
-  pub done : RowRoom ≤ length rows → StepRoom ≤ length steps → result.0.outcome ≡ (Ok tt)
+  pub follows : result.0.outcome ≡ Ok tt → ReplayFollows made.1 result
+  pub done : RowRoom ≤ length rows → StepRoom ≤ length steps → result.0.outcome ≡ Ok tt
 
 -- "every walk over any range with any known prefix and any `first`"
 pub record WalkedOver (made : CausalGraph × Log) (a b known first : ℕ) (rows steps : List ℕ) (result : WalkResult) : Type 0 where
   pub is : result ≡ walk_of made.0 a b known first rows steps
-  pub follows : result.0.outcome ≡ (Ok tt) → WalkFollows made.1 a b known result
-  pub done : a + known ≤ b → b ≤ run_count made.1 → RowRoom ≤ length rows → StepRoom ≤ length steps → result.0.outcome ≡ (Ok tt)
+  pub follows : result.0.outcome ≡ Ok tt → WalkFollows made.1 a b known result
+  pub done : a + known ≤ b → b ≤ run_count made.1 → RowRoom ≤ length rows → StepRoom ≤ length steps → result.0.outcome ≡ Ok tt
 
 -- What is printed of a book: 01's lines, all of them where the buffer has 131,072 bytes; and where the last one is `moved n`, the others are
 -- the steps of a full replay that follows on the plain log of the book's calls

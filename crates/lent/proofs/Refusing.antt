@@ -13,22 +13,22 @@ use Rattle.model.specs.Split.{split}
 use Rattle.model.specs.Push.{push_outcome, pushed, push_refused, push_held_of, push_of}
 use Rattle.model.specs.Start.{Starting, answers, splitting, starting, split_outcome, told, start_refused, start_held_of, start_run_at_of, take_held_of, take_changed_from_of}
 use Rattle.std.specs.Prelude.{Ok, Err}
-use Rattle.model.specs.Refusals.{Answer, Outcome}
+use Rattle.model.specs.Refusals.{OrRefusal, Outcome}
 use Rattle.model.specs.Answers.{Pushed, Started, Taken}
 use Rattle.model.specs.declared.record.EventIndex.{EventIndex}
 use Rattle.model.specs.declared.record.EventRunIndex.{EventRunIndex}
 
 -- Whether an answer is a result, and no refusal
 
-abbrev gave_events : (Answer (EventIndex × EventIndex)) → Bool
+abbrev gave_events : OrRefusal (EventIndex × EventIndex) → Bool
 gave_events (Ok (a, b)) = true
 gave_events (Err r) = false
 
-abbrev gave_truth : (Answer Bool) → Bool
+abbrev gave_truth : OrRefusal Bool → Bool
 gave_truth (Ok b) = true
 gave_truth (Err r) = false
 
-abbrev gave_run : (Answer EventRunIndex) → Bool
+abbrev gave_run : OrRefusal EventRunIndex → Bool
 gave_run (Ok n) = true
 gave_run (Err r) = false
 
@@ -43,7 +43,7 @@ module _ (was is : CausalGraph) (why : Refusal) where
       ]) → is ≡ was
       go true o e = ap (λ (p : Pushed). p.graph) e
       go false (Err r) e = ap (λ (p : Pushed). p.graph) e
-      go false (Ok tt) e = absurd (false≢true (ap (λ (p : Pushed). gave_events p.answer) e))
+      go false (Ok _) e = absurd (false≢true (ap (λ (p : Pushed). gave_events p.answer) e))
 
   pub start_leaves : (at : ℕ) → ◌≡◌ {A = Started} (record { graph = is; answer = Err why }) (start_run_at_of was at) → is ≡ was
   unfolding start_run_at_of start_held_of told start_refused
@@ -59,7 +59,7 @@ module _ (was is : CausalGraph) (why : Refusal) where
       go true s o e = ap (λ (p : Started). p.graph) e
       go false (answers t) o e = ap (λ (p : Started). p.graph) e
       go false splitting (Err r) e = ap (λ (p : Started). p.graph) e
-      go false splitting (Ok tt) e = absurd (false≢true (ap (λ (p : Started). gave_truth p.answer) e))
+      go false splitting (Ok _) e = absurd (false≢true (ap (λ (p : Started). gave_truth p.answer) e))
 
   pub take_leaves : ◌≡◌ {A = Taken} (record { graph = is; answer = Err why }) (take_changed_from_of was) → is ≡ was
   unfolding take_changed_from_of take_held_of

@@ -73,7 +73,7 @@ unfolding walk_of
 walks_read g a b known first rows steps = go (range_outcome g a b known)
   where
     go : (o : Outcome) → ReadsBack (elim o as (λ _. WalkResult) [ Ok _ ↦ walk_range (view g) a b known first rows steps | Err r ↦ unwalked r rows steps ])
-    go (Ok tt) = range_read (view g) a b known first rows steps
+    go (Ok _) = range_read (view g) a b known first rows steps
     go (Err r) = unwalked-read r rows steps
 
 -- Full replays

@@ -14,11 +14,12 @@ use Rattle.model.specs.Steps.{Step}
 use Rattle.model.specs.Reader.{decoded, as_step, next_in, next_of}
 use Rattle.reader.specs.declared.StepAt.{StepAt}
 use Rattle.reader.specs.Reading.{step_at, step_read}
-use Rattle.std.specs.Prelude.{Ok, Err, Some, None, Option}
-use Rattle.model.specs.Refusals.{Answer}
+use Rattle.std.specs.Prelude.{Ok, Err, Some, None}
+use Rattle.model.specs.Answers.{NextStep}
+use Rattle.model.specs.Refusals.{OrRefusal}
 
 -- The code's answer is what its two fields say
-pub told : {r : StepAt} {x : (Answer (Option WalkStep))} {at : ℕ} {n : (Answer (Option WalkStep)) × ℕ} → r ≡ step_at x at → (x, at) ≡ n → (r.step, r.at) ≡ n
+pub told : {r : StepAt} {x : NextStep} {at : ℕ} {n : NextStep × ℕ} → r ≡ step_at x at → (x, at) ≡ n → (r.step, r.at) ≡ n
 told e q = ap (λ (r : StepAt). (r.step, r.at)) e ∙ q
 
 -- Fewer than three words left: the end
@@ -35,7 +36,7 @@ unfolding next_of
 next-short ws l at q h = ap (λ (r : List ℕ). next_in r at) q ∙ sym (end_in_lem l at h)
 
 -- What is made of a step or none
-unfoldable pub decode : ℕ → MathOption Step → (Answer (Option WalkStep)) × ℕ
+unfoldable pub decode : ℕ → MathOption Step → NextStep × ℕ
 decode at none = (Err UnknownKind, at)
 decode at (some s) = (Ok (Some (as_step s)), at + 3)
 
@@ -43,7 +44,7 @@ pub next-long : (ws l : List ℕ) (at k a b : ℕ) → drop at ws ≡ k ∷ a �
 unfolding next_of next_in decode
 next-long ws l at k a b q = ap (λ (r : List ℕ). next_in r at) q ∙ go (decoded k a b)
   where
-    go : (o : MathOption Step) → (elim o as (λ _. (Answer (Option WalkStep)) × ℕ) [ none ↦ (Err UnknownKind, at) | some s ↦ (Ok (Some (as_step s)), at + 3) ]) ≡ decode at o
+    go : (o : MathOption Step) → (elim o as (λ _. NextStep × ℕ) [ none ↦ (Err UnknownKind, at) | some s ↦ (Ok (Some (as_step s)), at + 3) ]) ≡ decode at o
     go none = refl
     go (some s) = refl
 
@@ -81,7 +82,7 @@ unfolding decode
 handed_none at o e = sym (ap (decode at) e)
 
 -- A refusal is 16, and the place stays
-is_refused : (Answer (Option WalkStep)) → Bool
+is_refused : NextStep → Bool
 is_refused (Ok (Some s)) = false
 is_refused (Ok None) = false
 is_refused (Err x) = true
@@ -90,8 +91,8 @@ pub stays : (ws : List ℕ) (at : ℕ) (x : Refusal) → (next_of ws at).0 ≡ E
 unfolding is_refused decode
 stays ws at x e = go (drop at ws) refl
   where
-    none_refused : (n : (Answer (Option WalkStep)) × ℕ) → is_refused n.0 ≡ false → next_of ws at ≡ n → next_of ws at ≡ (Err UnknownKind, at)
-    none_refused n f q = false_true (sym f ∙ ap is_refused (sym (ap (λ (m : (Answer (Option WalkStep)) × ℕ). m.0) q) ∙ e))
+    none_refused : (n : NextStep × ℕ) → is_refused n.0 ≡ false → next_of ws at ≡ n → next_of ws at ≡ (Err UnknownKind, at)
+    none_refused n f q = false_true (sym f ∙ ap is_refused (sym (ap (λ (m : NextStep × ℕ). m.0) q) ∙ e))
 
     by_kind : (o : MathOption Step) → next_of ws at ≡ decode at o → next_of ws at ≡ (Err UnknownKind, at)
     by_kind none q = q

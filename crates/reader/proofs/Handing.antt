@@ -13,23 +13,24 @@ use Rattle.model.specs.Steps.{Step}
 use Rattle.model.specs.Reader.{decoded, said, as_step, next_of}
 use Rattle.reader.specs.Reading.{HandedOut, before, reads}
 use Rattle.reader.proofs.Decoding.{decode, next-short, next-long}
-use Rattle.std.specs.Prelude.{Ok, Err, Some, None, Option}
-use Rattle.model.specs.Refusals.{Answer}
+use Rattle.std.specs.Prelude.{Ok, Err, Some, None}
+use Rattle.model.specs.Answers.{NextStep}
+use Rattle.model.specs.Refusals.{OrRefusal}
 
 -- One answer, and what is handed out with it
 end_first : (fuel : ℕ) (ws : List ℕ) (at : ℕ) → next_of ws at ≡ ((Ok None), at) → reads fuel ws at ≡ ([], ((Ok None), at))
 unfolding reads before
-end_first zero ws at e = ap (λ (n : (Answer (Option WalkStep)) × ℕ). ([], n)) e
-end_first (suc fuel) ws at e = ap (λ (n : (Answer (Option WalkStep)) × ℕ). before n (λ m. reads fuel ws m)) e
+end_first zero ws at e = ap (λ (n : NextStep × ℕ). ([], n)) e
+end_first (suc fuel) ws at e = ap (λ (n : NextStep × ℕ). before n (λ m. reads fuel ws m)) e
 
 refused_first : (fuel : ℕ) (ws : List ℕ) (at : ℕ) (x : Refusal) → next_of ws at ≡ (Err x, at) → reads fuel ws at ≡ ([], (Err x, at))
 unfolding reads before
-refused_first zero ws at x e = ap (λ (n : (Answer (Option WalkStep)) × ℕ). ([], n)) e
-refused_first (suc fuel) ws at x e = ap (λ (n : (Answer (Option WalkStep)) × ℕ). before n (λ m. reads fuel ws m)) e
+refused_first zero ws at x e = ap (λ (n : NextStep × ℕ). ([], n)) e
+refused_first (suc fuel) ws at x e = ap (λ (n : NextStep × ℕ). before n (λ m. reads fuel ws m)) e
 
 step-first : (fuel : ℕ) (ws : List ℕ) (at : ℕ) (s : WalkStep) (n : ℕ) → next_of ws at ≡ (Ok (Some s), n) → reads (suc fuel) ws at ≡ (s ∷ (reads fuel ws n).0, (reads fuel ws n).1)
 unfolding reads before
-step-first fuel ws at s n e = ap (λ (p : (Answer (Option WalkStep)) × ℕ). before p (λ m. reads fuel ws m)) e
+step-first fuel ws at s n e = ap (λ (p : NextStep × ℕ). before p (λ m. reads fuel ws m)) e
 
 -- The words that follow a step's three
 next_place : (ws l : List ℕ) (at k a b : ℕ) → drop at ws ≡ k ∷ a ∷ b ∷ l → drop (at + 3) ws ≡ l
