@@ -97,10 +97,10 @@ module _ (bs : List ℕ) where
     read_is : read_header bs ≡ headed (some (first, frontier, n, left))
     read_is = header_read bs ∙ ap headed e
 
-    pub header_done : m.outcome ≡ Ok tt → read_pushes n 0 m.graph left ≡ read_header bs
+    pub header_done : m.answer ≡ Ok tt → read_pushes n 0 m.graph left ≡ read_header bs
     unfolding by_outcome
-    header_done o = sym (read_is ∙ ap (λ (x : Made). by_outcome n left x.graph x.outcome) (sym q) ∙ ap (by_outcome n left m.graph) o)
+    header_done o = sym (read_is ∙ ap (λ (x : Made). by_outcome n left x.graph x.answer) (sym q) ∙ ap (by_outcome n left m.graph) o)
 
-    pub header_refused : (r : Refusal) → m.outcome ≡ Err r → book_read m.graph (Err (BookRefused r)) ≡ read_header bs
+    pub header_refused : (r : Refusal) → m.answer ≡ Err r → book_read m.graph (Err (BookRefused r)) ≡ read_header bs
     unfolding by_outcome
-    header_refused r o = sym (read_is ∙ ap (λ (x : Made). by_outcome n left x.graph x.outcome) (sym q) ∙ ap (by_outcome n left m.graph) o)
+    header_refused r o = sym (read_is ∙ ap (λ (x : Made). by_outcome n left x.graph x.answer) (sym q) ∙ ap (by_outcome n left m.graph) o)

@@ -11,7 +11,6 @@ use borrow.Author.Tests.{ltb-false}
 use Rattle.lists.specs.Lists.{concat}
 use Rattle.model.specs.declared.record.CausalGraph.{CausalGraph}
 use Rattle.model.specs.declared.answers.Walked.{Walked}
-use Rattle.model.specs.declared.answers.Refusal.{Refusal}
 use Rattle.model.specs.declared.answers.Refusal.TheVariants.{ListTooShort}
 use Rattle.model.specs.declared.answers.BookRead.{BookRead}
 use Rattle.model.specs.Graph.{Graph}
@@ -22,9 +21,9 @@ use Rattle.model.specs.Steps.{Step, retreat, advance, opened, apply, step_words,
 use Rattle.model.specs.Walk.{WalkResult, wrote}
 use Rattle.model.specs.Replay.{Replayed, replay_range, replay_ranges, replay_of}
 use Rattle.model.specs.Reader.{decoded, said}
-use Rattle.model.specs.Print.{Line as PrintLine, step_line, refused_line, push_refused_line, said_steps, last_line, replay_lines, printed}
+use Rattle.model.specs.Print.{Line as PrintLine, step_line, refusal_line, said_steps, last_line, replay_lines, printed}
 use Rattle.model.specs.Book.{book_of}
-use Rattle.model.specs.Refusals.{number, Outcome}
+use Rattle.model.specs.Refusals.{Outcome}
 use Rattle.model.proofs.Stored.{not-broken}
 use Rattle.model.proofs.Results.{replay_is}
 use Rattle.model.proofs.Reading.{said-words, words-length}
@@ -35,7 +34,6 @@ use Rattle.book.proofs.Numbers.{Smalls, replay_numbers}
 use Rattle.book.proofs.Fits.{unused, lines_printing, line_printing, put-append}
 use Rattle.std.specs.Prelude.{Ok, Err, Result}
 use Rattle.model.specs.declared.answers.BookRefusal.{BookRefusal}
-use Rattle.model.specs.declared.answers.BookRefusal.TheVariants.{Refused as BookRefused, PushRefused}
 
 -- No more steps are written than there is room for
 turn_room : (room : ℕ) (this later : Replayed) (rows : List ℕ) (b t : Bool) → ltb room (length this.1) ≡ t → (o : Outcome) →
@@ -159,8 +157,7 @@ line_printed out l x e p = p ∙ ap (put_line (unused, out)) e ∙ line_printing
 unfoldable pub by_answer : CausalGraph → Result (Unit {0}) BookRefusal → List PrintLine
 by_answer g a = elim a [
   | Ok _ ↦ replay_lines g
-  | Err (BookRefused r) ↦ refused_line (number r) ∷ []
-  | Err (PushRefused r k) ↦ push_refused_line (number r) k ∷ []
+  | Err r ↦ refusal_line r ∷ []
 ]
 
 module _ (b : BookRead) where
@@ -168,13 +165,9 @@ module _ (b : BookRead) where
   unfolding lines_of by_answer
   lines_whole e = sym (ap (by_answer b.graph) e)
 
-  pub lines_refused : (r : Refusal) → b.answer ≡ Err (BookRefused r) → refused_line (number r) ∷ [] ≡ lines_of b
+  pub lines_refused : (r : BookRefusal) → b.answer ≡ Err r → refusal_line r ∷ [] ≡ lines_of b
   unfolding lines_of by_answer
   lines_refused r e = sym (ap (by_answer b.graph) e)
-
-  pub lines_push : (r : Refusal) (k : ℕ) → b.answer ≡ Err (PushRefused r k) → push_refused_line (number r) k ∷ [] ≡ lines_of b
-  unfolding lines_of by_answer
-  lines_push r k e = sym (ap (by_answer b.graph) e)
 
 pub printed-is : (bytes : List ℕ) → lines_of (book_of bytes) ≡ printed bytes
 unfolding lines_of printed

@@ -6,10 +6,8 @@ use Rattle.lists.specs.Areas.{over, fitting}
 use Rattle.model.specs.Steps.{Step}
 use Rattle.model.specs.Reader.{decoded}
 use Rattle.model.specs.declared.answers.BookRead.{BookRead}
-use Rattle.model.specs.Refusals.{number}
-use Rattle.model.specs.Print.{Line as PrintLine, step_line, refused_line, push_refused_line, ascii, line_text, text, replay_lines}
+use Rattle.model.specs.Print.{Line as PrintLine, step_line, refusal_line, ascii, line_text, text, replay_lines}
 use Rattle.book.specs.declared.printing.Printed.{Printed}
-use Rattle.model.specs.declared.answers.BookRefusal.TheVariants.{Refused as BookRefused, PushRefused}
 
 -- how many bytes a line has room for
 abbrev pub max_line : ℕ
@@ -58,6 +56,5 @@ printing ls out =
 unfoldable pub lines_of : BookRead → List PrintLine
 lines_of b = elim b.answer [
   | Ok _ ↦ replay_lines b.graph
-  | Err (BookRefused r) ↦ refused_line (number r) ∷ []
-  | Err (PushRefused r k) ↦ push_refused_line (number r) k ∷ []
+  | Err r ↦ refusal_line r ∷ []
 ]

@@ -2,13 +2,13 @@
 ghost use Rattle.std.specs.Prelude.{◌≡◌, false, not, ◌&&◌, ℕ, List, [], ◌++◌, ◌+◌, ◌≤◌, length, take, leb};
 ghost use Rattle.model.specs.Refusals;
 ghost use Rattle.model.specs.Print;
-ghost use Rattle.model.specs.Print.{ascii, last_line, refused_line, push_refused_line};
+ghost use Rattle.model.specs.Print.{ascii, last_line, refused_line, push_refused_line, refusal_line};
 ghost use Rattle.model.specs.Reader.{decoded};
 ghost use Rattle.book.specs.Output;
 ghost use Rattle.book.specs.Output.{max_line, step_bytes, word_lines, put_line, put_lines};
 
 use itoa::Buffer;
-use model::{EventRunIndex, Refusal, WalkStep};
+use model::{BookRefusal, EventRunIndex, Refusal, WalkStep};
 use std::marker::Model;
 
 // How many bytes a line has room for: no line of 01's is longer.
@@ -98,20 +98,30 @@ fn step_line(kind: u32, a: EventRunIndex, b: EventRunIndex) -> Line
 }
 
 #[tactic(auto, unfolding(model::specs::Print::ascii, model::specs::Print::say, model::specs::Print::line_text, crate::specs::Output::ended))]
-pub(crate) fn refused_line(r: Refusal) -> Line
+fn refused_line(r: Refusal) -> Line
     ensures { result ≡ Output.ended (refused_line (Refusals.number r)) }
 {
-    one(b"refused ", u64::from(model::number(r)))
+    one(b"refused ", u64::from(u32::from(r)))
 }
 
 #[tactic(auto, unfolding(model::specs::Print::ascii, model::specs::Print::say, model::specs::Print::line_text, crate::specs::Output::ended))]
-pub(crate) fn push_refused_line(r: Refusal, k: u32) -> Line
+fn push_refused_line(r: Refusal, k: u32) -> Line
     ensures { result ≡ Output.ended (push_refused_line (Refusals.number r) k) }
 {
     let told = Line::new()
         .text(b"refused ")
-        .number(u64::from(model::number(r)));
+        .number(u64::from(u32::from(r)));
     told.text(b" push ").number(u64::from(k)).text(b"\n")
+}
+
+// The line of a book that is refused.
+pub(crate) fn refusal_line(r: BookRefusal) -> Line
+    ensures { result ≡ Output.ended (refusal_line r) }
+{
+    match r {
+        BookRefusal::Refused(r) => refused_line(r),
+        BookRefusal::PushRefused(r, k) => push_refused_line(r, k),
+    }
 }
 
 // The line after a replay's steps.

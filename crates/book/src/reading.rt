@@ -114,7 +114,7 @@ fn read_words(book: Words) -> BookRead
         );
     };
     let made = graph::fresh::after(header.first, header.frontier);
-    match made.outcome {
+    match made.answer {
         Ok(()) => {
             let begun = Turn {
                 graph: made.graph,

@@ -6,7 +6,7 @@ ghost use Rattle.book.specs.Output.{put_line, printing, lines_of};
 
 use crate::printing;
 use crate::printing::{Line, Printed};
-use model::{BookRead, BookRefusal, CausalGraph, LENT_ROWS, LENT_STEPS};
+use model::{BookRead, CausalGraph, LENT_ROWS, LENT_STEPS};
 
 // How many bytes the lines of any book take at most.
 pub const MAX_TEXT: usize = 131072;
@@ -42,8 +42,7 @@ fn lines(read: BookRead, out: &mut [u8]) -> Printed
 {
     match read.answer {
         Ok(()) => replay_lines(read.graph, out),
-        Err(BookRefusal::Refused(r)) => alone(&printing::refused_line(r), out),
-        Err(BookRefusal::PushRefused(r, k)) => alone(&printing::push_refused_line(r, k), out),
+        Err(refusal) => alone(&printing::refusal_line(refusal), out),
     }
 }
 

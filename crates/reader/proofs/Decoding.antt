@@ -16,7 +16,6 @@ use Rattle.reader.specs.declared.StepAt.{StepAt}
 use Rattle.reader.specs.Reading.{step_at, step_read}
 use Rattle.std.specs.Prelude.{Ok, Err, Some, None}
 use Rattle.model.specs.Answers.{NextStep}
-use Rattle.model.specs.Refusals.{OrRefusal}
 
 -- The code's answer is what its two fields say
 pub told : {r : StepAt} {x : NextStep} {at : ℕ} {n : NextStep × ℕ} → r ≡ step_at x at → (x, at) ≡ n → (r.step, r.at) ≡ n

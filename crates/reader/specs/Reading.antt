@@ -9,7 +9,6 @@ use Rattle.model.specs.Steps.{Step, retreat, advance, opened, apply}
 use Rattle.model.specs.Reader.{next_of}
 use Rattle.reader.specs.declared.StepAt.{StepAt}
 use Rattle.reader.specs.declared.StepReader.{StepReader}
-use Rattle.model.specs.Refusals.{OrRefusal}
 
 -- A step that was read, as the model has it
 abbrev pub step_read : WalkStep → Step

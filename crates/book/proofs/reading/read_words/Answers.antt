@@ -12,9 +12,9 @@ returns-in_default c = header_cut _ _ _ c.in_default.ensures c.new.ensures c.ans
 pub pushes-requires : goal.pushes-requires
 pushes-requires c = rw c.after-made.ensures (after-held _ _)
 
-pub returns-in-Done : goal.returns-in-Done
-returns-in-Done c = c.pushes.ensures ∙ header_done _ _ _ _ _ c.in-Some.ensures _ c.after-made.ensures c.in-Done.is
+pub returns-in-Ok : goal.returns-in-Ok
+returns-in-Ok c = c.pushes.ensures ∙ header_done _ _ _ _ _ c.in-Some.ensures _ c.after-made.ensures c.in-Ok.is
 
-pub returns-in-Refused : goal.returns-in-Refused
+pub returns-in-Err : goal.returns-in-Err
 unfolding book_read
-returns-in-Refused c = c.answered-in-Refused.ensures ∙ header_refused _ _ _ _ _ c.in-Some.ensures _ c.after-made.ensures _ c.in-Refused.is
+returns-in-Err c = c.answered-in-Err.ensures ∙ header_refused _ _ _ _ _ c.in-Some.ensures _ c.after-made.ensures _ c.in-Err.is

@@ -14,18 +14,18 @@ unfolding ends_early book_read
 returns-in_default-take_counted c = λ n.
     parents_cut c.args.t.graph n c.args.k _ _ _ c.in-Some.ensures c.in_default-take_counted.ensures ∙ sym c.answered-in_default-take_counted.ensures
 
-pub returns-in-Events : goal.returns-in-Events
-returns-in-Events c =
+pub returns-in-Ok : goal.returns-in-Ok
+returns-in-Ok c =
     let pushed = c.push_held-pushed in record {
       holds = holds c.args.t.graph c.requires _ _ pushed.result pushed.ensures;
       reads = λ n.
           push_whole c.args.t.graph n c.args.k _ _ _ c.in-Some.ensures _ _ c.in-Some-take_counted.ensures
-          ∙ goes_on c.args.t.graph c.requires _ _ pushed.result pushed.ensures n c.args.k _ _ _ c.in-Events.is;
+          ∙ goes_on c.args.t.graph c.requires _ _ pushed.result pushed.ensures n c.args.k _ _ _ c.in-Ok.is;
     }
 
-pub returns-in-Refused : goal.returns-in-Refused
+pub returns-in-Err : goal.returns-in-Err
 unfolding book_read
-returns-in-Refused c = λ n.
+returns-in-Err c = λ n.
     let pushed = c.push_held-pushed in
     push_whole c.args.t.graph n c.args.k _ _ _ c.in-Some.ensures _ _ c.in-Some-take_counted.ensures
-    ∙ ends c.args.t.graph c.requires _ _ pushed.result pushed.ensures n c.args.k _ _ c.in-Refused.is ∙ sym c.answered-in-Refused.ensures
+    ∙ ends c.args.t.graph c.requires _ _ pushed.result pushed.ensures n c.args.k _ _ c.in-Err.is ∙ sym c.answered-in-Err.ensures
