@@ -7,15 +7,13 @@ use Prim.Native.Nat.{ℕ, zero, suc, ◌+◌, ◌-◌, ◌≤◌, ◌<◌}
 use native.Mathlib.Numerals.{add-one}
 use native.Mathlib.Omega.{arith}
 use lib.ListN.{length, get_or, take, drop, length-append}
-use lib.Seq.{take-length, get_or-take, get_or-drop}
+use lib.Seq.{get_or-take, get_or-drop}
 use lib.Dec.{eqb}
-use Rattle.lists.specs.declared.Kept.{Kept}
 use Rattle.lists.specs.Lists.{all, filter, from, upto, rising}
-use Rattle.lists.specs.Scans.{kept_in, add_if}
 use Rattle.lists.proofs.Truth.{lt_or_le, false_true, not_so, and_false, and_true}
 use Rattle.lists.proofs.Members.{all-at, all_both}
 use Rattle.lists.proofs.Counts.{upto-mem, upto_snoc}
-use Rattle.lists.proofs.Keeping.{kept-count, kept-long, add_if_kept, filter_snoc}
+use Rattle.lists.proofs.Keeping.{filter_snoc}
 use Rattle.model.specs.Wanted.{ranges}
 use Rattle.versions.specs.Flags.{flag_all}
 use Rattle.versions.specs.Ranges.{is_odd, place_of, clear_at, end_at, clear_in, end_in, flag_marked, is_top, tops, Starts}
@@ -64,9 +62,9 @@ module _ (ws : List ℕ) where
   unfolding ranges
   ranges_odd h = sym (rw (paired_even ws, h) (and_false (rising ws)))
 
-  pub ranges-is : is_odd (length ws) ≡ false → (b : Bool) → b ≡ rising (take (length ws) ws) → b ≡ ranges ws
+  pub ranges-is : is_odd (length ws) ≡ false → (b : Bool) → b ≡ rising ws → b ≡ ranges ws
   unfolding ranges
-  ranges-is h b e = e ∙ rw (take-length, paired_even ws, h) (sym (and_true (rising ws)))
+  ranges-is h b e = e ∙ rw (paired_even ws, h) (sym (and_true (rising ws)))
 
 -- A test of the numbers below a bound, one by one
 module _ (p : ℕ → Bool) where
@@ -113,10 +111,14 @@ module _ (flags ends : List ℕ) where
       go true h = simp length-append (omega arith)
       go false h = omega arith
 
-  pub tops_turn : (r : ℕ) (k : Kept) (t : Bool) (v : ℕ) → r < 512 → t ≡ is_top flags ends r → v ≡ get_or ends r 0 - 1 → k ≡ kept_in (tops flags ends r) →
-      add_if t k v ≡ kept_in (tops flags ends (r + 1))
+  pub tops_start : [] ≡ tops flags ends 0
+  unfolding tops upto from filter
+  tops_start = refl
+
+  pub tops_turn : (r : ℕ) (found : List ℕ) (t : Bool) (v : ℕ) → t ≡ is_top flags ends r → v ≡ get_or ends r 0 - 1 → found ≡ tops flags ends r →
+      cond t (found ++ v ∷ []) found ≡ tops flags ends (r + 1)
   unfolding last_of
-  tops_turn r k t v lt e f q = rw (q, e, f, add-one r, tops_next r) (add_if_kept (is_top flags ends r) (tops flags ends r) (get_or ends r 0 - 1) (omega (arith, tops-few r)))
+  tops_turn r found t v e f q = rw (q, e, f, add-one r, tops_next r)
 
 -- What the loops over words and over runs go by
 pub ruleset placing = (ranges_even, place_here, place_on, place_end)
@@ -125,4 +127,4 @@ pub ruleset pairing = (ranges_odd, ranges-is)
 
 pub ruleset testing = (all_start, all-next, all_stop)
 
-pub ruleset topping = (kept-count, kept-long, tops-few, tops_turn)
+pub ruleset topping = (tops_start, tops-few, tops_turn)

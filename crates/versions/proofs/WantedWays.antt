@@ -9,12 +9,9 @@ use lib.Seq.{get_or-take}
 use lib.Dec.{eqb}
 use borrow.Author.Tests.{lt-ltb, le-ltb}
 use Rattle.lists.specs.Lists.{all, upto, mem}
-use Rattle.lists.specs.Scans.{kept_in}
-use Rattle.lists.specs.declared.Kept.{Kept}
 use Rattle.lists.proofs.Truth.{false_true, not_so}
 use Rattle.lists.proofs.Members.{all_same, filter_agree}
 use Rattle.lists.proofs.Counts.{mem-from}
-use Rattle.lists.proofs.Keeping.{kept_list, kept-count}
 use Rattle.model.specs.declared.record.CausalGraph.{CausalGraph}
 use Rattle.model.specs.declared.answers.Refusal.{Refusal}
 use Rattle.model.specs.declared.answers.Refusal.TheVariants.{Broken, NotRising, UnknownEvent, NoSuchParents, ListTooShort}
@@ -36,7 +33,6 @@ use Rattle.graph.proofs.Writing.{words_fit}
 use Rattle.versions.specs.Ranges.{words_within, clear_in, Ends, flag_marked, marked_whole, is_top, tops, Starts}
 use Rattle.versions.proofs.RangeWords.{held-within}
 use Rattle.versions.proofs.MarkedRuns.{closed_clear, closed-runs, tops_are}
-use Rattle.versions.proofs.RangeTurns.{tops-few}
 use Rattle.std.specs.Prelude.{Ok, Err}
 
 -- The starts of a record's runs, and its length
@@ -173,32 +169,27 @@ module _ (g : CausalGraph) (ws lent : List ℕ) where
               (record { count = 0; outcome = Err NoSuchParents }, lent) ≡ wanted_parents_of g ws lent
           wanted_parted e = no_parents (whole_is ∙ e)
 
-          module _ (whole : all (marked_whole flags ends starts) (upto (length ends)) ≡ true) (k : Kept) (found : k ≡ kept_in (tops flags ends (length ends))) where
+          module _ (whole : all (marked_whole flags ends starts) (upto (length ends)) ≡ true) (tops_found : List ℕ) (found : tops_found ≡ tops flags ends (length ends)) where
             are : tops flags ends (length ends) ≡ wanted_parents G ws
             are =
                 ap (tops flags ends) long_ends ∙ tops_same flags (flag_marked rows ends (runs G)) ends starts (runs G) told ∙
                 tops_are G held.formed starts same ws words marked clear_all few rows agree ends filled_all (whole_is ∙ whole)
 
-            -- room for them
-            pub wanted_few : k.count ≤ 512
-            wanted_few = omega (arith, kept-count k (tops flags ends (length ends)) found, tops-few flags ends (length ends), few, long_ends)
+            count-is : length tops_found ≡ length (wanted_parents G ws)
+            count-is = ap length (found ∙ are)
 
-            count-is : k.count ≡ length (wanted_parents G ws)
-            count-is = kept-count k (tops flags ends (length ends)) found ∙ ap length are
-
-            pub wanted_short : length lent < k.count → (record { count = 0; outcome = Err ListTooShort }, lent) ≡ wanted_parents_of g ws lent
+            pub wanted_short : length lent < length tops_found → (record { count = 0; outcome = Err ListTooShort }, lent) ≡ wanted_parents_of g ws lent
             unfolding wanted_outcome first_of
             wanted_short lt =
                 wanted_refused ListTooShort
                 (rw (not-broken g held, words, marked, whole_is, whole, lt-ltb (length lent) (length (wanted_parents G ws)) (omega (arith, count-is))))
 
             -- Done
-            pub wanted_done : k.count ≤ length lent → (p : Put) (l : List ℕ) →
-                (p, l) ≡ put_all 1 (blank, lent) (map (λ x. x ∷ []) (take k.count k.items)) → (written_of p, l) ≡ wanted_parents_of g ws lent
+            pub wanted_done : length tops_found ≤ length lent → (p : Put) (l : List ℕ) →
+                (p, l) ≡ put_all 1 (blank, lent) (map (λ x. x ∷ []) tops_found) → (written_of p, l) ≡ wanted_parents_of g ws lent
             unfolding wanted_parents_of wanted_outcome first_of
             wanted_done le p l e =
                 let done : wanted_outcome g ws lent ≡ (Ok tt) =
                 rw (not-broken g held, words, marked, whole_is, whole, le-ltb (length lent) (length (wanted_parents G ws)) (omega (arith, count-is))) in
-                let listed : take k.count k.items ≡ wanted_parents G ws = kept_list k (tops flags ends (length ends)) found ∙ are in
-                words_fit (wanted_parents G ws) lent p l (omega (arith, count-is)) (e ∙ ap (λ (xs : List ℕ). put_all 1 (blank, lent) (map (λ x. x ∷ []) xs)) listed) ∙
+                words_fit (wanted_parents G ws) lent p l (omega (arith, count-is)) (e ∙ ap (λ (xs : List ℕ). put_all 1 (blank, lent) (map (λ x. x ∷ []) xs)) (found ∙ are)) ∙
                 rw (done, wanted_parents_of) refl

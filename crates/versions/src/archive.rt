@@ -2,7 +2,6 @@
 // Here it is told exactly, as far as archive points need it (`highest`), and they are the starts of the runs that would be marked by that.
 ghost use Rattle.std.specs.Prelude.{◌≡◌, true, ◌||◌, [], ◌∷◌, map, ◌≤◌, ◌<◌, length, get_or, leb, eqb};
 ghost use Rattle.lists.specs.Lists.{filter, count, upto, below};
-ghost use Rattle.lists.specs.Scans.{kept_in};
 ghost use Rattle.model.specs.Limits.{max_runs};
 ghost use Rattle.model.specs.Graph.{runs, start};
 ghost use Rattle.model.specs.Record.{view};
@@ -148,7 +147,7 @@ fn put_points(starts: &[u32], points: &[u32], list: &mut [u32]) -> Put
 #[tactic(auto, using(graph::proofs::Views::facts))]
 fn point_runs(g: CausalGraph) -> Kept
     requires { Held g }
-    ensures { result ≡ kept_in (filter (λ q. seen_by_later (view g) (start (view g) q)) (upto (runs (view g)))) }
+    ensures { result ≡ filter (λ q. seen_by_later (view g) (start (view g) q)) (upto (runs (view g))) }
 {
     let parents = ParentRows::of_graph(&g);
     let firsts = first_children(parents);
@@ -163,7 +162,7 @@ fn archive_held(g: CausalGraph, list: &mut [u32]) -> Written
     ensures { (result, list.new) ≡ archive_points_of g list.old }
 {
     let points = point_runs(g);
-    let p = put_points(&g.starts, &points.items[..points.count], list);
+    let p = put_points(&g.starts, points.as_slice(), list);
     graph::cut::written(p)
 }
 

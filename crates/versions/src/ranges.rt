@@ -24,7 +24,7 @@ impl<'a> EventRanges<'a> {
         if words.len() % 2 == 1 {
             return None;
         }
-        if !lists::is_rising(words, words.len()) {
+        if !lists::is_rising(words) {
             return None;
         }
         Some(EventRanges { words })

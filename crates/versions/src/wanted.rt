@@ -2,7 +2,6 @@
 // none of the run; and where a run has some of them, its parent runs have all of theirs. So the marked events are told run by run.
 ghost use Rattle.std.specs.Prelude.{◌≡◌, true, not, cond, ◌&&◌, ◌||◌, ◌+◌, ◌≤◌, length, eqb};
 ghost use Rattle.lists.specs.Lists.{all, upto, below};
-ghost use Rattle.lists.specs.Scans.{kept_in};
 ghost use Rattle.model.specs.Limits.{max_runs};
 ghost use Rattle.model.specs.Graph.{all_held};
 ghost use Rattle.model.specs.Record.{view};
@@ -77,17 +76,13 @@ fn is_top(flag: u32, end: u32) -> bool
 fn top_events(flags: &[u32], ends: &[u32]) -> Kept
     requires few { length ends.now ≤ max_runs }
     requires flags_reach { length flags.now ≡ length ends.now }
-    ensures { result ≡ kept_in (tops flags.now ends.now (length ends.now)) }
+    ensures { result ≡ tops flags.now ends.now (length ends.now) }
 {
-    let mut items = [0; MAX_RUNS];
-    let mut c = 0;
+    let mut tops = Kept::new();
     for (r, end) in ends.iter().enumerate() {
-        c = lists::put_if(is_top(flags[r], *end), &mut items, c, end.saturating_sub(1));
+        tops.push_if(is_top(flags[r], *end), end.saturating_sub(1));
     }
-    Kept {
-        items: items,
-        count: c,
-    }
+    tops
 }
 
 // `wanted_parents` on a graph that is known not to be broken, and ranges of held events.
@@ -116,13 +111,13 @@ fn wanted_held(g: CausalGraph, ranges: EventRanges, list: &mut [u32]) -> Written
         };
     }
     let found = top_events(flags, ends);
-    if list.len() < found.count {
+    if list.len() < found.len() {
         return Written {
             count: 0,
             outcome: Err(Refusal::ListTooShort),
         };
     }
-    let p = put_all(&found.items[..found.count], list);
+    let p = put_all(found.as_slice(), list);
     graph::cut::written(p)
 }
 

@@ -1,6 +1,5 @@
 -- `versions::archive::point_runs` meets its contract: the runs that are marked by what the passes find start at archive points. Assumes nothing.
-use Rattle.std.proofs.Common.{◌≡◌, ◌∙◌, ap, arith}
-use Rattle.lists.specs.Scans.{kept_in}
+use Rattle.std.proofs.Common.{◌≡◌, ◌∙◌, arith}
 use Rattle.graph.proofs.Views.{facts}
 use Rattle.versions.specs.Parents.{parents_in, runs_in}
 use Rattle.versions.proofs.ArchiveWays.{counts_fit, marks_are}
@@ -24,4 +23,4 @@ returns c =
     let firsts = rw runs at c.first_children-firsts.ensures in
     let counts = rw runs at c.head_counts-counts.ensures in
     let seen = rw runs at c.seen_lengths-seen.ensures in
-    c.marks_of.ensures ∙ ap kept_in (marks_are g held (parents_in all.result) all.ensures.parents _ firsts _ counts _ (omega (arith, (facts g held).runs)) seen)
+    c.marks_of.ensures ∙ marks_are g held (parents_in all.result) all.ensures.parents _ firsts _ counts _ (omega (arith, (facts g held).runs)) seen

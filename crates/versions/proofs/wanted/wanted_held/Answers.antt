@@ -2,7 +2,7 @@
 use Rattle.std.proofs.Common.{◌≤◌, length, sym, ◌∙◌, arith}
 use Rattle.graph.proofs.Views.{facts}
 use Rattle.versions.specs.Parents.{parents_in}
-use Rattle.versions.proofs.WantedWays.{starts_of, wanted_inside, wanted_parted, wanted_few, wanted_short, wanted_done}
+use Rattle.versions.proofs.WantedWays.{starts_of, wanted_inside, wanted_parted, wanted_short, wanted_done}
 use Rattle.versions.proofs.wanted.wanted_held.Goals as goal
 
 pub all_clear-requires : goal.all_clear-requires
@@ -28,8 +28,8 @@ returns-then-not-all_whole c =
     wanted_parted a.g a.ranges.words.now a.list.now p.held a.ranges.paired p.events_held clear ends.result ends.ensures long
     (parents_in all.result) all.ensures.parents c.flag_marked-flags.result c.flag_marked-flags.ensures (sym c.all_whole.ensures ∙ c.if-not-all_whole.true)
 
-pub returns-then-list-found : goal.returns-then-list-found
-returns-then-list-found c =
+pub returns-then-list-len : goal.returns-then-list-len
+returns-then-list-len c =
     let a = c.args in
     let p = c.requires in
     let all = c.of_graph in
@@ -38,19 +38,7 @@ returns-then-list-found c =
     let long : a.g.run_count ≤ length ends.result = omega (arith, (facts a.g p.held).runs) in
     wanted_short a.g a.ranges.words.now a.list.now p.held a.ranges.paired p.events_held clear ends.result ends.ensures long
     (parents_in all.result) all.ensures.parents c.flag_marked-flags.result c.flag_marked-flags.ensures
-    (sym c.all_whole.ensures ∙ c.if-not-all_whole.false) c.top_events-found.result c.top_events-found.ensures c.if-list-found.true
-
-pub shared_ref_as_front-put_all : goal.shared_ref_as_front-put_all
-shared_ref_as_front-put_all c =
-    let a = c.args in
-    let p = c.requires in
-    let all = c.of_graph in
-    let ends = c.marked_ends-ends in
-    let clear = sym c.all_clear.ensures ∙ c.if-not-all_clear.false in
-    let long : a.g.run_count ≤ length ends.result = omega (arith, (facts a.g p.held).runs) in
-    wanted_few a.g a.ranges.words.now a.list.now p.held a.ranges.paired p.events_held clear ends.result ends.ensures long
-    (parents_in all.result) all.ensures.parents c.flag_marked-flags.result c.flag_marked-flags.ensures
-    (sym c.all_whole.ensures ∙ c.if-not-all_whole.false) c.top_events-found.result c.top_events-found.ensures
+    (sym c.all_whole.ensures ∙ c.if-not-all_whole.false) c.top_events-found.result c.top_events-found.ensures (omega (arith, c.len.ensures.value, c.if-list-len.true))
 
 pub returns : goal.returns
 returns c =
@@ -62,4 +50,4 @@ returns c =
     let long : a.g.run_count ≤ length ends.result = omega (arith, (facts a.g p.held).runs) in
     rw c.written.ensures (wanted_done a.g a.ranges.words.now a.list.now p.held a.ranges.paired p.events_held clear ends.result ends.ensures long
     (parents_in all.result) all.ensures.parents c.flag_marked-flags.result c.flag_marked-flags.ensures
-    (sym c.all_whole.ensures ∙ c.if-not-all_whole.false) c.top_events-found.result c.top_events-found.ensures c.if-list-found.false _ _ c.put_all-p.ensures)
+    (sym c.all_whole.ensures ∙ c.if-not-all_whole.false) c.top_events-found.result c.top_events-found.ensures (omega (arith, c.len.ensures.value, c.if-list-len.false)) _ _ (rw c.as_slice.ensures at c.put_all-p.ensures))
