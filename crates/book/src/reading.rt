@@ -51,6 +51,7 @@ pub(crate) struct Turn<'a> {
     pub(crate) left: Words<'a>,
 }
 
+// What was read, with the graph made till then.
 fn answered(graph: CausalGraph, answer: BookAnswer) -> BookRead
     ensures { result ≡ record { graph = graph; answer = answer } }
 {
