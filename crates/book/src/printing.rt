@@ -31,6 +31,7 @@ impl Model for Line {
 }
 
 impl Line {
+    // A line with no text yet.
     fn new() -> Self
         ensures { result ≡ [] }
     {
@@ -97,6 +98,7 @@ fn step_line(kind: u32, a: EventRunIndex, b: EventRunIndex) -> Line
     }
 }
 
+// A refusal's line.
 #[tactic(auto, unfolding(model::specs::Print::ascii, model::specs::Print::say, model::specs::Print::line_text, crate::specs::Output::ended))]
 fn refused_line(r: Refusal) -> Line
     ensures { result ≡ Output.ended (refused_line (Refusals.number r)) }
@@ -104,6 +106,7 @@ fn refused_line(r: Refusal) -> Line
     one(b"refused ", u64::from(u32::from(r)))
 }
 
+// The line of a push that was refused.
 #[tactic(auto, unfolding(model::specs::Print::ascii, model::specs::Print::say, model::specs::Print::line_text, crate::specs::Output::ended))]
 fn push_refused_line(r: Refusal, k: u32) -> Line
     ensures { result ≡ Output.ended (push_refused_line (Refusals.number r) k) }

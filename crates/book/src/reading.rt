@@ -49,6 +49,7 @@ pub(crate) struct Turn<'a> {
     pub(crate) left: Words<'a>,
 }
 
+// What was read, with the graph made till then.
 fn answered(graph: CausalGraph, answer: Result<(), BookRefusal>) -> BookRead
     ensures { result ≡ record { graph = graph; answer = answer } }
 {

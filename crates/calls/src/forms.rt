@@ -14,6 +14,7 @@ pub enum Form {
 }
 
 impl Form {
+    // Pushes events.
     pub fn push(self, g: CausalGraph, parents: &[u32], len: u32) -> Changed<(EventIndex, EventIndex)>
         ensures { result ≡ push_of g parents.now len }
     {
@@ -23,6 +24,7 @@ impl Form {
         }
     }
 
+    // Starts a run.
     pub fn start_run_at(self, g: CausalGraph, at: EventIndex) -> Changed<bool>
         ensures { result ≡ start_run_at_of g at.0 }
     {
@@ -32,6 +34,7 @@ impl Form {
         }
     }
 
+    // Takes the first changed run.
     pub fn take_changed_from(self, g: CausalGraph) -> Changed<EventRunIndex>
         ensures { result ≡ take_changed_from_of g }
     {
