@@ -80,13 +80,13 @@ insert-last at item f a h =
     let l : length a ≤ suc (length a - 1) = omega arith in
     rw (drop_of_length-le a l, append-nil)
 
--- and of the first places of an area, the one after those in use
-pub insert-front : (n at item : ℕ) (f : ℕ → ℕ) (a : List ℕ) → n < length a →
-    insert at item f (take (length (take (suc n) a) - 1) (take (suc n) a)) ++ drop (suc n) a ≡ insert_in n at item f a
+-- and of the first m places of an area, of which all but one are in use
+pub insert-front : (n m at item : ℕ) (f : ℕ → ℕ) (a : List ℕ) → m ≡ suc n → n < length a →
+    insert at item f (take (length (take m a) - 1) (take m a)) ++ drop m a ≡ insert_in n at item f a
 unfolding insert_in
-insert-front n at item f a h =
+insert-front n m at item f a e h =
     let k : length (take (suc n) a) - 1 ≡ n = simp length-take (omega arith) in
-    rw (k, take-take n (suc n) a (omega arith))
+    rw (e, k, take-take n (suc n) a (omega arith))
 
 -- In a padded list
 drop_past : (m : ℕ) (l : List ℕ) → drop (suc (length l)) (pad m l) ≡ replicate (m - suc (length l)) 0
