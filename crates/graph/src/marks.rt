@@ -6,18 +6,13 @@ ghost use Rattle.graph.specs.Loops.{lowest, marks_of};
 use lists::Kept;
 use model::{MAX_LEN, MAX_RUNS};
 
-// An array to fill.
-fn blank() -> [u32; MAX_RUNS] {
-    [0; MAX_RUNS]
-}
-
 // The least seen length from each run on.
 fn lows(seen: &[u32], n: usize) -> [u32; MAX_RUNS]
     requires n_in_bounds { n ≤ length seen.now }
     requires n_le_max_runs { n ≤ max_runs }
     ensures { (k : ℕ) → k < n → get_or result k 0 ≡ lowest (drop k (take n seen.now)) }
 {
-    let mut a = blank();
+    let mut a = lists::zeros();
     let mut low: u32 = MAX_LEN;
     for i in (0..n).rev() {
         low = seen[i].min(low);

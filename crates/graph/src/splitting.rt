@@ -27,13 +27,6 @@ pub(crate) struct Counts {
     pub(crate) changed: usize,
 }
 
-// The lower number.
-fn least(a: usize, b: usize) -> usize
-    ensures { result ≡ min a b }
-{
-    if a <= b { a } else { b }
-}
-
 // Splits a run so that a new one starts at `at`: a place is taken up in each array.
 fn split_in(
     starts: &mut [u32],
@@ -54,14 +47,14 @@ fn split_in(
     let next = place + 1;
     let later = heads[next];
     let second = seen_from(EventIndex(seen[place]), EventIndex(starts[place]), at);
-    lists::insert_and_grow(starts, runs + 1, next, at.0, 0, 0);
-    lists::insert_and_grow(heads, runs + 1, next, later, 0, 1);
-    lists::insert_and_grow(parents, entries, later as usize, run.0, run.0, 1);
-    lists::insert_and_grow(seen, runs, next, second.0, 0, 0);
+    lists::insert_and_grow(&mut starts[..runs + 2], next, at.0, 0, 0);
+    lists::insert_and_grow(&mut heads[..runs + 2], next, later, 0, 1);
+    lists::insert_and_grow(&mut parents[..entries + 1], later as usize, run.0, run.0, 1);
+    lists::insert_and_grow(&mut seen[..runs + 1], next, second.0, 0, 0);
     Counts {
         runs: runs + 1,
         entries: entries + 1,
-        changed: least(place, c.changed),
+        changed: place.min(c.changed),
     }
 }
 

@@ -1,5 +1,5 @@
 -- `graph::pushing::push_held` meets its contract: refusals 2 to 5 in their order, then what `push_known` gives. Assumes nothing.
-use mathlib.Core.Path.{◌≡◌, sym, ◌∙◌, ap}
+use mathlib.Core.Path.{◌≡◌, sym, ◌∙◌}
 use mathlib.Core.Bool.{true, false}
 use Prim.Native.Nat.{◌<◌}
 use native.Mathlib.Omega.{arith}
