@@ -164,17 +164,17 @@ CALLS = [
 
 MOVES = [
     ("replaying::replay", "opens and applies without moves", "no_moves"),
-    ("replaying::replay", "writes no steps", "writing.rt", "if out.short != 0 {", "if (out.short | 1) != 0 {"),
+    ("replaying::replay", "writes no steps", "writing.rt", "if out.short {", "if out.short | true {"),
     ("replaying::replay", "moved is 0", "writing.rt", "moved: out.moved + events,", "moved: out.moved + 0,"),
     ("walking::walk", "moved forgets the advances", "advances_not_moved"),
-    ("walking::walk", "moved counts an event for each Apply", "moving.rt", "put_step(steps, b, 2, at, at + 1, 0)", "put_step(steps, b, 2, at, at + 1, 1)"),
+    ("walking::walk", "moved counts an event for each Apply", "moving.rt", "put_step(steps, b, Kind::Apply, at, at + 1, 0)", "put_step(steps, b, Kind::Apply, at, at + 1, 1)"),
     ("walking::walk", "retreats fall along a chain", "retreats_falling"),
     ("walking::walk", "11 though a step more fits", "writing.rt", "steps.len() / 3", "steps.len() / 4"),
 ]
 
 TABLES = [
     ("walking::walk", "a chain for each run", "each_run_a_chain"),
-    ("walking::walk", "no row is written", "rows.rt", "store(rows, used, row, width);", "store(rows, used, row, 0);"),
+    ("walking::walk", "no row is written", "rows.rt", "rows[used..used + width].copy_from_slice(&row[..width]);", "rows[used..used + 0].copy_from_slice(&row[..0]);"),
     ("walking::walk", "13 though the rows just fit", "rows.rt", "if rows.len() < used + width {", "if rows.len() <= used + width {"),
     ("walking::walk", "a cover is not joined with its children's", "covers.rt", "kids.row(r)", "&kids.row(r)[0..0]"),
     ("walking::walk", "a cover's last bit rounded down", "covers.rt", "offset_of(starts, r + 1).div_ceil(per)", "(offset_of(starts, r + 1) / per).div_ceil(1)"),
