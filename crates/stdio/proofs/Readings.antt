@@ -1,6 +1,8 @@
 -- How a reading goes on after a read's answer. Assumes nothing.
 use Rattle.std.proofs.Common.{◌≡◌, ℕ, zero, suc, ◌+◌, ◌-◌, ◌<◌, ◌≤◌, List, ◌++◌, length, take, refl, sym, ◌∙◌, ap, arith}
-use Rattle.std.specs.Prelude.{Result, Ok, Err, Option}
+use Rattle.std.specs.Prelude.{Result, Ok, Err, Option, MatchResult}
+use Rattle.std.specs.Result.{IsErrAnd}
+use Rattle.std.proofs.lemmas.Result.{err_from_is_err_and}
 use Rattle.std.proofs.Math.Seq.{take-append_seam, take-append-add}
 use Rattle.std.proofs.lemmas.List.{length-take-le, take-append-le}
 use Rattle.std.specs.Io.{ReadsAtMost}
@@ -84,3 +86,21 @@ came_count r k h = came_by r.state r.count k h
 
 pub came_fits : (r : Reading) (n k : ℕ) → Came r k → Full n r → k ≤ n
 came_fits r n k h f = omega (arith, came_count r k h, f.within)
+
+-- `map_err` gives an `Ok` of that `Ok` alone
+ok_mapped : {D E : Type 0} (got : Result ℕ E) (s : Result ℕ D) (Q : E → D → Type 0) (k : ℕ) → MatchResult got (λ x. s ≡ Ok x) (λ e. IsErrAnd s (Q e)) →
+    s ≡ Ok k → got ≡ Ok k
+ok_mapped (Ok x) s Q k h e = cc
+ok_mapped (Err x) s Q k h e =
+    let w = err_from_is_err_and s h in
+    let bad = w.1 in
+    cc
+
+-- of a reading whose failure was given another type
+module _ {D : Type 0} (r : Reading) (got : Result ℕ Error) (s : Result ℕ D) (Q : Error → D → Type 0) (k : ℕ)
+         (gave : got ≡ filled_of r) (mapped : MatchResult got (λ x. s ≡ Ok x) (λ e. IsErrAnd s (Q e))) (was : s ≡ Ok k) where
+  pub came_mapped : Came r k
+  came_mapped = sym gave ∙ ok_mapped got s Q k mapped was
+
+  pub came_mapped_fits : (n : ℕ) → Full n r → k ≤ n
+  came_mapped_fits n full = came_fits r n k came_mapped full

@@ -1,84 +1,63 @@
-// The calls' answers as the values of a line: the refusal's number or 0, then up to two, 0 where there are none.
-use crate::lines::Said;
-use crate::{lines, words};
+// The calls' answers as they stand in a line: the number of the refusal, or 0, and then the values, 0 where there are none.
+use crate::output::Out;
 use model::{
-    BoolAnswer, ContainingAnswer, EventAnswer, EventsAnswer, Outcome, Refusal, RunAnswer, Walked,
-    Written, number,
+    BoolAnswer, ContainingAnswer, EventAnswer, EventIndex, EventRunIndex, EventsAnswer, Outcome,
+    Refusal, RunAnswer, number,
 };
+use std::io;
 
-// A refused call: its number, and no values.
-fn refused(pattern: u32, r: Refusal) -> Said {
-    lines::three(pattern, words::wide(number(r)), 0, 0)
-}
-
-// One or two values.
-fn given(pattern: u32, first: u32, second: u32) -> Said {
-    lines::three(pattern, 0, words::wide(first), words::wide(second))
+// An answer with its values.
+pub fn put<const N: usize>(answer: Result<[u32; N], Refusal>, out: &mut Out) -> io::Result<()> {
+    let (refusal, values) = match answer {
+        Ok(values) => (0, values),
+        Err(r) => (number(r), [0; N]),
+    };
+    out.number(u64::from(refusal))?;
+    out.words(&values)
 }
 
 // Each kind of answer.
-pub fn outcome(pattern: u32, answer: Outcome) -> Said {
+pub fn outcome(answer: Outcome) -> Result<(), Refusal> {
     match answer {
-        Outcome::Done => lines::named(pattern),
-        Outcome::Refused(r) => refused(pattern, r),
+        Outcome::Done => Ok(()),
+        Outcome::Refused(r) => Err(r),
     }
 }
 
-pub fn event(pattern: u32, answer: EventAnswer) -> Said {
+pub fn event(answer: EventAnswer) -> Result<EventIndex, Refusal> {
     match answer {
-        EventAnswer::Event(e) => given(pattern, e.0, 0),
-        EventAnswer::Refused(r) => refused(pattern, r),
+        EventAnswer::Event(e) => Ok(e),
+        EventAnswer::Refused(r) => Err(r),
     }
 }
 
-pub fn events(pattern: u32, answer: EventsAnswer) -> Said {
+pub fn events(answer: EventsAnswer) -> Result<(EventIndex, EventIndex), Refusal> {
     match answer {
-        EventsAnswer::Events(first, end) => given(pattern, first.0, end.0),
-        EventsAnswer::Refused(r) => refused(pattern, r),
+        EventsAnswer::Events(first, end) => Ok((first, end)),
+        EventsAnswer::Refused(r) => Err(r),
     }
 }
 
-pub fn run(pattern: u32, answer: RunAnswer) -> Said {
+pub fn run(answer: RunAnswer) -> Result<EventRunIndex, Refusal> {
     match answer {
-        RunAnswer::Run(r) => given(pattern, r.0, 0),
-        RunAnswer::Refused(r) => refused(pattern, r),
+        RunAnswer::Run(r) => Ok(r),
+        RunAnswer::Refused(r) => Err(r),
     }
 }
 
 // The side: 0 a run, which follows; 1 before the graph; 2 not yet known.
-pub fn containing(pattern: u32, answer: ContainingAnswer) -> Said {
+pub fn containing(answer: ContainingAnswer) -> Result<[u32; 2], Refusal> {
     match answer {
-        ContainingAnswer::Run(r) => given(pattern, 0, r.0),
-        ContainingAnswer::Before => given(pattern, 1, 0),
-        ContainingAnswer::Unknown => given(pattern, 2, 0),
-        ContainingAnswer::Refused(r) => refused(pattern, r),
+        ContainingAnswer::Run(r) => Ok([0, r.0]),
+        ContainingAnswer::Before => Ok([1, 0]),
+        ContainingAnswer::Unknown => Ok([2, 0]),
+        ContainingAnswer::Refused(r) => Err(r),
     }
 }
 
-fn bit(b: bool) -> u32 {
-    if b { 1 } else { 0 }
-}
-
-pub fn truth(pattern: u32, answer: BoolAnswer) -> Said {
+pub fn truth(answer: BoolAnswer) -> Result<bool, Refusal> {
     match answer {
-        BoolAnswer::Told(b) => given(pattern, bit(b), 0),
-        BoolAnswer::Refused(r) => refused(pattern, r),
+        BoolAnswer::Told(b) => Ok(b),
+        BoolAnswer::Refused(r) => Err(r),
     }
-}
-
-// A written list's: the count stands after the refusal, refused or not.
-pub fn written(pattern: u32, w: Written) -> Said {
-    let answer = w.outcome;
-    let mut s = outcome(pattern, answer);
-    s.b = words::wide_count(w.count);
-    s
-}
-
-// A walk's or a replay's: so do its two counts.
-pub fn walked(pattern: u32, w: Walked) -> Said {
-    let answer = w.outcome;
-    let mut s = outcome(pattern, answer);
-    s.b = w.count;
-    s.c = w.moved;
-    s
 }
