@@ -15,6 +15,7 @@ pub enum Task {
     WantedParents,
 }
 
+// By its number in the script.
 impl From<u32> for Task {
     fn from(word: u32) -> Task {
         match word {
@@ -37,6 +38,7 @@ pub struct Script<'a> {
 }
 
 impl<'a> Script<'a> {
+    // The script that the words are.
     pub fn new(words: &'a [u32; WORDS]) -> Script<'a> {
         Script {
             times: words[0],

@@ -98,7 +98,7 @@ ok_mapped (Err x) s Q k h e =
 
 -- of a reading whose failure was given another type
 module _ {D : Type 0} (r : Reading) (got : Result ℕ Error) (s : Result ℕ D) (Q : Error → D → Type 0) (k : ℕ)
-         (gave : got ≡ filled_of r) (mapped : MatchResult got (λ x. s ≡ Ok x) (λ e. IsErrAnd s (Q e))) (was : s ≡ Ok k) where
+    (gave : got ≡ filled_of r) (mapped : MatchResult got (λ x. s ≡ Ok x) (λ e. IsErrAnd s (Q e))) (was : s ≡ Ok k) where
   pub came_mapped : Came r k
   came_mapped = sym gave ∙ ok_mapped got s Q k mapped was
 

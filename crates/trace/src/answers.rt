@@ -16,7 +16,7 @@ pub fn put<const N: usize>(answer: Result<[u32; N], Refusal>, out: &mut Out) -> 
     out.words(&values)
 }
 
-// Each kind of answer.
+// Each kind of answer, as a Result.
 pub fn outcome(answer: Outcome) -> Result<(), Refusal> {
     match answer {
         Outcome::Done => Ok(()),

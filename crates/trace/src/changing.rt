@@ -5,11 +5,13 @@ use model::{CausalGraph, EventIndex, Pushed, Started};
 use std::io;
 use std::io::Write;
 
+// A new graph.
 pub fn new(g: &mut CausalGraph, out: &mut Out) -> io::Result<()> {
     *g = graph::fresh::new();
     out.write_all(b"new")
 }
 
+// A graph after so many events, with a frontier.
 pub fn after(
     g: &mut CausalGraph,
     events: EventIndex,
@@ -40,6 +42,7 @@ fn either_start(g: CausalGraph, at: EventIndex) -> Started {
     }
 }
 
+// A push, in either form.
 pub fn push(g: &mut CausalGraph, len: u32, parents: &[u32], out: &mut Out) -> io::Result<()> {
     let pushed = either_push(*g, parents, len);
     *g = pushed.graph;
@@ -50,6 +53,7 @@ pub fn push(g: &mut CausalGraph, len: u32, parents: &[u32], out: &mut Out) -> io
     )
 }
 
+// A run start, in either form.
 pub fn start(g: &mut CausalGraph, at: EventIndex, out: &mut Out) -> io::Result<()> {
     let started = either_start(*g, at);
     *g = started.graph;
@@ -57,7 +61,7 @@ pub fn start(g: &mut CausalGraph, at: EventIndex, out: &mut Out) -> io::Result<(
     answers::put(answers::truth(started.answer).map(|b| [u32::from(b)]), out)
 }
 
-// Lent.
+// A take of the first changed run, lent.
 pub fn take(g: &mut CausalGraph, out: &mut Out) -> io::Result<()> {
     let taken = calls::lending::take_changed_from(*g);
     *g = taken.graph;

@@ -4,10 +4,11 @@ ghost use Rattle.std.specs.Prelude.{◌≤◌};
 
 use crate::output::Out;
 use crate::{Stop, answers};
-use model::{CausalGraph, EventRunIndex, MAX_RUNS, MAX_STARTS, Outcome, Walked, Written, number};
+use model::{CausalGraph, EventRunIndex, MAX_RUNS, MAX_STARTS, Walked, Written};
 use std::io;
 use std::io::Write;
 
+// What stands where nothing is written.
 pub const BLANK: u32 = u32::MAX;
 
 // The rows of any range, a word more for each run, and the room of the steps or of another list that a call writes.
@@ -29,6 +30,7 @@ pub struct Room<const MOST: usize> {
     ghost within: { words ≤ MOST },
 }
 
+// A room of more words than the list has is a bad script.
 impl<const MOST: usize> TryFrom<u32> for Room<MOST> {
     type Error = Stop;
 
@@ -49,14 +51,6 @@ impl<const MOST: usize> Room<MOST> {
     }
 }
 
-// The number of what refused a call, or 0.
-fn refused(outcome: Outcome) -> u64 {
-    match outcome {
-        Outcome::Done => 0,
-        Outcome::Refused(r) => u64::from(number(r)),
-    }
-}
-
 // What a call wrote into a list, which is made BLANK again.
 fn list(list: &mut [u32], out: &mut Out) -> io::Result<()> {
     let n = list
@@ -72,7 +66,7 @@ fn list(list: &mut [u32], out: &mut Out) -> io::Result<()> {
 // A written list's line: the count stands after the refusal, refused or not.
 fn written(name: &str, w: Written, words: &mut [u32], out: &mut Out) -> io::Result<()> {
     out.write_all(name.as_bytes())?;
-    out.number(refused(w.outcome))?;
+    answers::put(answers::outcome(w.outcome).map(|()| []), out)?;
     out.number(w.count as u64)?;
     list(words, out)
 }
@@ -86,13 +80,14 @@ fn walked(
     out: &mut Out,
 ) -> io::Result<()> {
     out.write_all(name.as_bytes())?;
-    out.number(refused(w.outcome))?;
+    answers::put(answers::outcome(w.outcome).map(|()| []), out)?;
     out.number(w.count)?;
     out.number(w.moved)?;
     list(rows, out)?;
     list(steps, out)
 }
 
+// The cut from a run on.
 pub fn cut(
     g: &CausalGraph,
     from: EventRunIndex,
@@ -103,11 +98,13 @@ pub fn cut(
     written("cut", w, words, out)
 }
 
+// The archive points.
 pub fn archive(g: &CausalGraph, words: &mut [u32], out: &mut Out) -> io::Result<()> {
     let w = versions::archive::archive_points(*g, words);
     written("archive", w, words, out)
 }
 
+// The concurrency list of a run.
 pub fn concurrent(
     g: &CausalGraph,
     run: EventRunIndex,
@@ -118,11 +115,13 @@ pub fn concurrent(
     written("concurrent", w, words, out)
 }
 
+// The parents that give just the events of the ranges.
 pub fn wanted(g: &CausalGraph, ranges: &[u32], words: &mut [u32], out: &mut Out) -> io::Result<()> {
     let w = versions::wanted::wanted_parents(*g, ranges, words);
     written("wanted", w, words, out)
 }
 
+// A walk over a range of runs.
 pub fn walk(
     g: &CausalGraph,
     first_run: EventRunIndex,
@@ -137,6 +136,7 @@ pub fn walk(
     walked("walk", w, rows, steps, out)
 }
 
+// The full replay.
 pub fn replay(
     g: &CausalGraph,
     rows: &mut [u32],
