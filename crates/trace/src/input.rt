@@ -1,6 +1,7 @@
 // The script's words, little-endian, from standard input by way of a buffer, whose length is a multiple of four: a word never
 // stands half in one filling of it and half in the next.
 ghost use Rattle.std.specs.Prelude.{◌≤◌};
+ghost use Rattle.trace.specs.declared.input.TheConstants.{BYTES};
 
 use crate::Stop;
 use std::io::Stdin;
@@ -16,7 +17,7 @@ pub struct Source {
     at: usize,
     end: usize,
     ghost rising: { at ≤ end },
-    ghost within: { end ≤ 65536 },
+    ghost within: { end ≤ BYTES },
 }
 
 impl Source {

@@ -1,5 +1,6 @@
 // Standard output, by way of a buffer.
 ghost use Rattle.std.specs.Prelude.{◌≡◌, ◌≤◌, OnOk};
+ghost use Rattle.trace.specs.declared.output.TheConstants.{BYTES};
 
 use std::io;
 use std::io::{Stdout, Write};
@@ -13,7 +14,7 @@ pub struct Out {
     stdout: Stdout,
     bytes: [u8; BYTES],
     used: usize,
-    ghost within: { used ≤ 65536 },
+    ghost within: { used ≤ BYTES },
 }
 
 impl Write for Out {
