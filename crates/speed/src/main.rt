@@ -55,7 +55,7 @@ fn build<'a>(script: &Script<'a>) -> Built<'a> {
         built = Built {
             graph: pushed.graph,
             rest,
-            refused: matches!(pushed.answer, Err(_)),
+            refused: pushed.answer.is_err(),
         };
     }
     built
@@ -76,7 +76,7 @@ fn walked(w: Walked) -> Told {
     Told {
         count: w.count,
         moved: w.moved,
-        refused: matches!(w.outcome, Err(_)),
+        refused: w.outcome.is_err(),
     }
 }
 
@@ -85,7 +85,7 @@ fn listed(w: Written) -> Told {
     Told {
         count: w.count as u64,
         moved: 0,
-        refused: matches!(w.outcome, Err(_)),
+        refused: w.outcome.is_err(),
     }
 }
 
