@@ -2,7 +2,7 @@
 use mathlib.Core.Path.{◌≡◌, sym, ap, ◌∙◌, subst}
 use mathlib.Core.Bool.{true}
 use mathlib.Core.List.{List}
-use Prim.Native.Nat.{ℕ, ◌+◌, ◌*◌, ◌≤◌, ◌<◌}
+use Prim.Native.Nat.{ℕ, ◌+◌, ◌≤◌, ◌<◌}
 use native.Mathlib.Omega.{arith}
 use lib.ListN.{length, get_or, take}
 use Rattle.lists.specs.Lists.{rising}
@@ -12,7 +12,6 @@ use Rattle.model.specs.Cover.{weights}
 use Rattle.tables.specs.declared.rows.Area.{Area}
 use Rattle.tables.specs.Lanes.{lane}
 use Rattle.tables.specs.Laid.{shares, heads_in, items_in, grouped, chs, row_at, chains_of, Laid, RangeLaid}
-use Rattle.tables.specs.Covers.{cover_words}
 use Rattle.tables.specs.Tables.{Listed, Sums, size_in}
 use Rattle.tables.specs.Indexed.{Indexable, IndexOf}
 use Rattle.tables.specs.Sizes.{Inside, row_in}

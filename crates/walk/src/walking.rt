@@ -124,9 +124,7 @@ fn walk_held(
         short: 0,
     };
     let mut areas = Areas::new();
-    walked(walk_range(
-        out, a, b, known, first, &g, rows, steps, &mut areas,
-    ))
+    walked(walk_range(out, a, b, known, first, &g, rows, steps, &mut areas))
 }
 
 // The walk over the runs from `first_run` up to `end_run`: rows into `rows`, steps into `steps`.

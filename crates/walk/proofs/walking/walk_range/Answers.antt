@@ -1,5 +1,5 @@
 -- `walk::walking::walk_range`: a range's rows, tables and steps.
-use Rattle.std.proofs.Common.{◌≡◌, List, ℕ, ◌+◌, ◌-◌, ◌≤◌, refl, sym, subst, ◌∙◌, arith}
+use Rattle.std.proofs.Common.{List, ℕ, ◌+◌, ◌-◌, ◌≤◌, refl, sym, subst, arith}
 use Rattle.tables.specs.Laid.{shares, RangeLaid}
 use Rattle.walk.specs.Ranges.{range_at}
 use Rattle.walk.specs.Prepare.{Measured, Relatable, Related}

@@ -1,9 +1,9 @@
 -- `walk::ready::Waits::start_all`: no run, a run more, and all of them.
-use Rattle.std.proofs.Common.{◌≡◌, List, ℕ, ◌+◌, ◌<◌, replicate, refl, sym, ap, ◌∙◌, subst, length, drop, arith}
+use Rattle.std.proofs.Common.{ℕ, ◌+◌, sym, ap, ◌∙◌, subst, length, drop, arith}
 use Rattle.std.proofs.lemmas.List.{length-replicate}
 use Rattle.model.specs.History.{at}
 use Rattle.walk.specs.Given.{Given, parents_for, Prepared}
-use Rattle.walk.specs.Readiness.{Wakes, none_waits, start_of, start_all, start_waits}
+use Rattle.walk.specs.Readiness.{Wakes, start_of, start_all, start_waits}
 use Rattle.walk.proofs.Looping.{size}
 use Rattle.walk.proofs.Starting.{start-next, start_end, start_keep, start_few}
 use Rattle.walk.proofs.ready.Waits.start_all.Goals as goal
