@@ -31,6 +31,7 @@ fn count_all(starts: &mut [u32], parents: &Jagged)
     ensures small { (k : ℕ) → get_or starts.new k 0 ≤ 2 ^ 20 }
 {
     starts.fill(0);
+    // By number: rows are cut from the items as they are asked for, and stand in no slice to go over
     for r in 0..parents.len() {
         count_parents(starts, parents.row(r));
     }

@@ -1,11 +1,9 @@
 // Covers in words, so many to a run, and weights.
-ghost use Rattle.std.specs.Prelude.{◌≡◌, ◌+◌, ◌-◌, ◌*◌, ◌/◌, ◌%◌, ◌<◌, ◌≤◌, ◌^◌, length, get_or, set, replicate};
-ghost use Rattle.std.proofs.Math.Seq.{paste};
-ghost use Rattle.std.specs.Int.Bits.{bit_or};
-ghost use Rattle.lists.specs.Lists.{count, ceil};
+ghost use Rattle.std.specs.Prelude.{◌≡◌, ◌+◌, ◌*◌, ◌<◌, ◌≤◌, ◌^◌, length, replicate};
+ghost use Rattle.lists.specs.Lists.{count};
 ghost use Rattle.model.specs.Limits.{cover_bits, max_runs};
 ghost use Rattle.model.specs.Cover.{per_bit, either};
-ghost use Rattle.tables.specs.Covers.{word_bits, cover_words, bits_of, bits_in, cover_at, range_bits, join_of, offset, run_bits, Inside, Covered, Weighable, Weighted};
+ghost use Rattle.tables.specs.Covers.{word_bits, cover_words, bits_in, cover_at, range_bits, join_of, offset, Inside, Covered, Weighable, Weighted};
 
 use crate::jagged::Jagged;
 use crate::words::get;
