@@ -183,22 +183,22 @@ TABLES = [
 ]
 
 WALK = [
-    ("walking::walk", "weighs all ready runs", "choice.rt", "if n < MAX_WEIGHED { n } else { MAX_WEIGHED }", "if n < MAX_WEIGHED { n } else { n }"),
-    ("walking::walk", "weighs the last 65", "choice.rt", "if n < MAX_WEIGHED { n } else { MAX_WEIGHED }", "if n < 65 { n } else { 65 }"),
+    ("walking::walk", "weighs all ready runs", "choice.rt", "m.saturating_sub(MAX_WEIGHED)", "m.saturating_sub(m)"),
+    ("walking::walk", "weighs the last 65", "choice.rt", "m.saturating_sub(MAX_WEIGHED)", "m.saturating_sub(65)"),
     ("walking::walk", "weighs the oldest first", "oldest_first"),
     ("walking::walk", "measures on after cost 0", "measured_on"),
-    ("walking::walk", "a tie goes to the older", "choice.rt", "if weight < b.weight {", "if weight <= b.weight {"),
-    ("walking::walk", "first is ignored", "walking.rt", "clamped(known, first, n)", "clamped(known, known, n)"),
-    ("walking::walk", "first below known is taken as it is", "walking.rt", "known.max(first)", "first"),
+    ("walking::walk", "a tie goes to the older", "choice.rt", "a.weight < b.weight", "a.weight <= b.weight"),
+    ("walking::walk", "first is ignored", "walking.rt", "clamped(known, first, runs)", "clamped(known, known, runs)"),
+    ("walking::walk", "first below known is taken as it is", "walking.rt", "known.max(first.min(runs))", "0u32.max(first.min(runs))"),
     ("walking::walk", "13 in place of 11", "walking.rt", "Err(Refusal::ListTooShort)", "Err(Refusal::RowsTooLong)"),
-    ("walking::walk", "writes no steps", "visiting.rt", "ready: got,", "ready: 0,"),
+    ("walking::walk", "writes no steps", "ready.rt", "self.ready[self.count] = r;\n        self.count += 1;", "self.ready[self.count] = r;\n        self.count += 0;"),
     ("replaying::replay", "opens and applies without moves", "replaying.rt", "if kind == 0 {", "if kind / 2 == 0 {"),
-    ("replaying::replay", "writes no steps", "replaying.rt", "        w.count,\n", "        0,\n"),
-    ("replaying::replay", "works in the first range only", "replaying.rt", "if r.rows != 0 {", "if r.count != 0 {"),
-    ("replaying::replay", "moved is the step count", "replaying.rt", "moved: o.moved,", "moved: o.count,"),
-    ("replaying::replay", "opens no run", "replaying.rt", "out_of(r), 3, a.0, b.0, 0)", "out_of(r), 3, a.0, a.0, 0)"),
-    ("replaying::replay", "count 0 under 13", "walking.rt", "count: out.count,", "count: 0,"),
-    ("replaying::replay", "takes a range's first run as known", "replaying.rt", "o, a, b, 0, 0, starts,", "o, a, b, 1, 0, starts,"),
+    ("replaying::replay", "writes no steps", "replaying.rt", "replay_all(w.count, &cut", "replay_all(0, &cut"),
+    ("replaying::replay", "works in the first range only", "replaying.rt", "for i in 0..n {", "for i in 0..n.min(1) {"),
+    ("replaying::replay", "moved is the step count", "walking.rt", "moved: r.out.moved,", "moved: r.out.count,"),
+    ("replaying::replay", "opens no run", "replaying.rt", "r.out, 3, a.0, b.0, 0)", "r.out, 3, a.0, a.0, 0)"),
+    ("replaying::replay", "count 0 under 13", "walking.rt", "            out,\n            rows_too_long: true,", "            out: Out { count: 0, moved: out.moved, short: out.short },\n            rows_too_long: true,"),
+    ("replaying::replay", "takes a range's first run as known", "replaying.rt", "walk_range(out, a, b, 0, 0, graph", "walk_range(out, a, b, 1, 0, graph"),
 ]
 
 BOOK = [

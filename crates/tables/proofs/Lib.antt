@@ -3,6 +3,7 @@
 pub mod JaggedRows
 pub mod Laning
 pub mod Scratch
+pub mod InPlace
 -- Chains and rows of a range
 pub mod Prefixes
 pub mod Chaining

@@ -1,4 +1,4 @@
--- What `index` leaves: the lists made in the scratch area, stored in the tables. Assumes nothing.
+-- What `index` leaves: the sums in their area, and all together. Assumes nothing.
 use mathlib.Core.Path.{◌≡◌, refl, sym, ap, ◌∙◌, subst}
 use mathlib.Core.Logic.{◌⊎◌, inl, inr}
 use mathlib.Core.List.{List, ◌++◌}
@@ -12,64 +12,18 @@ use Rattle.tables.specs.Tables.{size_in}
 use Rattle.tables.specs.Indexed.{sum_below, Summed, Bounded, BoundedTo, Placed, pos, Scattered, IndexOf}
 use Rattle.tables.proofs.Laning.{lane_lent, kept_trans, kept_fewer}
 
--- Lists lent from the tables
-lent_1 : (w : ℕ) (t : List ℕ) → take (2 * w - w) (drop w t) ≡ lane 1 w t
-lent_1 w t = lane_lent 1 w w (2 * w) t (omega arith) (omega arith)
-
-lent_2 : (w : ℕ) (t : List ℕ) → take (3 * w - 2 * w) (drop (2 * w) t) ≡ lane 2 w t
-lent_2 w t = lane_lent 2 w (2 * w) (3 * w) t refl (omega arith)
-
-lent_3 : (w : ℕ) (t : List ℕ) → take (4 * w - 3 * w) (drop (3 * w) t) ≡ lane 3 w t
-lent_3 w t = lane_lent 3 w (3 * w) (4 * w) t refl (omega arith)
-
-lent_4 : (w : ℕ) (t : List ℕ) → take (5 * w - 4 * w) (drop (4 * w) t) ≡ lane 4 w t
-lent_4 w t = lane_lent 4 w (4 * w) (5 * w) t refl (omega arith)
-
+-- The members, lent from the tables
 lent_5 : (w : ℕ) (t : List ℕ) → take (6 * w - 5 * w) (drop (5 * w) t) ≡ lane 5 w t
 lent_5 w t = lane_lent 5 w (5 * w) (6 * w) t refl (omega arith)
 
-placed_same : (b b' c c' p p' e : List ℕ) (n : ℕ) → b ≡ b' → c ≡ c' → p ≡ p' → Placed (pos b c p) n e → Placed (pos b' c' p') n e
+pub placed_same : (b b' c c' p p' e : List ℕ) (n : ℕ) → b ≡ b' → c ≡ c' → p ≡ p' → Placed (pos b c p) n e → Placed (pos b' c' p') n e
 placed_same b b' c c' p p' e n x y z h m lt = ap (λ (k : ℕ). get_or e k 0) (same m) ∙ h m lt
   where
     same : (m : ℕ) → pos b' c' p' m ≡ pos b c p m
     same m = rw (x, y, z)
 
-scattered-same : (b b' c c' p p' : List ℕ) (n : ℕ) → b ≡ b' → c ≡ c' → p ≡ p' → Scattered b' c' p' n → Scattered b c p n
+pub scattered-same : (b b' c c' p p' : List ℕ) (n : ℕ) → b ≡ b' → c ≡ c' → p ≡ p' → Scattered b' c' p' n → Scattered b c p n
 scattered-same b b' c c' p p' n x y z h = rw (x, y, z) h
-
--- Where the members begin
-pub begins-ready : (w : ℕ) (t : List ℕ) → Bounded 512 (lane 3 w t) → Bounded 512 (take (4 * w - 3 * w) (drop (3 * w) t))
-begins-ready w t h = subst (Bounded 512) (sym (lent_3 w t)) h
-
-pub begins-stored : (w chains : ℕ) (t t' s e : List ℕ) →
-    Summed (λ i. get_or (take (4 * w - 3 * w) (drop (3 * w) t)) i 0) chains e × Bounded (2 ^ 18) e × (length e ≡ length (take w s)) →
-    (lane 4 w t' ≡ e) × Kept 4 w t' t →
-    Summed (λ i. get_or (lane 3 w t) i 0) chains (lane 4 w t') × Bounded (2 ^ 18) (lane 4 w t') × Kept 4 w t' t × (length (e ++ drop w s) ≡ length s)
-begins-stored w chains t t' s e h q = (
-  (λ k l. ap (λ (x : List ℕ). get_or x k 0) q.0 ∙ (h.0 k l ∙ ap (λ (x : List ℕ). sum_below (λ i. get_or x i 0) k) (lent_3 w t))),
-  subst (Bounded (2 ^ 18)) (sym q.0) h.1,
-  q.1,
-  length_front s e w h.2,
-)
-
--- The members
-pub members-ready : (w n : ℕ) (t : List ℕ) → Scattered (lane 4 w t) (lane 1 w t) (lane 2 w t) n →
-    Scattered (take (5 * w - 4 * w) (drop (4 * w) t)) (take (2 * w - w) (drop w t)) (take (3 * w - 2 * w) (drop (2 * w) t)) n
-members-ready w n t h =
-    scattered-same (take (5 * w - 4 * w) (drop (4 * w) t)) (lane 4 w t) (take (2 * w - w) (drop w t)) (lane 1 w t) (take (3 * w - 2 * w) (drop (2 * w) t)) (lane 2 w t) n (lent_4 w t) (lent_1 w t) (lent_2 w t) h
-
-pub members-stored : (w n : ℕ) (t t' s e : List ℕ) →
-    Placed (pos (take (5 * w - 4 * w) (drop (4 * w) t)) (take (2 * w - w) (drop w t)) (take (3 * w - 2 * w) (drop (2 * w) t))) n e × Bounded 511 e × (length e ≡ length (take w s)) →
-    (lane 5 w t' ≡ e) × Kept 5 w t' t →
-    Placed (pos (lane 4 w t) (lane 1 w t) (lane 2 w t)) n (lane 5 w t') × Bounded 511 (lane 5 w t') × Kept 5 w t' t × (length (e ++ drop w s) ≡ length s)
-members-stored w n t t' s e h q =
-    let r : Placed (pos (lane 4 w t) (lane 1 w t) (lane 2 w t)) n e =
-    placed_same (take (5 * w - 4 * w) (drop (4 * w) t)) (lane 4 w t) (take (2 * w - w) (drop w t)) (lane 1 w t) (take (3 * w - 2 * w) (drop (2 * w) t)) (lane 2 w t) e n (lent_4 w t) (lent_1 w t) (lent_2 w t) h.0 in (
-      subst (Placed (pos (lane 4 w t) (lane 1 w t) (lane 2 w t)) n) (sym q.0) r,
-      subst (Bounded 511) (sym q.0) h.1,
-      q.1,
-      length_front s e w h.2,
-    )
 
 -- The sums
 pub sums-stored : (n : ℕ) (starts t s e : List ℕ) → n + 1 ≤ length s →

@@ -29,16 +29,12 @@ pub struct Sums<'a> {
 }
 
 impl<'a> Sums<'a> {
-    // The events before a place of chain c.
-    fn up_to(self, c: usize, place: u32) -> u64
-        ensures value { result ≡ get_or self.entry.before.now (get_or self.entry.begins.now c 0 + place) 0 }
+    // The events before a place of the chain whose members begin at `begin`.
+    fn up_to(self, begin: u32, place: u32) -> u64
+        ensures value { result ≡ get_or self.entry.before.now (begin + place) 0 }
         ensures small { result ≤ 2 ^ 41 }
     {
-        item(
-            self.before,
-            item(self.begins, c, 0) as usize + place as usize,
-            0,
-        )
+        item(self.before, begin as usize + place as usize, 0)
     }
 
     // The events in just one of the two versions along one chain.
@@ -46,8 +42,9 @@ impl<'a> Sums<'a> {
         ensures value { result ≡ gap_at self.entry.before.now self.entry.begins.now current.now row.now c }
         ensures small { result ≤ 2 ^ 41 }
     {
-        self.up_to(c, item(current, c, 0))
-            .abs_diff(self.up_to(c, item(row, c, 0)))
+        let begin = item(self.begins, c, 0);
+        self.up_to(begin, item(current, c, 0))
+            .abs_diff(self.up_to(begin, item(row, c, 0)))
     }
 
     // The events in just one of the two versions, counted until past `limit`.
@@ -70,8 +67,9 @@ impl<'a> Sums<'a> {
         ensures value { result ≡ share_at self.entry.before.now self.entry.begins.now row.now c }
         ensures small { result ≤ 2 ^ 41 }
     {
-        self.up_to(c, item(row, c, 0))
-            .saturating_sub(self.up_to(c, 0))
+        let begin = item(self.begins, c, 0);
+        self.up_to(begin, item(row, c, 0))
+            .saturating_sub(self.up_to(begin, 0))
     }
 
     // The events of a version.

@@ -42,41 +42,35 @@ pub fn lay<'a>(
 }
 
 // Where each chain's members begin.
-fn list_begins(n: usize, chains: usize, tables: &mut [u32], scratch: &mut [u32])
-    requires { (n ≤ max_runs) × (chains ≤ n) × (6 * (n + 1) ≤ length tables.old) × (n + 1 ≤ length scratch.old) × Bounded max_runs (lane 3 (n + 1) tables.old) }
-    ensures { Summed (λ i. get_or (lane 3 (n + 1) tables.old) i 0) chains (lane 4 (n + 1) tables.new) × Bounded (2 ^ 18)
-        (lane 4 (n + 1) tables.new) × Kept 4 (n + 1) tables.new tables.old × (length scratch.new ≡ length scratch.old) }
+fn list_begins(n: usize, chains: usize, tables: &mut [u32])
+    requires few { (n ≤ max_runs) × (chains ≤ n) }
+    requires room { 6 * (n + 1) ≤ length tables.old }
+    requires short { Bounded max_runs (lane 3 (n + 1) tables.old) }
+    ensures begins { Summed (λ i. get_or (lane 3 (n + 1) tables.old) i 0) chains (lane 4 (n + 1) tables.new) }
+    ensures small { Bounded (2 ^ 18) (lane 4 (n + 1) tables.new) }
+    ensures kept { Kept 4 (n + 1) tables.new tables.old }
 {
     let w = n + 1;
     let c = 3 * w;
-    let d = 4 * w;
-    let e = 5 * w;
-    members::begins_of(&mut scratch[..w], &tables[c..d], chains);
-    tables[d..e].copy_from_slice(&scratch[..w]);
+    let (front, back) = tables.split_at_mut(4 * w);
+    members::begins_of(&mut back[..w], &front[c..], chains);
 }
 
 // The members.
-fn list_members(n: usize, tables: &mut [u32], scratch: &mut [u32])
-    requires { (n ≤ max_runs) × (6 * (n + 1) ≤ length tables.old) × (n + 1 ≤ length scratch.old) × Scattered (lane 4 (n + 1) tables.old) (lane 1 (n + 1) tables.old)
-        (lane 2 (n + 1) tables.old) n }
-    ensures { Placed (pos (lane 4 (n + 1) tables.old) (lane 1 (n + 1) tables.old) (lane 2 (n + 1) tables.old)) n
-        (lane 5 (n + 1) tables.new) × Bounded 511 (lane 5 (n + 1) tables.new) × Kept 5 (n + 1) tables.new tables.old ×
-        (length scratch.new ≡ length scratch.old) }
+fn list_members(n: usize, tables: &mut [u32])
+    requires few { n ≤ max_runs }
+    requires room { 6 * (n + 1) ≤ length tables.old }
+    requires scattered { Scattered (lane 4 (n + 1) tables.old) (lane 1 (n + 1) tables.old) (lane 2 (n + 1) tables.old) n }
+    ensures members { Placed (pos (lane 4 (n + 1) tables.old) (lane 1 (n + 1) tables.old) (lane 2 (n + 1) tables.old)) n (lane 5 (n + 1) tables.new) }
+    ensures small { Bounded 511 (lane 5 (n + 1) tables.new) }
+    ensures kept { Kept 5 (n + 1) tables.new tables.old }
 {
     let w = n + 1;
     let b = 2 * w;
     let c = 3 * w;
     let d = 4 * w;
-    let e = 5 * w;
-    let f = 6 * w;
-    members::members_of(
-        &mut scratch[..w],
-        &tables[d..e],
-        &tables[w..b],
-        &tables[b..c],
-        n,
-    );
-    tables[e..f].copy_from_slice(&scratch[..w]);
+    let (front, back) = tables.split_at_mut(5 * w);
+    members::members_of(&mut back[..w], &front[d..], &front[w..b], &front[b..c], n);
 }
 
 // The events of the first members.
@@ -92,23 +86,18 @@ fn sum_events(starts: &[u32], n: usize, tables: &[u32], before: &mut [u64])
 }
 
 // Members and their sums.
-pub fn index(
-    starts: &[u32],
-    n: usize,
-    chains: usize,
-    tables: &mut [u32],
-    before: &mut [u64],
-    scratch: &mut [u32],
-)
-    requires { Indexable n chains (lane 3 (n + 1) tables.old) (lane 1 (n + 1) tables.old) (lane 2 (n + 1) tables.old) × (6 * (n + 1) ≤ length tables.old) ×
-        (n + 1 ≤ length before.old) × (n + 1 ≤ length scratch.old) }
-    ensures { IndexOf starts.now n chains (lane 3 (n + 1) tables.old) (lane 1 (n + 1) tables.old) (lane 2 (n + 1) tables.old)
-        (lane 4 (n + 1) tables.new) (lane 5 (n + 1) tables.new) before.new × Kept 4 (n + 1) tables.new tables.old ×
-        (Bounded (2 ^ 41) before.old → Bounded (2 ^ 41) before.new) × (length before.new ≡ length before.old) ×
-        (length scratch.new ≡ length scratch.old) }
+pub fn index(starts: &[u32], n: usize, chains: usize, tables: &mut [u32], before: &mut [u64])
+    requires indexable { Indexable n chains (lane 3 (n + 1) tables.old) (lane 1 (n + 1) tables.old) (lane 2 (n + 1) tables.old) }
+    requires tables { 6 * (n + 1) ≤ length tables.old }
+    requires before { n + 1 ≤ length before.old }
+    ensures index { IndexOf starts.now n chains (lane 3 (n + 1) tables.old) (lane 1 (n + 1) tables.old) (lane 2 (n + 1) tables.old)
+        (lane 4 (n + 1) tables.new) (lane 5 (n + 1) tables.new) before.new }
+    ensures kept { Kept 4 (n + 1) tables.new tables.old }
+    ensures small { Bounded (2 ^ 41) before.old → Bounded (2 ^ 41) before.new }
+    ensures before_len_unchanged { length before.new ≡ length before.old }
 {
-    list_begins(n, chains, tables, scratch);
-    list_members(n, tables, scratch);
+    list_begins(n, chains, tables);
+    list_members(n, tables);
     sum_events(starts, n, tables, before);
 }
 
@@ -142,26 +131,17 @@ pub fn weights(
     tables: &mut [u32],
     children: &[u32],
     covers: &mut [CoverWord],
-    scratch: &mut [u32],
 )
-    requires { (8 * (n + 1) ≤ length tables.old) × (n + 1 ≤ length scratch.old) × (n * cover_words ≤ length covers.old) × Weighable starts.now
-        (lane 6 (n + 1) tables.old) children.now n }
+    requires tables { 8 * (n + 1) ≤ length tables.old }
+    requires covers { n * cover_words ≤ length covers.old }
+    requires weighable { Weighable starts.now (lane 6 (n + 1) tables.old) children.now n }
     ensures weighted { Weighted starts.now (lane 6 (n + 1) tables.old) children.now n (lane 7 (n + 1) tables.new) }
     ensures kept { Kept 7 (n + 1) tables.new tables.old }
 {
     let w = n + 1;
     let f = 6 * w;
-    let g = 7 * w;
-    let h = 8 * w;
-    covers::weights_of(
-        &mut scratch[..w],
-        covers,
-        starts,
-        &tables[f..g],
-        children,
-        n,
-    );
-    tables[g..h].copy_from_slice(&scratch[..w]);
+    let (front, back) = tables.split_at_mut(7 * w);
+    covers::weights_of(&mut back[..w], covers, starts, &front[f..], children, n);
 }
 
 // The sizes of the runs' histories.

@@ -1,11 +1,9 @@
 -- The lists of a range's tables as they are lent: parts of one area. Assumes nothing.
-use mathlib.Core.Path.{◌≡◌, refl, sym, ap, ◌∙◌}
+use mathlib.Core.Path.{◌≡◌, sym, ap, ◌∙◌}
 use mathlib.Core.List.{List}
-use Prim.Native.Nat.{ℕ, ◌+◌, ◌-◌, ◌*◌, ◌≤◌, ◌<◌}
-use native.Mathlib.Omega.{arith}
-use lib.ListN.{length, get_or, take, drop, length-drop, length-take}
+use Prim.Native.Nat.{ℕ, ◌+◌, ◌-◌, ◌*◌, ◌<◌}
+use lib.ListN.{length, get_or, take, drop, length-drop}
 use lib.Seq.{take-length, get_or-take}
-use Rattle.lists.specs.Areas.{part}
 use Rattle.tables.specs.Lanes.{lane}
 use Rattle.tables.specs.Laid.{heads_in, items_in}
 use Rattle.tables.proofs.Laning.{lane_lent}
@@ -22,12 +20,3 @@ head_at n r g lt = sym (get_or-take (n + 1) g r 0 lt)
 pub items_are : (n k : ℕ) (g : List ℕ) → k ≡ length g - (n + 1) → take k (drop (n + 1) g) ≡ items_in n g
 unfolding items_in
 items_are n k g e = ap (λ (k : ℕ). take k (drop (n + 1) g)) (e ∙ sym (length-drop (n + 1) g)) ∙ take-length (drop (n + 1) g)
-
--- A part lent between two places
-pub part_lent : (x y a b : ℕ) (l : List ℕ) → a ≡ x → b ≡ y → take (b - a) (drop a l) ≡ part x y l
-unfolding part
-part_lent x y a b l p q = rw (p, q)
-
--- The first n words of a longer list
-pub front_long : (n : ℕ) (l : List ℕ) → length l ≡ 512 → n ≤ 512 → length (take (n - 0) l) ≡ n
-front_long n l e h = length-take (n - 0) l ∙ omega (arith, e, h)

@@ -11,9 +11,8 @@ use native.Mathlib.Omega.{arith}
 use lib.ListN.{length, get_or, take, replicate, length-replicate}
 use lib.Seq.{get_or-take}
 use lib.Dec.{eqb}
-use borrow.Author.Tests.{eq-eqb, ne_eqb, eqb-true}
-use Rattle.lists.specs.Lists.{mem, same, filter, upto, reverse}
-use Rattle.lists.specs.Areas.{part}
+use borrow.Author.Tests.{eqb-true}
+use Rattle.lists.specs.Lists.{mem, filter, upto, reverse}
 use Rattle.lists.proofs.Truth.{false_true, or_cases}
 use Rattle.lists.proofs.Each.{All, members, all_map, all_take, all-reverse}
 use Rattle.lists.proofs.Members.{get_d_mem}
@@ -25,7 +24,6 @@ use Rattle.model.proofs.Choosing.{ready_after}
 use Rattle.tables.specs.Laid.{heads_in, items_in, chs}
 use Rattle.tables.specs.Tables.{Reaches, children_of}
 use Rattle.tables.specs.Gaps.{gaps_from}
-use Rattle.tables.specs.Sizes.{row_in}
 use Rattle.tables.specs.Reached.{started, arrived, Holds, Standing}
 use Rattle.tables.proofs.Chaining.{chs-few}
 use Rattle.tables.proofs.Fitted.{chains_are}
@@ -38,7 +36,7 @@ use Rattle.moves.specs.Moves.{recs, visit_of}
 use Rattle.moves.proofs.Written.{emit_then}
 use Rattle.moves.proofs.Defined.{inside, visit-is}
 use Rattle.walk.specs.Ranges.{range_by}
-use Rattle.walk.specs.Given.{Given, row_starts, chains_in, places_in, begins_in, members_in, weights_in, sums_in, row_for, children_for, parents_for, range_for, chains_for, Prepared}
+use Rattle.walk.specs.Given.{Given, chains_in, places_in, begins_in, members_in, sums_in, row_for, children_for, parents_for, range_for, chains_for, Prepared}
 use Rattle.walk.specs.Choose.{index_of, is_only, only_c, cost_c, weight_c}
 use Rattle.walk.specs.Readiness.{start_all, start_waits, woken_of, taken_out}
 use Rattle.walk.specs.Turns.{Turn, best_in, run_at, AllInside, Turned, Fit, Begun}
@@ -48,7 +46,7 @@ use Rattle.walk.proofs.Distinct.{Once, rising-once}
 use Rattle.walk.proofs.Waiting.{left_of, left-start}
 use Rattle.walk.proofs.Telling.{Tells, told_list, told_none, left-told}
 use Rattle.walk.proofs.Removing.{taken_tells, turn_tells}
-use Rattle.walk.proofs.Starting.{length-grouped, group_of, start_tells}
+use Rattle.walk.proofs.Starting.{length-grouped, start_tells}
 use Rattle.walk.proofs.Turning.{Walking, walk_start, walk_end, walk_next, is-ready, fewer_due}
 
 -- Steps written as records

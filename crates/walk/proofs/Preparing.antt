@@ -1,56 +1,28 @@
 -- A range's tables, once its parents and rows are laid: what they need, and that they are those of the range. Assumes nothing.
-use mathlib.Core.Path.{◌≡◌, refl, sym, ap, ap₂, ◌∙◌, subst}
+use mathlib.Core.Path.{◌≡◌, refl, sym, ap, ap₂, ◌∙◌}
 use mathlib.Core.Logic.{◌⊎◌, inl, inr}
 use mathlib.Core.Bool.{true}
 use mathlib.Core.List.{List, [], ◌∷◌, map}
 use Prim.Native.Nat.{ℕ, zero, suc, ◌+◌, ◌-◌, ◌≤◌, ◌<◌}
 use native.Mathlib.Numerals.{add-one}
 use native.Mathlib.Omega.{arith}
-use lib.ListN.{length, get_or, take, drop, length-take, length-drop, length-map, get_or-eq_default}
+use lib.ListN.{length, get_or, take, drop, length-drop, length-map, get_or-eq_default}
 use lib.Seq.{get_or-take, get_or-drop, take_all, length-take-le}
 use Rattle.lists.specs.Lists.{rising, sum}
 use Rattle.lists.specs.Areas.{part}
 use Rattle.lists.proofs.Truth.{lt_or_le}
 use Rattle.model.specs.History.{at}
 use Rattle.model.specs.Range.{sizes_of}
-use Rattle.tables.specs.Lanes.{lane, Kept}
 use Rattle.tables.specs.Laid.{shares, chs}
 use Rattle.tables.specs.Tables.{Sums, size_in}
-use Rattle.tables.specs.Indexed.{BoundedTo, IndexOf}
 use Rattle.tables.specs.Covers as Covers
-use Rattle.tables.specs.Sizes.{Bounded, Sized}
 use Rattle.tables.proofs.Chaining.{chain_under}
 use Rattle.tables.proofs.Gathering.{shares-length}
 use Rattle.tables.proofs.Ranging.{shares_at}
 use Rattle.tables.proofs.Distances.{sizes-at}
 use Rattle.tables.proofs.Weighing.{offset-is}
 use Rattle.walk.specs.Ranges.{offsets, Arrays}
-use Rattle.walk.specs.Prepare.{Measured}
 use Rattle.walk.proofs.Inside.{numbered_rise}
-
--- What is bounded up to a place is so there cut
-pub bounded_cut : (n b : ℕ) (l : List ℕ) → BoundedTo n b l → Bounded b (take (n + 1) l)
-bounded_cut n b l h k = go (lt_or_le k (n + 1))
-  where
-    go : (k < n + 1) ⊎ (n + 1 ≤ k) → get_or (take (n + 1) l) k 0 ≤ b
-    go (inl lt) = rw (get_or-take (n + 1) l k 0 lt) (h k (omega arith))
-    go (inr ge) = rw (get_or-eq_default (take (n + 1) l) 0 {n = k} (omega (arith, length-take (n + 1) l))) (omega arith)
-
--- Members and sizes stand where later lists are written
-pub measured_kept : (starts : List ℕ) (n chains : ℕ) (rows before sizes t₀ t u : List ℕ) → Measured starts n chains rows before sizes t t₀ → Kept 6 (n + 1) u t →
-    Measured starts n chains rows before sizes u t₀
-measured_kept starts n chains rows before sizes t₀ t u M K =
-    let w : ℕ = n + 1 in
-    let four : lane 4 w t ≡ lane 4 w u = sym (K.lanes 4 (omega arith)) in
-    let five : lane 5 w t ≡ lane 5 w u = sym (K.lanes 5 (omega arith)) in
-    let none : lane 0 w t ≡ lane 0 w u = sym (K.lanes 0 (omega arith)) in
-    record {
-      index = subst (λ (x : List ℕ). IndexOf starts n chains (lane 3 w t₀) (lane 1 w t₀) (lane 2 w t₀) x (lane 5 w u) before) four
-          (subst (λ (x : List ℕ). IndexOf starts n chains (lane 3 w t₀) (lane 1 w t₀) (lane 2 w t₀) (lane 4 w t) x before) five M.index);
-      sizes = subst (λ (x : List ℕ). Sized (take w before) x (lane 0 w u) rows chains n sizes) four
-          (subst (λ (x : List ℕ). Sized (take w before) (lane 4 w t) x rows chains n sizes) none M.sizes);
-      kept = record { size = K.size ∙ M.kept.size; lanes = λ j lt. K.lanes j (omega arith) ∙ M.kept.lanes j lt };
-    }
 
 -- Sizes that agree on the members sum the same
 sum_same : (f g : ℕ → ℕ) (k : ℕ) (c : List ℕ) → ((i : ℕ) → i < length c → f (get_or c i 0) ≡ g (get_or c i 0)) → sum f (take k c) ≡ sum g (take k c)

@@ -4,8 +4,8 @@ use mathlib.Core.Bool.{true, not}
 use mathlib.Core.List.{List, [], ◌∷◌, ◌++◌, append_assoc}
 use Prim.Native.Nat.{ℕ, zero, suc, ◌+◌, ◌-◌, ◌<◌, ◌≤◌}
 use native.Mathlib.Omega.{arith}
-use lib.ListN.{length, get_or, take, drop, set, length-drop, length-take, length-append}
-use lib.Seq.{paste, paste-zero, paste-suc, length_paste_head, get_or-append-add, get_or-drop, take-append_seam}
+use lib.ListN.{length, get_or, take, drop, length-drop, length-take, length-append}
+use lib.Seq.{paste, length_paste_head, take-append_seam}
 use lib.Dec.{eqb}
 use Rattle.lists.specs.Lists.{filter}
 use Rattle.model.specs.Choice.{Range, is_ready}

@@ -67,12 +67,6 @@ group_of starts items n r l h =
     ap₂ (λ (a b : ℕ). part a b items) (get_or-take (n + 1) starts r 0 (omega arith))
     (get_or-take (n + 1) starts (suc r) 0 (omega arith) ∙ ap (λ (k : ℕ). get_or starts k 0) (sym (add-one r)))
 
--- as the part that is lent
-pub lent_group : (starts items : List ℕ) (n r s e : ℕ) → n < length starts → r < n → s ≡ get_or starts r 0 → e ≡ get_or starts (r + 1) 0 →
-    take (e - s) (drop s items) ≡ get_or (grouped starts items n) r []
-unfolding part
-lent_group starts items n r s e l h p q = ap₂ (λ (a b : ℕ). take (b - a) (drop a items)) p q ∙ sym (group_of starts items n r l h)
-
 -- Lengths are kept, and at most one run more is ready
 pub start_keep : (known first : ℕ) (s : Wakes) (r : ℕ) (ps : List ℕ) →
     (length (start_of known first s r ps).1 ≡ length s.1) × (length (start_of known first s r ps).2 ≡ length s.2)

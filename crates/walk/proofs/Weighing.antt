@@ -1,8 +1,8 @@
 -- One candidate weighed, and the next: what a best so far passes over without measuring, and what a distance broken off changes.
 -- Assumes nothing.
-use mathlib.Core.Path.{◌≡◌, refl, sym, ap, subst, ◌∙◌}
+use mathlib.Core.Path.{◌≡◌, sym, ap, subst, ◌∙◌}
 use mathlib.Core.Logic.{◌⊎◌, inl, inr}
-use mathlib.Core.Bool.{Bool, true, false, ◌&&◌, ◌||◌}
+use mathlib.Core.Bool.{Bool, true, false, ◌&&◌}
 use Rattle.std.specs.Prelude.{Option, Some, None}
 use mathlib.Core.List.{List}
 use Prim.Native.Nat.{ℕ, suc, ◌+◌, ◌-◌, ◌≤◌, ◌<◌, ◌^◌}
@@ -72,18 +72,17 @@ unfolding cost_c
 least_cost g current run least here there e p q = rw (e, p, q) (events-apart (sums_in g) (begins_in g) current (row_for g run) 0 g.chains)
 
 -- The next candidate, below place `at`, and none left
-pub scan_next : (t : ℕ → Bool) (d w : ℕ → ℕ) (ready : List ℕ) (n at from : ℕ) (b : Option Best) → from < at → at ≤ n →
-    scan_c t d w ready n (n - (at - 1)) (at - 1 - from)
-    (weigh_c (t (get_or ready (at - 1) 0)) (d (get_or ready (at - 1) 0)) (w (get_or ready (at - 1) 0)) (at - 1) b) ≡
-    scan_c t d w ready n (n - at) (at - from) b
+pub scan_next : (t : ℕ → Bool) (d w : ℕ → ℕ) (ready : List ℕ) (n at from run : ℕ) (b next : Option Best) → from < at → at ≤ n → run ≡ get_or ready (at - 1) 0 →
+    next ≡ weigh_c (t run) (d run) (w run) (at - 1) b → scan_c t d w ready n (n - (at - 1)) (at - 1 - from) next ≡ scan_c t d w ready n (n - at) (at - from) b
 unfolding scan_c
-scan_next t d w ready n at from b h le =
+scan_next t d w ready n at from run b next h le p q =
     let f : at - 1 ≡ n - 1 - (n - at) = omega arith in
     let g : n - (at - 1) ≡ n - at + 1 = omega arith in
     let e : at - from ≡ suc (at - 1 - from) = omega arith in
-    ap (λ (i : ℕ). scan_c t d w ready n i (at - 1 - from) (one (at - 1))) g ∙
+    ap (scan_c t d w ready n (n - (at - 1)) (at - 1 - from)) (q ∙ ap (λ (r : ℕ). weigh_c (t r) (d r) (w r) (at - 1) b) p) ∙
+    (ap (λ (i : ℕ). scan_c t d w ready n i (at - 1 - from) (one (at - 1))) g ∙
     (ap (λ (p : ℕ). scan_c t d w ready n (n - at + 1) (at - 1 - from) (one p)) f ∙
-    sym (ap (λ (k : ℕ). scan_c t d w ready n (n - at) k b) e))
+    sym (ap (λ (k : ℕ). scan_c t d w ready n (n - at) k b) e)))
   where
     one : ℕ → Option Best
     one p = weigh_c (t (get_or ready p 0)) (d (get_or ready p 0)) (w (get_or ready p 0)) p b

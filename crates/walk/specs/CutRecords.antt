@@ -1,5 +1,5 @@
 -- The ranges of a cut as records of three words: kind (0 Linear, else Concurrent), first run, end run (exclusive). Assumes nothing.
-use Rattle.std.specs.Prelude.{cond, List, [], ◌∷◌, ℕ, zero, suc, ◌+◌, ◌-◌, ◌*◌, ◌≤◌, ◌<◌, get_or, eqb}
+use Rattle.std.specs.Prelude.{cond, List, [], ◌∷◌, ℕ, zero, suc, ◌+◌, ◌*◌, ◌≤◌, ◌<◌, get_or, eqb}
 use Rattle.model.specs.Cut.{HistoryRange, linear, concurrent}
 use Rattle.model.specs.declared.record.CausalGraph.{CausalGraph}
 use Rattle.walk.specs.Ranges.{ArraysOf}

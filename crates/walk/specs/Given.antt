@@ -1,5 +1,5 @@
 -- What a walk is given: its range's tables, and that they are those of the range. Assumes nothing.
-use Rattle.std.specs.Prelude.{◌≡◌, true, List, ℕ, ◌+◌, ◌*◌, ◌≤◌, ◌<◌, ◌^◌, length, get_or, take}
+use Rattle.std.specs.Prelude.{◌≡◌, true, List, ℕ, ◌+◌, ◌≤◌, ◌<◌, length, get_or, take}
 use Rattle.lists.specs.Lists.{rising}
 use Rattle.lists.specs.Areas.{part}
 use Rattle.model.specs.Limits.{max_runs}

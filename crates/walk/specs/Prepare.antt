@@ -1,12 +1,12 @@
 -- What it takes to prepare the tables of a range whose rows are laid, and what then stands in them; starts are the range's own. Assumes nothing.
-use Rattle.std.specs.Prelude.{◌≡◌, true, List, ℕ, ◌+◌, ◌*◌, ◌≤◌, ◌<◌, ◌^◌, length, get_or, take}
+use Rattle.std.specs.Prelude.{◌≡◌, true, List, ℕ, ◌+◌, ◌≤◌, ◌<◌, get_or, take}
 use Rattle.lists.specs.Lists.{rising}
 use Rattle.model.specs.History.{at}
 use Rattle.tables.specs.Lanes.{lane, Kept}
 use Rattle.tables.specs.Laid.{heads_in, items_in, grouped, Sound}
 use Rattle.tables.specs.Tables.{Children}
 use Rattle.tables.specs.Indexed.{Indexable, IndexOf}
-use Rattle.tables.specs.Covers.{cover_words, Weighted}
+use Rattle.tables.specs.Covers.{Weighted}
 use Rattle.tables.specs.Sizes.{Inside, Sized}
 
 -- Chains whose members can be listed, and rows that lie in their area

@@ -52,14 +52,7 @@ impl Areas {
             &mut self.before,
             &mut self.scratch,
         );
-        tabling::sizes(
-            n,
-            chains,
-            rows,
-            &self.tables,
-            &self.before,
-            &mut self.sizes,
-        );
+        tabling::sizes(n, chains, rows, &self.tables, &self.before, &mut self.sizes);
     }
 
     // Children and weights; a range with no run has none.

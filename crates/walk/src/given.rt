@@ -1,5 +1,6 @@
 // What a walk is given, and what it reads there of a run.
 ghost use Rattle.std.specs.Prelude.{◌≡◌, ◌+◌, ◌<◌, ◌≤◌, ◌^◌, length, get_or};
+ghost use Rattle.lists.specs.Areas.{part};
 ghost use Rattle.model.specs.Limits.{max_runs};
 ghost use Rattle.model.specs.History.{at};
 ghost use Rattle.tables.specs.Lanes.{lane};
@@ -57,6 +58,16 @@ impl<'a> Model for Given<'a> {
       known = a.known;
       first = a.first;
     }) };
+}
+
+// The part of a list between two places.
+#[tactic(auto, unfolding(lists::specs::Areas::part))]
+fn part(list: &[u32], from: u32, to: u32) -> &[u32]
+    requires { (from ≤ to) × (to ≤ length list.now) }
+    ensures value { result.now ≡ part from to list.now }
+    ensures length { length result.now ≤ length list.now }
+{
+    &list[from as usize..to as usize]
 }
 
 impl<'a> Given<'a> {
@@ -121,9 +132,7 @@ impl<'a> Given<'a> {
         ensures { result.now ≡ row_for self.now run }
     {
         let starts = self.table(0);
-        let s = wide(starts[run]);
-        let e = wide(starts[run + 1]);
-        &self.rows[s..e]
+        part(self.rows, starts[run], starts[run + 1])
     }
 
     pub(crate) fn parents(&self, run: usize) -> &[u32]
@@ -133,10 +142,7 @@ impl<'a> Given<'a> {
     {
         let w = self.runs + 1;
         let areas = self.areas;
-        let s = wide(areas.groups[run]);
-        let e = wide(areas.groups[run + 1]);
-        let items = &areas.groups[w..];
-        &items[s..e]
+        part(&areas.groups[w..], areas.groups[run], areas.groups[run + 1])
     }
 
     pub(crate) fn children(&self, run: usize) -> &[u32]
@@ -145,9 +151,7 @@ impl<'a> Given<'a> {
     {
         let begins = self.table(6);
         let areas = self.areas;
-        let s = wide(begins[run]);
-        let e = wide(begins[run + 1]);
-        &areas.children[s..e]
+        part(&areas.children, begins[run], begins[run + 1])
     }
 
     #[tactic(auto, unfolding(crate::specs::Given::weights_in))]

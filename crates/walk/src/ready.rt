@@ -50,7 +50,7 @@ impl Model for Waits {
 
 impl Waits {
     // No run waits, and none is ready.
-    fn none(runs: usize) -> Waits
+    pub(crate) fn none(runs: usize) -> Waits
         requires { runs ≤ max_runs }
         ensures { result ≡ none_waits runs }
     {
@@ -81,15 +81,14 @@ impl Waits {
         self.count += 1;
     }
 
-    // The same for all runs.
-    pub(crate) fn start_all(given: &Given) -> Waits
-        ensures { result ≡ start_waits given.now }
+    // The same for all runs, where none is started.
+    pub(crate) fn start_all(&mut self, given: &Given)
+        requires { self.old ≡ none_waits given.now.runs }
+        ensures { self.new ≡ start_waits given.now }
     {
-        let mut waits = Waits::none(given.runs);
         for r in 0..given.runs {
-            waits.start_run(r as u32, given.parents(r), given.known, given.first);
+            self.start_run(r as u32, given.parents(r), given.known, given.first);
         }
-        waits
     }
 
     // One less to wait for; at none, the run is ready.

@@ -6,6 +6,7 @@ ghost use Rattle.moves.specs.Moves.{visit_of, recs};
 ghost use Rattle.model.specs.Limits.{max_weighed};
 ghost use Rattle.model.specs.Steps.{steps_of};
 ghost use Rattle.walk.specs.Given.{chains_in, places_in, begins_in, members_in, row_for, range_for};
+ghost use Rattle.walk.specs.Readiness.{none_waits};
 ghost use Rattle.walk.specs.Choose.{index_of, only_c, cost_c, weight_c, scan_c, AllIn};
 ghost use Rattle.walk.specs.Turns.{AllInside, Turned, Fit, Begun};
 
@@ -30,26 +31,22 @@ pub(crate) struct Progress {
 }
 
 impl Progress {
-    // A walk that begins, after the steps written before.
-    fn begin(given: &Given, out: Out) -> Progress
-        ensures begun { Begun given.now result }
-        ensures out { result.out ≡ out }
+    // The walk begins. What it stands on is made before, since a list by value would be copied.
+    fn begin(&mut self, given: &Given)
+        requires { self.old.waits ≡ none_waits given.now.runs }
+        ensures begun { Begun given.now self.new }
+        ensures out { self.new.out ≡ self.old.out }
     {
-        let mut version = [0; MAX_RUNS];
         versions::start_version(
-            &mut version,
+            &mut self.version,
             given.table(1),
             given.table(2),
             given.chains,
             wide(given.known),
         );
-        Progress {
-            out,
-            version,
-            waits: Waits::start_all(given),
-            left: wide(given.first - given.known),
-            last: None,
-        }
+        self.waits.start_all(given);
+        self.left = wide(given.first - given.known);
+        self.last = None;
     }
 
     // Where the best of the ready runs stands.
@@ -131,7 +128,14 @@ pub(crate) fn visits(given: &Given, out: Out, steps: &mut [u32]) -> Out
         (recs given.now.starts (steps_of (range_for given.now) given.now.base given.now.known given.now.first)) }
     ensures moved_bound { result.moved ≤ out.moved + given.now.runs * 2 ^ 52 }
 {
-    let mut walk = Progress::begin(given, out);
+    let mut walk = Progress {
+        out,
+        version: [0; MAX_RUNS],
+        waits: Waits::none(given.runs),
+        left: 0,
+        last: None,
+    };
+    walk.begin(given);
     walk.visit_all(given, steps);
     walk.out
 }

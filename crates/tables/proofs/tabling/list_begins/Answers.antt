@@ -1,20 +1,27 @@
 -- `tables::tabling::list_begins` meets its contract: the begins stand in the tables. Assumes nothing.
-use Rattle.std.proofs.Common.{◌≡◌, ◌+◌, ◌∙◌, length, refl, arith}
+use Rattle.std.proofs.Common.{◌≡◌, ℕ, ◌+◌, ◌*◌, ◌^◌, List, length, get_or, refl, sym, ap, ◌∙◌, subst, arith}
 use Rattle.std.proofs.lemmas.List.{length-take-le}
-use Rattle.tables.proofs.Scratch.{scratch-stored}
-use Rattle.tables.proofs.Storing.{begins-ready, begins-stored}
+use Rattle.tables.specs.Indexed.{sum_below, Bounded}
+use Rattle.tables.proofs.InPlace.{lane-read, made}
 use Rattle.tables.proofs.tabling.list_begins.Goals as goal
 
 pub begins_of-requires : goal.begins_of-requires
 begins_of-requires c =
-    let a = c.args in
-    (omega arith, omega (arith, length-take-le (a.n + 1) a.scratch.now), begins-ready (a.n + 1) a.tables.now c.requires.4)
+    let w = c.args.n + 1 in
+    let parts = c.split_at_mut-front in
+    let lens = lane-read 4 w c.args.tables.now parts.result.0.now parts.result.1.now (omega arith) parts.ensures.front parts.ensures.back 3 (3 * w) (length parts.result.0.now) (omega arith) refl (omega (arith, parts.ensures.front_len)) in
+    (omega arith, omega (arith, length-take-le w parts.result.1.now, parts.ensures.back_len), subst (Bounded 512) (sym lens) c.requires.short)
 
 pub returns : goal.returns
 returns c =
-    let a = c.args in
-    let w = a.n + 1 in
-    let made = c.begins_of in
-    let size : length made.new.begins ≡ w = made.ensures.2 ∙ length-take-le w a.scratch.now c.requires.3 in
-    begins-stored w a.chains a.tables.now _ a.scratch.now made.new.begins made.ensures
-    (scratch-stored 4 w _ _ a.tables.now a.scratch.now made.new.begins _ refl (omega arith) (omega arith) size c.copy_from_slice.ensures.after)
+    let w = c.args.n + 1 in
+    let parts = c.split_at_mut-front in
+    let lens = lane-read 4 w c.args.tables.now parts.result.0.now parts.result.1.now (omega arith) parts.ensures.front parts.ensures.back 3 (3 * w) (length parts.result.0.now) (omega arith) refl (omega (arith, parts.ensures.front_len)) in
+    let list = c.begins_of.new.begins in
+    let size : length list ≡ w = c.begins_of.ensures.2 ∙ length-take-le w parts.result.1.now (omega (arith, parts.ensures.back_len)) in
+    let stored = made 4 w c.args.tables.now parts.result.0.now parts.result.1.now (omega arith) parts.ensures.front parts.ensures.back list size in
+    record {
+      begins = λ k l. ap (λ (x : List ℕ). get_or x k 0) stored.0 ∙ (c.begins_of.ensures.0 k l ∙ ap (λ (x : List ℕ). sum_below (λ i. get_or x i 0) k) lens);
+      small = subst (Bounded (2 ^ 18)) (sym stored.0) c.begins_of.ensures.1;
+      kept = stored.1;
+    }

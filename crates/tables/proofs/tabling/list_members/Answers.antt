@@ -1,20 +1,36 @@
 -- `tables::tabling::list_members` meets its contract: the members stand in the tables. Assumes nothing.
-use Rattle.std.proofs.Common.{◌≡◌, ◌+◌, ◌∙◌, length, refl, arith}
+use Rattle.std.proofs.Common.{◌≡◌, ◌+◌, ◌*◌, length, refl, sym, ◌∙◌, subst, arith}
 use Rattle.std.proofs.lemmas.List.{length-take-le}
-use Rattle.tables.proofs.Scratch.{scratch-stored}
-use Rattle.tables.proofs.Storing.{members-ready, members-stored}
+use Rattle.tables.specs.Lanes.{lane}
+use Rattle.tables.specs.Indexed.{Bounded, Placed, pos}
+use Rattle.tables.proofs.InPlace.{lane-read, made}
+use Rattle.tables.proofs.Storing.{placed_same, scattered-same}
 use Rattle.tables.proofs.tabling.list_members.Goals as goal
 
 pub members_of-requires : goal.members_of-requires
 members_of-requires c =
-    let a = c.args in
-    (omega arith, omega (arith, length-take-le (a.n + 1) a.scratch.now), members-ready (a.n + 1) a.n a.tables.now c.requires.3)
+    let w = c.args.n + 1 in
+    let parts = c.split_at_mut-front in
+    let read = lane-read 5 w c.args.tables.now parts.result.0.now parts.result.1.now (omega arith) parts.ensures.front parts.ensures.back in (
+      omega arith,
+      omega (arith, length-take-le w parts.result.1.now, parts.ensures.back_len),
+      scattered-same _ _ _ _ _ _ c.args.n (read 4 (4 * w) (length parts.result.0.now) (omega arith) refl (omega (arith, parts.ensures.front_len))) (read 1 w (2 * w) (omega arith) (omega arith) (omega arith))
+          (read 2 (2 * w) (3 * w) (omega arith) refl (omega arith)) c.requires.scattered,
+    )
 
 pub returns : goal.returns
 returns c =
-    let a = c.args in
-    let w = a.n + 1 in
-    let made = c.members_of in
-    let size : length made.new.members ≡ w = made.ensures.2 ∙ length-take-le w a.scratch.now c.requires.2 in
-    members-stored w a.n a.tables.now _ a.scratch.now made.new.members made.ensures
-    (scratch-stored 5 w _ _ a.tables.now a.scratch.now made.new.members _ refl (omega arith) (omega arith) size c.copy_from_slice.ensures.after)
+    let w = c.args.n + 1 in
+    let parts = c.split_at_mut-front in
+    let read = lane-read 5 w c.args.tables.now parts.result.0.now parts.result.1.now (omega arith) parts.ensures.front parts.ensures.back in
+    let list = c.members_of.new.members in
+    let done = c.members_of.ensures in
+    let size : length list ≡ w = done.2 ∙ length-take-le w parts.result.1.now (omega (arith, parts.ensures.back_len)) in
+    let stored = made 5 w c.args.tables.now parts.result.0.now parts.result.1.now (omega arith) parts.ensures.front parts.ensures.back list size in
+    let placed = placed_same _ _ _ _ _ _ list c.args.n (read 4 (4 * w) (length parts.result.0.now) (omega arith) refl (omega (arith, parts.ensures.front_len))) (read 1 w (2 * w) (omega arith) (omega arith) (omega arith))
+    (read 2 (2 * w) (3 * w) (omega arith) refl (omega arith)) done.0 in
+    record {
+      members = subst (Placed (pos (lane 4 w c.args.tables.now) (lane 1 w c.args.tables.now) (lane 2 w c.args.tables.now)) c.args.n) (sym stored.0) placed;
+      small = subst (Bounded 511) (sym stored.0) done.1;
+      kept = stored.1;
+    }

@@ -1,5 +1,5 @@
 -- `walk::choice::cost_of`: the events in just one of the current version and a run's history, or a part of them past the best cost.
-use Rattle.std.proofs.Common.{◌≡◌, ◌^◌, sym, ap, subst}
+use Rattle.std.proofs.Common.{◌^◌, sym, ap, subst}
 use Rattle.tables.specs.Gaps.{gaps_from}
 use Rattle.tables.specs.Sizes.{Bounded}
 use Rattle.walk.specs.Given.{Given, Prepared}

@@ -1,5 +1,5 @@
 -- `walk::choice::weigh`: a candidate weighed as the definitions weigh it.
-use Rattle.std.proofs.Common.{◌≡◌, ℕ, List, sym, ap, ◌∙◌}
+use Rattle.std.proofs.Common.{ℕ, List, sym, ap, ◌∙◌}
 use Rattle.walk.specs.Choose.{try_of, is_only, only_c, cost_c}
 use Rattle.walk.proofs.Weighing.{run_of, weigh-last, weigh-free, weigh_cost, beaten_keeps, cut_same, least_cost}
 use Rattle.walk.proofs.choice.weigh.Goals as goal

@@ -1,5 +1,5 @@
 -- `walk::replaying::replay_all`: a range more, and none.
-use Rattle.std.proofs.Common.{sym, subst, ◌∙◌, arith}
+use Rattle.std.proofs.Common.{sym, ◌∙◌, arith}
 use Rattle.walk.specs.Ranges.{range_at}
 use Rattle.walk.proofs.ReplayWays.{ranges-none, ranges-step}
 use Rattle.walk.proofs.replaying.replay_all.Goals as goal

@@ -1,5 +1,5 @@
 -- `walk::visiting::visit`: what the moves and the version need of what is given.
-use Rattle.std.proofs.Common.{◌≡◌, List, ℕ, ◌+◌, ◌<◌, length, get_or, sym, ap, ◌∙◌, subst, arith}
+use Rattle.std.proofs.Common.{List, ℕ, ◌<◌, get_or, sym, ap, ◌∙◌, subst, arith}
 use Rattle.moves.specs.Moves.{Inside}
 use Rattle.walk.specs.Given.{Given, members_in, begins_in, row_for, Prepared}
 use Rattle.walk.proofs.Looping.{few-chains, chain-low, place-low, row_inside}

@@ -1,5 +1,5 @@
 -- `walk::given::Given::size`: the sizes are those of the histories.
-use Rattle.std.proofs.Common.{ℕ, ◌≡◌, ◌<◌, get_or, ap, ◌∙◌, subst}
+use Rattle.std.proofs.Common.{get_or, ap, ◌∙◌, subst}
 use Rattle.walk.specs.Given.{Given, Prepared, row_for}
 use Rattle.walk.proofs.given.Given.size.Goals as goal
 

@@ -1,5 +1,5 @@
 -- `walk::given::Given::table`: a part of the tables, between the products that the code makes.
-use Rattle.std.proofs.Common.{◌≡◌, ◌+◌, refl, ap, ◌∙◌, length, arith}
+use Rattle.std.proofs.Common.{◌+◌, refl, ap, ◌∙◌}
 use Rattle.tables.specs.Lanes.{lane}
 use Rattle.walk.specs.Given.{Given}
 use Rattle.walk.proofs.Lending.{lane-between}

@@ -6,8 +6,8 @@ use Rattle.walk.proofs.ready.Waits.start_all.Given as goal
 
 abbrev pub invariant-loop-r : goal.invariant-loop-r
 invariant-loop-r l = record {
-  few : l.waits.0 ≤ l.r;
-  waiting : length l.waits.1 ≡ l.given.runs;
-  ready : length l.waits.2 ≡ 512;
-  left : start_all l.given.known l.given.first l.waits l.r (drop l.r (parents_for l.given)) ≡ start_waits l.given;
+  few : l.self.0 ≤ l.r;
+  waiting : length l.self.1 ≡ l.given.runs;
+  ready : length l.self.2 ≡ 512;
+  left : start_all l.given.known l.given.first l.self l.r (drop l.r (parents_for l.given)) ≡ start_waits l.given;
 }

@@ -1,5 +1,5 @@
 -- `walk::ready::Waits::start_run`: what a run waits for at the start, and whether it is ready.
-use Rattle.std.proofs.Common.{ℕ, ◌<◌, length, length-take, ap, ◌∙◌, arith}
+use Rattle.std.proofs.Common.{◌<◌, length, length-take, ap, ◌∙◌, arith}
 use Rattle.walk.specs.Readiness.{Wakes, start_of}
 use Rattle.walk.proofs.Keeping.{kept-waits, kept-known, kept-ready}
 use Rattle.walk.proofs.ready.Waits.start_run.Goals as goal

@@ -1,8 +1,8 @@
 -- `walk::ready::Waits::wake_visit`: what is ready after a visit.
-use Rattle.std.proofs.Common.{ℕ, ◌-◌, ap, ◌∙◌, arith}
+use Rattle.std.proofs.Common.{◌-◌, ap, ◌∙◌, arith}
 use Rattle.lists.specs.Lists.{from}
 use Rattle.walk.specs.Given.{Given, children_for}
-use Rattle.walk.specs.Readiness.{Wakes, wake_all}
+use Rattle.walk.specs.Readiness.{wake_all}
 use Rattle.walk.proofs.Waking.{woken-known, woken-later, woken-first, woken-last}
 use Rattle.walk.proofs.ready.Waits.wake_visit.Goals as goal
 

@@ -1,5 +1,5 @@
 -- `walk::visiting::Progress::visit_all`: how it begins, a visit more, and its two ends.
-use Rattle.std.proofs.Common.{◌≡◌, ℕ, ◌+◌, ◌-◌, sym, ap, ◌∙◌, subst, arith}
+use Rattle.std.proofs.Common.{◌≡◌, ◌+◌, ◌-◌, sym, ap, ◌∙◌, subst, arith}
 use Rattle.walk.specs.Given.{Given, Prepared}
 use borrow.Author.Tests.{eqb-true}
 use Rattle.walk.proofs.Looped.{some_ready, looped_start, looped_fit, looped_none, looped_next, looped_end, looped_moved}
@@ -18,7 +18,7 @@ loop-preserved c = let a = c.args in
     let g = a.given.now in
     let l = c.loop in
     let z : g.runs - (l.counter + 1) ≡ g.runs - l.counter - 1 = omega arith in
-    rw z (looped_next g (a.self.now, a.steps.now) (g.runs - l.counter) (l.self, l.steps) l.invariant (some_ready _ (sym c.is_empty.ensures ∙ c.if-is_empty.false)) _ c.visit_next.ensures)
+    rw z (looped_next g (a.self.now, a.steps.now) (g.runs - l.counter) (l.self, l.steps) l.invariant (some_ready _ (sym c.is_empty.ensures ∙ c.if-is_empty.false)) (c.visit_next.new.self, c.visit_next.new.steps) c.visit_next.ensures)
 
 pub returns-then-is_empty : goal.returns-then-is_empty
 returns-then-is_empty c = record {

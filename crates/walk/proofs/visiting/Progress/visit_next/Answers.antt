@@ -1,6 +1,6 @@
 -- `walk::visiting::Progress::visit_next`: the choice, the visit and what it wakes are one turn.
-use Rattle.std.proofs.Common.{ℕ, refl, ap, ◌∙◌, arith}
-use Rattle.walk.specs.Given.{Given, children_for}
+use Rattle.std.proofs.Common.{refl, ap, ◌∙◌, arith}
+use Rattle.walk.specs.Given.{children_for}
 use Rattle.walk.specs.Readiness.{Wakes, woken_of}
 use Rattle.walk.specs.Turns.{best_in}
 use Rattle.walk.proofs.Stepping.{run-low, turned}
