@@ -1,5 +1,5 @@
 -- `versions::archive::point_runs` meets its contract: the runs that are marked by what the passes find start at archive points. Assumes nothing.
-use mathlib.Core.Path.{◌∙◌, ap}
+use mathlib.Core.Path.{◌∙◌}
 use native.Mathlib.Omega.{arith}
 use Rattle.graph.proofs.Views.{facts}
 use Rattle.graph.proofs.Entries.{rows_of}
