@@ -45,8 +45,7 @@ fn first_children(parents: ParentRows) -> [u32; MAX_RUNS]
 {
     let mut firsts = [0; MAX_RUNS];
     for q in 0..parents.len() {
-        let run = EventRunIndex(q as u32);
-        note_child(&mut firsts, parents.of(run), run);
+        note_child(&mut firsts, parents.of(q), EventRunIndex(q as u32));
     }
     firsts
 }
@@ -81,8 +80,7 @@ fn head_counts(firsts: &[u32; MAX_RUNS], parents: ParentRows) -> [u32; MAX_RUNS]
     let mut heads = 0;
     for m in 0..parents.len() {
         counts[m] = heads as u32;
-        let run = EventRunIndex(m as u32);
-        heads = heads + 1 - count_heads(firsts, parents.of(run), run);
+        heads = heads + 1 - count_heads(firsts, parents.of(m), EventRunIndex(m as u32));
     }
     counts
 }
@@ -123,8 +121,7 @@ fn seen_lengths(
 {
     let mut seen = [0; MAX_RUNS];
     for q in 0..parents.len() {
-        let run = EventRunIndex(q as u32);
-        let top = highest(firsts, counts, parents.of(run), run);
+        let top = highest(firsts, counts, parents.of(q), EventRunIndex(q as u32));
         seen[q] = events[top.0 as usize];
     }
     seen

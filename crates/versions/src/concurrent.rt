@@ -35,7 +35,7 @@ fn flag_parents(flags: &mut [u32; MAX_RUNS], parents: ParentRows, run: EventRunI
     if flags[run.0 as usize] == 0 {
         return;
     }
-    flag_all(flags, parents.of(run))
+    flag_all(flags, parents.of(run.0 as usize))
 }
 
 // The same of the runs before `end`, from the last down.
@@ -76,7 +76,7 @@ fn flag_child(
     requires { q.0 < runs_in parents }
     ensures { flags.new ≡ flag_child (parents_in parents.entry) run.0 flags.old q.0 }
 {
-    let flag = has_flagged(flags, run, parents.of(q));
+    let flag = has_flagged(flags, run, parents.of(q.0 as usize));
     flags[q.0 as usize] = u32::from(flag);
 }
 

@@ -13,11 +13,11 @@ ghost use Rattle.versions.specs.Flags.{flag_all};
 ghost use Rattle.versions.specs.Ranges.{flag_marked, marked_whole, tops};
 
 use crate::concurrent::flag_all;
-use crate::ranges::EventRanges;
+use crate::ranges::{EventRanges, are_ranges};
 use crate::rows::ParentRows;
 use crate::words::put_all;
 use lists::Kept;
-use model::{CausalGraph, EventIndex, EventRunIndex, MAX_RUNS, Outcome, Refusal, Written};
+use model::{CausalGraph, EventIndex, MAX_RUNS, Outcome, Refusal, Written};
 
 // Flags some runs, if `end` is not 0.
 fn flag_if(end: u32, flags: &mut [u32], runs: &[u32])
@@ -38,7 +38,7 @@ fn flag_marked(ends: &[u32], parents: ParentRows) -> [u32; MAX_RUNS]
 {
     let mut flags = [0; MAX_RUNS];
     for (r, end) in ends.iter().enumerate() {
-        flag_if(*end, &mut flags, parents.of(EventRunIndex(r as u32)));
+        flag_if(*end, &mut flags, parents.of(r));
     }
     flags
 }
@@ -137,12 +137,13 @@ pub fn wanted_parents(g: CausalGraph, ranges: &[u32], list: &mut [u32]) -> Writt
             outcome: Outcome::Refused(Refusal::Broken),
         };
     }
-    let Some(ranges) = EventRanges::of_words(ranges) else {
+    if !are_ranges(ranges) {
         return Written {
             count: 0,
             outcome: Outcome::Refused(Refusal::NotRising),
         };
-    };
+    }
+    let ranges = EventRanges { words: ranges };
     if !ranges.are_within(EventIndex(g.starts[0]), EventIndex(g.starts[g.run_count])) {
         return Written {
             count: 0,
