@@ -155,14 +155,13 @@ fn concurrent_held(g: CausalGraph, run: EventRunIndex, list: &mut [u32]) -> Writ
         };
     }
     let flags = flags_of(g, run);
-    let flags = &flags[..n];
-    if list.len() < count_free(flags) {
+    if list.len() < count_free(&flags[..n]) {
         return Written {
             count: 0,
             outcome: Outcome::Refused(Refusal::ListTooShort),
         };
     }
-    let p = put_all_free(flags, list);
+    let p = put_all_free(&flags[..n], list);
     graph::cut::written(p)
 }
 

@@ -98,24 +98,21 @@ fn wanted_held(g: CausalGraph, ranges: EventRanges, list: &mut [u32]) -> Written
     ensures { (result, list.new) ≡ wanted_parents_of g ranges.entry.words.now list.old }
 {
     let n = g.run_count;
-    let starts = &g.starts[..n + 1];
-    if !ranges.all_clear(starts) {
+    if !ranges.all_clear(&g.starts[..n + 1]) {
         return Written {
             count: 0,
             outcome: Outcome::Refused(Refusal::NoSuchParents),
         };
     }
-    let ends = ranges.marked_ends(starts);
-    let ends = &ends[..n];
-    let flags = flag_marked(ends, ParentRows::of_graph(&g));
-    let flags = &flags[..n];
-    if !all_whole(flags, ends, starts) {
+    let ends = ranges.marked_ends(&g.starts[..n + 1]);
+    let flags = flag_marked(&ends[..n], ParentRows::of_graph(&g));
+    if !all_whole(&flags[..n], &ends[..n], &g.starts[..n + 1]) {
         return Written {
             count: 0,
             outcome: Outcome::Refused(Refusal::NoSuchParents),
         };
     }
-    let found = top_events(flags, ends);
+    let found = top_events(&flags[..n], &ends[..n]);
     if list.len() < found.count {
         return Written {
             count: 0,

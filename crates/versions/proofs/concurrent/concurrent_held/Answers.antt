@@ -9,8 +9,11 @@ use Rattle.versions.proofs.concurrent.concurrent_held.Goals as goal
 pub returns-then-n-run : goal.returns-then-n-run
 returns-then-n-run c = concurrent_outside c.args.g c.args.run.0 c.args.list.now c.requires c.if-n-run.true
 
-pub slice_bounds-flags-end-2 : goal.slice_bounds-flags-end-2
-slice_bounds-flags-end-2 c = omega (arith, (facts c.args.g c.requires).runs, length-take {A = ℕ})
+pub slice_bounds-count_free-end : goal.slice_bounds-count_free-end
+slice_bounds-count_free-end c = omega (arith, (facts c.args.g c.requires).runs, length-take {A = ℕ})
+
+pub slice_bounds-put_all_free-end : goal.slice_bounds-put_all_free-end
+slice_bounds-put_all_free-end c = omega (arith, (facts c.args.g c.requires).runs, length-take {A = ℕ})
 
 pub returns-then-list-count_free : goal.returns-then-list-count_free
 returns-then-list-count_free c =
