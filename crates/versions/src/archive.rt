@@ -143,11 +143,11 @@ fn put_points(starts: &[u32], points: &[u32], list: &mut [u32]) -> Put
 
 // The runs that start at archive points.
 #[tactic(auto, using(graph::proofs::Views::facts))]
-fn point_runs(g: CausalGraph) -> Kept
-    requires { Held g }
-    ensures { result ≡ kept_in (filter (λ q. seen_by_later (view g) (start (view g) q)) (upto (runs (view g)))) }
+fn point_runs(g: &CausalGraph) -> Kept
+    requires { Held g.now }
+    ensures { result ≡ kept_in (filter (λ q. seen_by_later (view g.now) (start (view g.now) q)) (upto (runs (view g.now)))) }
 {
-    let parents = ParentRows::of_graph(&g);
+    let parents = ParentRows::of_graph(g);
     let firsts = first_children(parents);
     let counts = head_counts(&firsts, parents);
     let seen = seen_lengths(&firsts, &counts, &g.starts, parents);
@@ -155,9 +155,9 @@ fn point_runs(g: CausalGraph) -> Kept
 }
 
 // `archive_points` on a graph that is known not to be broken.
-fn archive_held(g: CausalGraph, list: &mut [u32]) -> Written
-    requires { Held g }
-    ensures { (result, list.new) ≡ archive_points_of g list.old }
+fn archive_held(g: &CausalGraph, list: &mut [u32]) -> Written
+    requires { Held g.now }
+    ensures { (result, list.new) ≡ archive_points_of g.now list.old }
 {
     let points = point_runs(g);
     let p = put_points(&g.starts, &points.items[..points.count], list);
@@ -175,5 +175,5 @@ pub fn archive_points(g: CausalGraph, list: &mut [u32]) -> Written
             outcome: Outcome::Refused(Refusal::Broken),
         };
     }
-    archive_held(g, list)
+    archive_held(&g, list)
 }

@@ -96,12 +96,12 @@ fn flag_up(
 }
 
 // A flag for each run that is an ancestor of `run`, `run` itself, or a descendant.
-fn flags_of(g: CausalGraph, run: EventRunIndex) -> [u32; MAX_RUNS]
-    requires held { Held g }
-    requires run_there { run.0 < g.run_count }
-    ensures { Flags (view g) run.0 result }
+fn flags_of(g: &CausalGraph, run: EventRunIndex) -> [u32; MAX_RUNS]
+    requires held { Held g.now }
+    requires run_there { run.0 < g.now.run_count }
+    ensures { Flags (view g.now) run.0 result }
 {
-    let parents = ParentRows::of_graph(&g);
+    let parents = ParentRows::of_graph(g);
     let next = EventRunIndex(run.0 + 1);
     let mut flags = [0; MAX_RUNS];
     flags[run.0 as usize] = 1;
@@ -143,9 +143,9 @@ fn put_all_free(flags: &[u32], list: &mut [u32]) -> Put
 
 // `concurrent_runs` on a graph that is known not to be broken.
 #[tactic(auto, using(graph::proofs::Views::facts))]
-fn concurrent_held(g: CausalGraph, run: EventRunIndex, list: &mut [u32]) -> Written
-    requires { Held g }
-    ensures { (result, list.new) ≡ concurrency_list_of g run.0 list.old }
+fn concurrent_held(g: &CausalGraph, run: EventRunIndex, list: &mut [u32]) -> Written
+    requires { Held g.now }
+    ensures { (result, list.new) ≡ concurrency_list_of g.now run.0 list.old }
 {
     let n = g.run_count;
     if n <= run.0 as usize {
@@ -176,5 +176,5 @@ pub fn concurrent_runs(g: CausalGraph, run: EventRunIndex, list: &mut [u32]) -> 
             outcome: Outcome::Refused(Refusal::Broken),
         };
     }
-    concurrent_held(g, run, list)
+    concurrent_held(&g, run, list)
 }

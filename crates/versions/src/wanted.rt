@@ -92,10 +92,10 @@ fn top_events(flags: &[u32], ends: &[u32]) -> Kept
 
 // `wanted_parents` on a graph that is known not to be broken, and ranges of held events.
 #[tactic(auto, using(graph::proofs::Views::facts))]
-fn wanted_held(g: CausalGraph, ranges: EventRanges, list: &mut [u32]) -> Written
-    requires held { Held g }
-    requires events_held { all_held (view g) (events_in ranges.words.now) ≡ true }
-    ensures { (result, list.new) ≡ wanted_parents_of g ranges.entry.words.now list.old }
+fn wanted_held(g: &CausalGraph, ranges: EventRanges, list: &mut [u32]) -> Written
+    requires held { Held g.now }
+    requires events_held { all_held (view g.now) (events_in ranges.words.now) ≡ true }
+    ensures { (result, list.new) ≡ wanted_parents_of g.now ranges.entry.words.now list.old }
 {
     let n = g.run_count;
     if !ranges.all_clear(&g.starts[..n + 1]) {
@@ -105,7 +105,7 @@ fn wanted_held(g: CausalGraph, ranges: EventRanges, list: &mut [u32]) -> Written
         };
     }
     let ends = ranges.marked_ends(&g.starts[..n + 1]);
-    let flags = flag_marked(&ends[..n], ParentRows::of_graph(&g));
+    let flags = flag_marked(&ends[..n], ParentRows::of_graph(g));
     if !all_whole(&flags[..n], &ends[..n], &g.starts[..n + 1]) {
         return Written {
             count: 0,
@@ -147,5 +147,5 @@ pub fn wanted_parents(g: CausalGraph, ranges: &[u32], list: &mut [u32]) -> Writt
             outcome: Outcome::Refused(Refusal::UnknownEvent),
         };
     }
-    wanted_held(g, ranges, list)
+    wanted_held(&g, ranges, list)
 }

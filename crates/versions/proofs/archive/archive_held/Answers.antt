@@ -6,12 +6,12 @@ use Rattle.versions.proofs.archive.archive_held.Goals as goal
 pub shared_ref_as_front-put_points : goal.shared_ref_as_front-put_points
 shared_ref_as_front-put_points c =
     let r = c.point_runs-points in
-    points_fit c.args.g c.requires r.result r.ensures
+    points_fit c.args.g.now c.requires r.result r.ensures
 
 pub put_points-p-requires : goal.put_points-p-requires
 put_points-p-requires c =
     let r = c.point_runs-points in
-    points-below c.args.g c.requires r.result r.ensures
+    points-below c.args.g.now c.requires r.result r.ensures
 
 pub returns : goal.returns
 unfolding points_of
@@ -19,4 +19,4 @@ returns c =
     let a = c.args in
     let p = c.requires in
     let r = c.point_runs-points in
-    rw c.written.ensures (archive_done a.g a.list.now p _ _ _ (points_are a.g p r.result r.ensures) c.put_points-p.ensures)
+    rw c.written.ensures (archive_done a.g.now a.list.now p _ _ _ (points_are a.g.now p r.result r.ensures) c.put_points-p.ensures)
