@@ -123,7 +123,7 @@ VERSIONS = [
     ("wanted::wanted_parents", "a range that begins inside a run is taken", "wanted.rt", "if !ranges.all_clear(&g.starts[..n + 1]) {", "if !ranges.all_clear(&g.starts[..1]) {"),
     ("wanted::wanted_parents", "a parent run of which some events are marked counts as whole", "wanted.rt", "flag == 0 || end == next", "flag == 0 || end <= next"),
     ("wanted::wanted_parents", "the event after the last marked one", "wanted.rt", "end.saturating_sub(1)", "end.saturating_sub(0)"),
-    ("wanted::wanted_parents", "a first without its end is taken", "ranges.rt", "words.len() % 2 == 0 && lists", "0 % 2 == 0 && lists"),
+    ("wanted::wanted_parents", "a first without its end is taken", "ranges.rt", "if words.len() % 2 == 1 {", "if words.len() % 2 == 2 {"),
     ("wanted::wanted_parents", "refuses a range that ends at len", "ranges.rt", "*high <= end.0", "*high < end.0"),
     ("wanted::wanted_parents", "takes an event before the first held one", "ranges.rt", "first.0 <= *low && *high <= end.0", "0 <= *low && *high <= end.0"),
     ("wanted::wanted_parents", "writes the parents that fit where the list is too short", "wanted.rt", "if list.len() < found.count {", "if list.len() < found.count - found.count {"),

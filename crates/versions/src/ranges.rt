@@ -1,19 +1,12 @@
 // What ranges of events mark, run by run, in linear time. An event is marked exactly if the words at most it are odd in number, and the next
 // word is then its range's end. Each pass goes forward over the runs and the words together.
-ghost use Rattle.std.specs.Prelude.{◌≡◌, true, ◌-◌, ◌≤◌, length};
+ghost use Rattle.std.specs.Prelude.{◌≡◌, true, false, ◌-◌, ◌≤◌, length};
+ghost use Rattle.std.specs.Option.{MatchOption};
 ghost use Rattle.lists.specs.Lists.{all, upto};
 ghost use Rattle.model.specs.Wanted;
 ghost use Rattle.versions.specs.Ranges.{place_of, words_within, clear_at, end_at, clear_in, Ends, Starts};
 
 use model::{EventIndex, MAX_RUNS};
-
-// Whether words rise, each first with its end. An answer that is ranges or none costs a copy of the graph where it is matched.
-#[tactic(auto, using(crate::proofs::RangeTurns::pairing), unfolding(crate::specs::Ranges::is_odd))]
-pub(crate) fn are_ranges(words: &[u32]) -> bool
-    ensures { result ≡ Wanted.ranges words.now }
-{
-    words.len() % 2 == 0 && lists::is_rising(words, words.len())
-}
 
 // Ranges of events, as words: a first and its end in turn, rising.
 #[derive(Clone, Copy)]
@@ -23,6 +16,20 @@ pub(crate) struct EventRanges<'a> {
 }
 
 impl<'a> EventRanges<'a> {
+    // Words as ranges, if they are such.
+    #[tactic(auto, using(crate::proofs::RangeTurns::pairing), unfolding(crate::specs::Ranges::is_odd))]
+    pub(crate) fn of_words(words: &'a [u32]) -> Option<EventRanges<'a>>
+        ensures { MatchOption result (Wanted.ranges words.now ≡ false) (λ r. r.words.now ≡ words.now) }
+    {
+        if words.len() % 2 == 1 {
+            return None;
+        }
+        if !lists::is_rising(words, words.len()) {
+            return None;
+        }
+        Some(EventRanges { words })
+    }
+
     // Whether no word is below `first` or above `end`.
     #[tactic(auto, using(std::proofs::lemmas::Option::gets), unfolding(crate::specs::Ranges::words_within))]
     pub(crate) fn are_within(self, first: EventIndex, end: EventIndex) -> bool

@@ -13,7 +13,7 @@ ghost use Rattle.versions.specs.Flags.{flag_all};
 ghost use Rattle.versions.specs.Ranges.{flag_marked, marked_whole, tops};
 
 use crate::concurrent::flag_all;
-use crate::ranges::{EventRanges, are_ranges};
+use crate::ranges::EventRanges;
 use crate::rows::ParentRows;
 use crate::words::put_all;
 use lists::Kept;
@@ -134,13 +134,12 @@ pub fn wanted_parents(g: CausalGraph, ranges: &[u32], list: &mut [u32]) -> Writt
             outcome: Outcome::Refused(Refusal::Broken),
         };
     }
-    if !are_ranges(ranges) {
+    let Some(ranges) = EventRanges::of_words(ranges) else {
         return Written {
             count: 0,
             outcome: Outcome::Refused(Refusal::NotRising),
         };
-    }
-    let ranges = EventRanges { words: ranges };
+    };
     if !ranges.are_within(EventIndex(g.starts[0]), EventIndex(g.starts[g.run_count])) {
         return Written {
             count: 0,
