@@ -44,8 +44,7 @@ fn first_children(parents: ParentRows) -> [u32; MAX_RUNS]
 {
     let mut firsts = [0; MAX_RUNS];
     for q in 0..parents.len() {
-        let run = EventRunIndex(q as u32);
-        note_child(&mut firsts, parents.of(run), run);
+        note_child(&mut firsts, parents.of(q), EventRunIndex(q as u32));
     }
     firsts
 }
@@ -80,8 +79,7 @@ fn head_counts(firsts: &[u32; MAX_RUNS], parents: ParentRows) -> [u32; MAX_RUNS]
     let mut heads = 0;
     for m in 0..parents.len() {
         counts[m] = heads as u32;
-        let run = EventRunIndex(m as u32);
-        heads = heads + 1 - count_heads(firsts, parents.of(run), run);
+        heads = heads + 1 - count_heads(firsts, parents.of(m), EventRunIndex(m as u32));
     }
     counts
 }
@@ -122,8 +120,7 @@ fn seen_lengths(
 {
     let mut seen = [0; MAX_RUNS];
     for q in 0..parents.len() {
-        let run = EventRunIndex(q as u32);
-        let top = highest(firsts, counts, parents.of(run), run);
+        let top = highest(firsts, counts, parents.of(q), EventRunIndex(q as u32));
         seen[q] = events[top.0 as usize];
     }
     seen
@@ -145,11 +142,11 @@ fn put_points(starts: &[u32], points: &[u32], list: &mut [u32]) -> Put
 
 // The runs that start at archive points.
 #[tactic(auto, using(graph::proofs::Views::facts))]
-fn point_runs(g: CausalGraph) -> Kept
-    requires { Held g }
-    ensures { result ≡ filter (λ q. seen_by_later (view g) (start (view g) q)) (upto (runs (view g))) }
+fn point_runs(g: &CausalGraph) -> Kept
+    requires { Held g.now }
+    ensures { result ≡ filter (λ q. seen_by_later (view g.now) (start (view g.now) q)) (upto (runs (view g.now))) }
 {
-    let parents = ParentRows::of_graph(&g);
+    let parents = ParentRows::of_graph(g);
     let firsts = first_children(parents);
     let counts = head_counts(&firsts, parents);
     let seen = seen_lengths(&firsts, &counts, &g.starts, parents);
@@ -157,9 +154,9 @@ fn point_runs(g: CausalGraph) -> Kept
 }
 
 // `archive_points` on a graph that is known not to be broken.
-fn archive_held(g: CausalGraph, list: &mut [u32]) -> Written
-    requires { Held g }
-    ensures { (result, list.new) ≡ archive_points_of g list.old }
+fn archive_held(g: &CausalGraph, list: &mut [u32]) -> Written
+    requires { Held g.now }
+    ensures { (result, list.new) ≡ archive_points_of g.now list.old }
 {
     let points = point_runs(g);
     let p = put_points(&g.starts, points.as_slice(), list);
@@ -177,5 +174,5 @@ pub fn archive_points(g: CausalGraph, list: &mut [u32]) -> Written
             outcome: Err(Refusal::Broken),
         };
     }
-    archive_held(g, list)
+    archive_held(&g, list)
 }

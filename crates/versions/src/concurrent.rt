@@ -35,7 +35,7 @@ fn flag_parents(flags: &mut [u32; MAX_RUNS], parents: ParentRows, run: EventRunI
     if flags[run.0 as usize] == 0 {
         return;
     }
-    flag_all(flags, parents.of(run))
+    flag_all(flags, parents.of(run.0 as usize))
 }
 
 // The same of the runs before `end`, from the last down.
@@ -76,7 +76,7 @@ fn flag_child(
     requires { q.0 < runs_in parents }
     ensures { flags.new ≡ flag_child (parents_in parents.entry) run.0 flags.old q.0 }
 {
-    let flag = has_flagged(flags, run, parents.of(q));
+    let flag = has_flagged(flags, run, parents.of(q.0 as usize));
     flags[q.0 as usize] = u32::from(flag);
 }
 
@@ -96,12 +96,12 @@ fn flag_up(
 }
 
 // A flag for each run that is an ancestor of `run`, `run` itself, or a descendant.
-fn flags_of(g: CausalGraph, run: EventRunIndex) -> [u32; MAX_RUNS]
-    requires held { Held g }
-    requires run_there { run.0 < g.run_count }
-    ensures { Flags (view g) run.0 result }
+fn flags_of(g: &CausalGraph, run: EventRunIndex) -> [u32; MAX_RUNS]
+    requires held { Held g.now }
+    requires run_there { run.0 < g.now.run_count }
+    ensures { Flags (view g.now) run.0 result }
 {
-    let parents = ParentRows::of_graph(&g);
+    let parents = ParentRows::of_graph(g);
     let next = EventRunIndex(run.0 + 1);
     let mut flags = [0; MAX_RUNS];
     flags[run.0 as usize] = 1;
@@ -143,9 +143,9 @@ fn put_all_free(flags: &[u32], list: &mut [u32]) -> Put
 
 // `concurrent_runs` on a graph that is known not to be broken.
 #[tactic(auto, using(graph::proofs::Views::facts))]
-fn concurrent_held(g: CausalGraph, run: EventRunIndex, list: &mut [u32]) -> Written
-    requires { Held g }
-    ensures { (result, list.new) ≡ concurrency_list_of g run.0 list.old }
+fn concurrent_held(g: &CausalGraph, run: EventRunIndex, list: &mut [u32]) -> Written
+    requires { Held g.now }
+    ensures { (result, list.new) ≡ concurrency_list_of g.now run.0 list.old }
 {
     let n = g.run_count;
     if n <= run.0 as usize {
@@ -155,14 +155,13 @@ fn concurrent_held(g: CausalGraph, run: EventRunIndex, list: &mut [u32]) -> Writ
         };
     }
     let flags = flags_of(g, run);
-    let flags = &flags[..n];
-    if list.len() < count_free(flags) {
+    if list.len() < count_free(&flags[..n]) {
         return Written {
             count: 0,
             outcome: Err(Refusal::ListTooShort),
         };
     }
-    let p = put_all_free(flags, list);
+    let p = put_all_free(&flags[..n], list);
     graph::cut::written(p)
 }
 
@@ -177,5 +176,5 @@ pub fn concurrent_runs(g: CausalGraph, run: EventRunIndex, list: &mut [u32]) -> 
             outcome: Err(Refusal::Broken),
         };
     }
-    concurrent_held(g, run, list)
+    concurrent_held(&g, run, list)
 }

@@ -5,7 +5,7 @@ ghost use Rattle.model.specs.Broken.{Held};
 ghost use Rattle.model.specs.History.{at};
 ghost use Rattle.graph.specs.Rows.{row, Rows};
 
-use model::{CausalGraph, EventRunIndex};
+use model::CausalGraph;
 
 // The parents of each of some runs: where each run's begin among the items, and last where those of the last run end.
 #[derive(Clone, Copy)]
@@ -37,13 +37,12 @@ impl<'a> ParentRows<'a> {
         self.starts.len() - 1
     }
 
-    // A run's parents.
+    // A run's parents, by its number.
     #[tactic(auto, unfolding(graph::specs::Rows::row, lists::specs::Areas::part))]
-    pub(crate) fn of(self, run: EventRunIndex) -> &'a [u32]
-        requires { run.0 + 1 < length self.starts.now }
-        ensures { result.now ≡ row self.entry.starts.now self.entry.items.now run.0 }
+    pub(crate) fn of(self, run: usize) -> &'a [u32]
+        requires { run + 1 < length self.starts.now }
+        ensures { result.now ≡ row self.entry.starts.now self.entry.items.now run }
     {
-        let at = run.0 as usize;
-        &self.items[self.starts[at] as usize..self.starts[at + 1] as usize]
+        &self.items[self.starts[run] as usize..self.starts[run + 1] as usize]
     }
 }

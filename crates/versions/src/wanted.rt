@@ -37,7 +37,7 @@ fn flag_marked(ends: &[u32], parents: ParentRows) -> [u32; MAX_RUNS]
 {
     let mut flags = [0; MAX_RUNS];
     for (r, end) in ends.iter().enumerate() {
-        flag_if(*end, &mut flags, parents.of(EventRunIndex(r as u32)));
+        flag_if(*end, &mut flags, parents.of(r));
     }
     flags
 }
@@ -87,30 +87,27 @@ fn top_events(flags: &[u32], ends: &[u32]) -> Kept
 
 // `wanted_parents` on a graph that is known not to be broken, and ranges of held events.
 #[tactic(auto, using(graph::proofs::Views::facts))]
-fn wanted_held(g: CausalGraph, ranges: EventRanges, list: &mut [u32]) -> Written
-    requires held { Held g }
-    requires events_held { all_held (view g) (events_in ranges.words.now) ≡ true }
-    ensures { (result, list.new) ≡ wanted_parents_of g ranges.entry.words.now list.old }
+fn wanted_held(g: &CausalGraph, ranges: EventRanges, list: &mut [u32]) -> Written
+    requires held { Held g.now }
+    requires events_held { all_held (view g.now) (events_in ranges.words.now) ≡ true }
+    ensures { (result, list.new) ≡ wanted_parents_of g.now ranges.entry.words.now list.old }
 {
     let n = g.run_count;
-    let starts = &g.starts[..n + 1];
-    if !ranges.all_clear(starts) {
+    if !ranges.all_clear(&g.starts[..n + 1]) {
         return Written {
             count: 0,
             outcome: Err(Refusal::NoSuchParents),
         };
     }
-    let ends = ranges.marked_ends(starts);
-    let ends = &ends[..n];
-    let flags = flag_marked(ends, ParentRows::of_graph(&g));
-    let flags = &flags[..n];
-    if !all_whole(flags, ends, starts) {
+    let ends = ranges.marked_ends(&g.starts[..n + 1]);
+    let flags = flag_marked(&ends[..n], ParentRows::of_graph(g));
+    if !all_whole(&flags[..n], &ends[..n], &g.starts[..n + 1]) {
         return Written {
             count: 0,
             outcome: Err(Refusal::NoSuchParents),
         };
     }
-    let found = top_events(flags, ends);
+    let found = top_events(&flags[..n], &ends[..n]);
     if list.len() < found.len() {
         return Written {
             count: 0,
@@ -144,5 +141,5 @@ pub fn wanted_parents(g: CausalGraph, ranges: &[u32], list: &mut [u32]) -> Writt
             outcome: Err(Refusal::UnknownEvent),
         };
     }
-    wanted_held(g, ranges, list)
+    wanted_held(&g, ranges, list)
 }

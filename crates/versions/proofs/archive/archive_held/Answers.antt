@@ -7,7 +7,7 @@ use Rattle.versions.proofs.archive.archive_held.Goals as goal
 pub put_points-p-requires : goal.put_points-p-requires
 put_points-p-requires c =
     let r = c.point_runs-points in
-    points-below c.args.g c.requires _ (c.as_slice.ensures ∙ r.ensures)
+    points-below c.args.g.now c.requires _ (c.as_slice.ensures ∙ r.ensures)
 
 pub returns : goal.returns
 unfolding points_of
@@ -15,4 +15,4 @@ returns c =
     let a = c.args in
     let p = c.requires in
     let r = c.point_runs-points in
-    rw c.written.ensures (archive_done a.g a.list.now p _ _ _ (points_are a.g p _ (c.as_slice.ensures ∙ r.ensures)) c.put_points-p.ensures)
+    rw c.written.ensures (archive_done a.g.now a.list.now p _ _ _ (points_are a.g.now p _ (c.as_slice.ensures ∙ r.ensures)) c.put_points-p.ensures)

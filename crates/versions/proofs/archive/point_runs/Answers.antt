@@ -7,7 +7,7 @@ use Rattle.versions.proofs.archive.point_runs.Goals as goal
 
 pub head_counts-counts-requires : goal.head_counts-counts-requires
 head_counts-counts-requires c =
-    let g = c.args.g in
+    let g = c.args.g.now in
     let held = c.requires in
     let all = c.of_graph-parents in
     let runs : runs_in all.result ≡ g.run_count = omega (arith, all.ensures.counted) in
@@ -16,7 +16,7 @@ head_counts-counts-requires c =
 
 pub returns : goal.returns
 returns c =
-    let g = c.args.g in
+    let g = c.args.g.now in
     let held = c.requires in
     let all = c.of_graph-parents in
     let runs : runs_in all.result ≡ g.run_count = omega (arith, all.ensures.counted) in

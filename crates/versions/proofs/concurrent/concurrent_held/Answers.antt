@@ -7,21 +7,24 @@ use Rattle.versions.proofs.ConcurrentWays.{concurrent_outside, concurrent_short,
 use Rattle.versions.proofs.concurrent.concurrent_held.Goals as goal
 
 pub returns-then-n-run : goal.returns-then-n-run
-returns-then-n-run c = concurrent_outside c.args.g c.args.run.0 c.args.list.now c.requires c.if-n-run.true
+returns-then-n-run c = concurrent_outside c.args.g.now c.args.run.0 c.args.list.now c.requires c.if-n-run.true
 
-pub slice_bounds-flags-end-2 : goal.slice_bounds-flags-end-2
-slice_bounds-flags-end-2 c = omega (arith, (facts c.args.g c.requires).runs, length-take {A = ℕ})
+pub slice_bounds-count_free-end : goal.slice_bounds-count_free-end
+slice_bounds-count_free-end c = omega (arith, (facts c.args.g.now c.requires).runs, length-take {A = ℕ})
+
+pub slice_bounds-put_all_free-end : goal.slice_bounds-put_all_free-end
+slice_bounds-put_all_free-end c = omega (arith, (facts c.args.g.now c.requires).runs, length-take {A = ℕ})
 
 pub returns-then-list-count_free : goal.returns-then-list-count_free
 returns-then-list-count_free c =
-    let g = c.args.g in
+    let g = c.args.g.now in
     let flags = c.flags_of-flags in
     let count = free_counted flags.result g.run_count (omega (arith, (facts g c.requires).runs)) in
     concurrent_short g c.args.run.0 c.args.list.now c.requires c.if-n-run.false flags.result flags.ensures (omega (arith, count, c.count_free.ensures, c.if-list-count_free.true))
 
 pub returns : goal.returns
 returns c =
-    let g = c.args.g in
+    let g = c.args.g.now in
     let flags = c.flags_of-flags in
     let fits : g.run_count ≤ length flags.result = omega (arith, (facts g c.requires).runs) in
     let count = free_counted flags.result g.run_count fits in

@@ -10,7 +10,7 @@ use Rattle.versions.proofs.concurrent.flags_of.Goals as goal
 pub returns : goal.returns
 unfolding pad
 returns c =
-    let g = c.args.g in
+    let g = c.args.g.now in
     let r = c.args.run.0 in
     let all = c.of_graph-parents in
     let rows : ℕ → List ℕ = parents_in all.result in

@@ -6,16 +6,16 @@ use Rattle.versions.proofs.WantedWays.{starts_of, wanted_inside, wanted_parted, 
 use Rattle.versions.proofs.wanted.wanted_held.Goals as goal
 
 pub all_clear-requires : goal.all_clear-requires
-all_clear-requires c = starts_of c.args.g c.requires.held
+all_clear-requires c = starts_of c.args.g.now c.requires.held
 
 pub returns-then-not-all_clear : goal.returns-then-not-all_clear
 returns-then-not-all_clear c =
     let a = c.args in
     let p = c.requires in
-    wanted_inside a.g a.ranges.words.now a.list.now p.held a.ranges.paired p.events_held (sym c.all_clear.ensures ∙ c.if-not-all_clear.true)
+    wanted_inside a.g.now a.ranges.words.now a.list.now p.held a.ranges.paired p.events_held (sym c.all_clear.ensures ∙ c.if-not-all_clear.true)
 
 pub marked_ends-ends-requires : goal.marked_ends-ends-requires
-marked_ends-ends-requires c = starts_of c.args.g c.requires.held
+marked_ends-ends-requires c = starts_of c.args.g.now c.requires.held
 
 pub returns-then-not-all_whole : goal.returns-then-not-all_whole
 returns-then-not-all_whole c =
@@ -24,8 +24,8 @@ returns-then-not-all_whole c =
     let all = c.of_graph in
     let ends = c.marked_ends-ends in
     let clear = sym c.all_clear.ensures ∙ c.if-not-all_clear.false in
-    let long : a.g.run_count ≤ length ends.result = omega (arith, (facts a.g p.held).runs) in
-    wanted_parted a.g a.ranges.words.now a.list.now p.held a.ranges.paired p.events_held clear ends.result ends.ensures long
+    let long : a.g.now.run_count ≤ length ends.result = omega (arith, (facts a.g.now p.held).runs) in
+    wanted_parted a.g.now a.ranges.words.now a.list.now p.held a.ranges.paired p.events_held clear ends.result ends.ensures long
     (parents_in all.result) all.ensures.parents c.flag_marked-flags.result c.flag_marked-flags.ensures (sym c.all_whole.ensures ∙ c.if-not-all_whole.true)
 
 pub returns-then-list-len : goal.returns-then-list-len
@@ -35,8 +35,8 @@ returns-then-list-len c =
     let all = c.of_graph in
     let ends = c.marked_ends-ends in
     let clear = sym c.all_clear.ensures ∙ c.if-not-all_clear.false in
-    let long : a.g.run_count ≤ length ends.result = omega (arith, (facts a.g p.held).runs) in
-    wanted_short a.g a.ranges.words.now a.list.now p.held a.ranges.paired p.events_held clear ends.result ends.ensures long
+    let long : a.g.now.run_count ≤ length ends.result = omega (arith, (facts a.g.now p.held).runs) in
+    wanted_short a.g.now a.ranges.words.now a.list.now p.held a.ranges.paired p.events_held clear ends.result ends.ensures long
     (parents_in all.result) all.ensures.parents c.flag_marked-flags.result c.flag_marked-flags.ensures
     (sym c.all_whole.ensures ∙ c.if-not-all_whole.false) c.top_events-found.result c.top_events-found.ensures (omega (arith, c.len.ensures.value, c.if-list-len.true))
 
@@ -47,7 +47,7 @@ returns c =
     let all = c.of_graph in
     let ends = c.marked_ends-ends in
     let clear = sym c.all_clear.ensures ∙ c.if-not-all_clear.false in
-    let long : a.g.run_count ≤ length ends.result = omega (arith, (facts a.g p.held).runs) in
-    rw c.written.ensures (wanted_done a.g a.ranges.words.now a.list.now p.held a.ranges.paired p.events_held clear ends.result ends.ensures long
+    let long : a.g.now.run_count ≤ length ends.result = omega (arith, (facts a.g.now p.held).runs) in
+    rw c.written.ensures (wanted_done a.g.now a.ranges.words.now a.list.now p.held a.ranges.paired p.events_held clear ends.result ends.ensures long
     (parents_in all.result) all.ensures.parents c.flag_marked-flags.result c.flag_marked-flags.ensures
     (sym c.all_whole.ensures ∙ c.if-not-all_whole.false) c.top_events-found.result c.top_events-found.ensures (omega (arith, c.len.ensures.value, c.if-list-len.false)) _ _ (rw c.as_slice.ensures at c.put_all-p.ensures))
