@@ -44,14 +44,7 @@ impl Areas {
         ensures measured { Measured starts.now n chains rows.now self.new.before self.new.sizes self.new.tables self.old.tables }
         ensures groups { self.new.groups ≡ self.old.groups }
     {
-        tabling::index(
-            starts,
-            n,
-            chains,
-            &mut self.tables,
-            &mut self.before,
-            &mut self.scratch,
-        );
+        tabling::index(starts, n, chains, &mut self.tables, &mut self.before);
         tabling::sizes(n, chains, rows, &self.tables, &self.before, &mut self.sizes);
     }
 
@@ -79,7 +72,6 @@ impl Areas {
             &mut self.tables,
             &self.children,
             &mut self.covers,
-            &mut self.scratch,
         );
     }
 

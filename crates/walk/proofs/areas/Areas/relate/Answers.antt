@@ -17,13 +17,14 @@ children-requires c = let a = c.args in
     )
 
 pub weights-requires : goal.weights-requires
-weights-requires c = let a = c.args in
-    let p = c.requires in (
-      omega (arith, p.sound.few),
-      omega (arith, p.sound.few),
-      omega (arith, p.sound.few),
-      weighable a.starts.now a.n a.self.now.groups p _ c.children.new.children c.children.ensures.kids_tabled,
-    )
+weights-requires c =
+    let a = c.args in
+    let p = c.requires in
+    record {
+      tables = omega (arith, p.sound.few);
+      covers = omega (arith, p.sound.few);
+      weighable = weighable a.starts.now a.n a.self.now.groups p _ c.children.new.children c.children.ensures.kids_tabled;
+    }
 
 pub returns-clause-related : goal.returns-clause-related
 returns-clause-related c = let a = c.args in
