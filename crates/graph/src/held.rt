@@ -1,9 +1,9 @@
-// A graph that is known not to be broken: what reads its arrays takes one, so that the test is made once.
-ghost use Rattle.std.specs.Prelude.{◌≡◌, true, false, IfOk, IfErr};
+// A graph that is known not to be broken: what reads its arrays takes one, so that the test is made once. And a call that changes nothing.
+ghost use Rattle.std.specs.Prelude.{◌≡◌, true, false, Err, IfOk, IfErr};
 ghost use Rattle.model.specs.Broken.{Held, broken};
 
 use crate::broken::is_broken;
-use model::{CausalGraph, Refusal};
+use model::{CausalGraph, Changed, Refusal};
 
 // A graph that is not broken.
 #[derive(Clone, Copy)]
@@ -22,5 +22,15 @@ impl HeldGraph {
             return Err(Refusal::Broken);
         }
         Ok(HeldGraph { graph: g })
+    }
+}
+
+// The graph as it was, and why.
+pub(crate) fn refused<T>(graph: CausalGraph, r: Refusal) -> Changed<T>
+    ensures { result ≡ record { graph = graph; answer = Err r } }
+{
+    Changed {
+        graph: graph,
+        answer: Err(r),
     }
 }

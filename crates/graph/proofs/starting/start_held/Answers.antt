@@ -10,19 +10,21 @@ use Rattle.graph.proofs.starting.start_held.Goals as goal
 
 pub containing_in-requires : goal.containing_in-requires
 containing_in-requires c =
-    let f = facts c.args.g c.requires in
+    let f = facts c.args.g.graph c.args.g.held in
     record { runs_le_max_runs = f.runs; starts_len = f.sized.starts }
 
 pub returns-in_default : goal.returns-in_default
 unfolding told
 returns-in_default c =
-    let g = c.args.g in
+    let k = c.args.g in
+    let g = k.graph in
     let at = c.args.at.0 in
     start_outside g at
-    (ap is_held (sym (side-view g c.requires at)) ∙ told-out (side_in g.starts g.run_count at) c.containing_in.ensures c.in_default.not-Run)
+    (ap is_held (sym (side-view g k.held at)) ∙ told-out (side_in g.starts g.run_count at) c.containing_in.ensures c.in_default.not-Run)
 
 pub start_in-requires : goal.start_in-requires
 start_in-requires c =
-    let g = c.args.g in
+    let k = c.args.g in
+    let g = k.graph in
     let at = c.args.at.0 in
-    record { held = c.requires; at_value = sym (side-view g c.requires at) ∙ (found g.starts g.run_count at c.in-Run.run' c.containing_in.ensures c.in-Run.is).there }
+    sym (side-view g k.held at) ∙ (found g.starts g.run_count at c.in-Run.run' c.containing_in.ensures c.in-Run.is).there

@@ -13,33 +13,33 @@ pub offset_bounds-g-place : goal.offset_bounds-g-place
 offset_bounds-g-place c =
     let a = c.args in
     let p = c.requires in
-    omega (arith, in_runs_lem a.g p.held a.at.0 a.run.0 p.at_value, facts a.g p.held)
+    omega (arith, in_runs_lem a.g.graph a.g.held a.at.0 a.run.0 p, facts a.g.graph a.g.held)
 
 pub bounds-g-place : goal.bounds-g-place
 bounds-g-place c =
     let a = c.args in
     let p = c.requires in
-    omega (arith, in_runs_lem a.g p.held a.at.0 a.run.0 p.at_value, facts a.g p.held)
+    omega (arith, in_runs_lem a.g.graph a.g.held a.at.0 a.run.0 p, facts a.g.graph a.g.held)
 
 pub is_marked-told-requires : goal.is_marked-told-requires
 is_marked-told-requires c =
     let a = c.args in
     let p = c.requires in
-    record { held = p.held; run_bound = in_runs_lem a.g p.held a.at.0 a.run.0 p.at_value }
+    in_runs_lem a.g.graph a.g.held a.at.0 a.run.0 p
 
 pub returns-then-g-place : goal.returns-then-g-place
 unfolding told
 returns-then-g-place c =
     let a = c.args in
     let p = c.requires in
-    ap (λ (b : Bool). told a.g (not b)) c.is_marked-told.ensures ∙
-    start_there a.g p.held a.at.0 a.run.0 p.at_value c.if-g-place.true
+    ap (λ (b : Bool). told a.g.graph (not b)) c.is_marked-told.ensures ∙
+    start_there a.g.graph a.g.held a.at.0 a.run.0 p c.if-g-place.true
 
 pub is_alone-requires : goal.is_alone-requires
 is_alone-requires c =
     let a = c.args in
     let p = c.requires in
-    record { held = p.held; run_bound = in_runs_lem a.g p.held a.at.0 a.run.0 p.at_value }
+    in_runs_lem a.g.graph a.g.held a.at.0 a.run.0 p
 
 pub returns-then-is_alone : goal.returns-then-is_alone
 unfolding told
@@ -47,7 +47,7 @@ returns-then-is_alone c =
     let a = c.args in
     let p = c.requires in
     let is-it = sym c.is_alone.ensures ∙ c.if-is_alone.true in
-    start-alone a.g p.held a.at.0 a.run.0 p.at_value c.if-g-place.false is-it
+    start-alone a.g.graph a.g.held a.at.0 a.run.0 p c.if-g-place.false is-it
 
 pub returns-then-g-ge-MAX_RUNS : goal.returns-then-g-ge-MAX_RUNS
 unfolding start_refused
@@ -55,7 +55,7 @@ returns-then-g-ge-MAX_RUNS c =
     let a = c.args in
     let p = c.requires in
     let is-not = sym c.is_alone.ensures ∙ c.if-is_alone.false in
-    start_full a.g p.held a.at.0 a.run.0 p.at_value c.if-g-place.false is-not c.if-g-ge-MAX_RUNS.true
+    c.refused.ensures ∙ start_full a.g.graph a.g.held a.at.0 a.run.0 p c.if-g-place.false is-not c.if-g-ge-MAX_RUNS.true
 
 pub returns-then-g-ge-MAX_ENTRIES : goal.returns-then-g-ge-MAX_ENTRIES
 unfolding start_refused
@@ -63,14 +63,14 @@ returns-then-g-ge-MAX_ENTRIES c =
     let a = c.args in
     let p = c.requires in
     let is-not = sym c.is_alone.ensures ∙ c.if-is_alone.false in
-    start_crowded a.g p.held a.at.0 a.run.0 p.at_value
+    c.refused-then-g-ge-MAX_ENTRIES.ensures ∙ start_crowded a.g.graph a.g.held a.at.0 a.run.0 p
     c.if-g-place.false is-not c.if-g-ge-MAX_RUNS.false c.if-g-ge-MAX_ENTRIES.true
 
 pub split_run-h-requires : goal.split_run-h-requires
 split_run-h-requires c =
     let a = c.args in
     let p = c.requires in
-    let r = in_runs_lem a.g p.held a.at.0 a.run.0 p.at_value in
+    let r = in_runs_lem a.g.graph a.g.held a.at.0 a.run.0 p in
     search rules
 
 pub returns : goal.returns
@@ -80,5 +80,5 @@ returns c =
     let p = c.requires in
     let is-not = sym c.is_alone.ensures ∙ c.if-is_alone.false in
     ap (λ (h : CausalGraph). told h true) c.split_run-h.ensures ∙
-    start-splits a.g p.held a.at.0 a.run.0 p.at_value
+    start-splits a.g.graph a.g.held a.at.0 a.run.0 p
     c.if-g-place.false is-not c.if-g-ge-MAX_RUNS.false c.if-g-ge-MAX_ENTRIES.false
