@@ -30,18 +30,11 @@ use Rattle.graph.proofs.Extending.{extends-view}
 use Rattle.graph.proofs.SplitParts.{splits_in}
 use Rattle.graph.proofs.Owning.{held-counted}
 use Rattle.graph.proofs.Placing.{side-view}
-use Rattle.graph.proofs.Views.{runs-view, entries-view, frontier_list}
+use Rattle.graph.proofs.Views.{runs-view, entries-view}
 use Rattle.std.specs.Prelude.{Ok, Err}
 use Rattle.model.specs.Answers.{Pushed}
 
--- The test for the last event number, with no overflow
-pub far_test : (s n : ℕ) → s ≤ 4294967295 → ltb (4294967295 - s) n ≡ ltb 4294967295 (s + n)
-far_test s n h = go (ltb (4294967295 - s) n) refl
-  where
-    go : (t : Bool) → ltb (4294967295 - s) n ≡ t → t ≡ ltb 4294967295 (s + n)
-    go true e = sym (lt-ltb 4294967295 (s + n) (omega (arith, ltb-true (4294967295 - s) n e)))
-    go false e = sym (le-ltb 4294967295 (s + n) (omega (arith, ltb-false (4294967295 - s) n e)))
-
+-- The test for the last event number
 pub far_passed : (s n : ℕ) → ltb 4294967295 (s + n) ≡ false → s + n < 2 ^ 32
 far_passed s n e = omega (arith, ltb-false 4294967295 (s + n) e)
 
@@ -119,25 +112,23 @@ pub record Known (g : CausalGraph) (ps : List ℕ) (n start : ℕ) (c : ParentCo
   pub events : start + n < 2 ^ 32
   pub counted : c ≡ count_parents g.starts g.run_count ps
 
-pub known_of : (g : CausalGraph) (ps : List ℕ) (n start : ℕ) (c : ParentCounts) →
+pub known_of : (g : CausalGraph) → Held g → (ps : List ℕ) (n : ℕ) (c : ParentCounts) → {start : ℕ} → start ≡ len (view g) →
     record {
-      held : Held g;
-      start_value : start ≡ len (view g);
-      ps_value : rising ps ≡ true;
-      ps_value_2 : all_known (view g) ps ≡ true;
-      n_nonzero : 0 < n;
-      n_bound : start + n < 2 ^ 32;
-      counts_value : c ≡ count_parents g.starts g.run_count ps;
+      rising : rising ps ≡ true;
+      known : all_known (view g) ps ≡ true;
+      some_events : 0 < n;
+      events_fit : len (view g) + n < 2 ^ 32;
+      counted : c ≡ count_parents g.starts g.run_count ps;
     } →
     Known g ps n start c
-known_of g ps n start c p = record {
-  holds = p.held;
-  at_end = p.start_value;
-  rises = p.ps_value;
-  known = p.ps_value_2;
-  some = p.n_nonzero;
-  events = p.n_bound;
-  counted = p.counts_value;
+known_of g good ps n c e p = record {
+  holds = good;
+  at_end = e;
+  rises = p.rising;
+  known = p.known;
+  some = p.some_events;
+  events = rw e p.events_fit;
+  counted = p.counted;
 }
 
 module _ {g : CausalGraph} {ps : List ℕ} {n start : ℕ} {c : ParentCounts} (k : Known g ps n start c) where
@@ -147,10 +138,7 @@ module _ {g : CausalGraph} {ps : List ℕ} {n start : ℕ} {c : ParentCounts} (k
   events-len : ltb 4294967295 (len (view g) + n) ≡ false
   events-len = le-ltb 4294967295 (len (view g) + n) (omega (arith, k.at_end, k.events))
 
-  -- The test and the counts of the code are the graph's
-  pub extends_are : {b : Bool} → b ≡ (ltb 0 g.run_count && same ps ((get_or g.starts g.run_count 0 - 1) ∷ [])) → b ≡ extends (view g) ps
-  extends_are e = e ∙ extends-view g k.holds ps
-
+  -- The counts of the code are the graph's
   pub splits_are : c.splits ≡ splits (view g) ps
   unfolding count_parents
   splits_are = ap (λ (x : ParentCounts). x.splits) k.counted ∙ splits_in g k.holds ps
@@ -188,12 +176,12 @@ module _ {g : CausalGraph} {ps : List ℕ} {n start : ℕ} {c : ParentCounts} (k
       omega (arith, entries-view g k.holds, splits_are, held_are) in
       ap (ltb 2048) q ∙ sym e
 
-  left-count : {left : List ℕ} → left ≡ filter (λ e. not (mem e ps)) (take g.frontier_count g.frontier) →
+  left-count : {left : List ℕ} → left ≡ filter (λ e. not (mem e ps)) (view g).frontier →
       length left ≡ length (staying (view g) ps)
   unfolding staying
-  left-count e = ap length (rw (frontier_list g k.holds) e)
+  left-count e = ap length e
 
-  pub left-fits : {left : List ℕ} → left ≡ filter (λ e. not (mem e ps)) (take g.frontier_count g.frontier) → length left ≤ 512
+  pub left-fits : {left : List ℕ} → left ≡ filter (λ e. not (mem e ps)) (view g).frontier → length left ≤ 512
   unfolding staying
   left-fits e = omega (arith, left-count e, filter-length (λ e. not (mem e ps)) (view g).frontier, k.holds.limits.frontier)
 
@@ -221,7 +209,7 @@ module _ {g : CausalGraph} {ps : List ℕ} {n start : ℕ} {c : ParentCounts} (k
 
   pub frontier_too_long : {e b d : Bool} {left : List ℕ} → e ≡ extends (view g) ps → e ≡ false → b ≡ ltb 512 (g.run_count + 1 + c.splits) → b ≡ false →
       d ≡ ltb 2048 (g.entry_count + c.splits + c.held) → d ≡ false →
-      left ≡ filter (λ e. not (mem e ps)) (take g.frontier_count g.frontier) → 512 < length left + 1 →
+      left ≡ filter (λ e. not (mem e ps)) (view g).frontier → 512 < length left + 1 →
       refused_by g FrontierTooLong ≡ push_held_of g ps n
   frontier_too_long e t b u d v f w =
       let long : 512 < length (staying (view g) ps) + 1 = omega (arith, left-count f) in
@@ -239,7 +227,7 @@ pub record NewRun (g : CausalGraph) (ps : List ℕ) (n start : ℕ) (c : ParentC
 pub new-run : {g : CausalGraph} {ps : List ℕ} {n start : ℕ} {c : ParentCounts} → Known g ps n start c → {e b d : Bool} {left : List ℕ} →
     e ≡ extends (view g) ps → e ≡ false → b ≡ ltb 512 (g.run_count + 1 + c.splits) → b ≡ false →
     d ≡ ltb 2048 (g.entry_count + c.splits + c.held) → d ≡ false →
-    left ≡ filter (λ e. not (mem e ps)) (take g.frontier_count g.frontier) → length left + 1 ≤ 512 →
+    left ≡ filter (λ e. not (mem e ps)) (view g).frontier → length left + 1 ≤ 512 →
     NewRun g ps n start c
 new-run {g} {ps} k e t b u d v f w = record {
   known = k;
@@ -295,9 +283,6 @@ module _ {g : CausalGraph} {ps : List ℕ} {n start : ℕ} {c : ParentCounts} (r
   module _ (h : CausalGraph) (parted : h ≡ store (split_after (view g) (held (view g) ps))) where
     parted_view : view h ≡ split_after (view g) (held (view g) ps)
     parted_view = ap view parted ∙ view-store (split_after (view g) (held (view g) ps)) after.formed
-
-    pub parted_held : Held h
-    parted_held = rw parted (held-store (split_after (view g) (held (view g) ps)) after.formed after-limits)
 
     pub parted_len : start ≡ len (view h)
     parted_len = r.known.at_end ∙ sym after.same_len ∙ ap len (sym parted_view)

@@ -36,14 +36,14 @@ fn bad_groups(heads: &[u32], runs: usize, entries: usize) -> bool
     !lists::is_climb(&heads[..runs + 1], entries)
 }
 
-// Whether event b comes just after event a.
-pub(crate) fn is_next(a: EventIndex, b: EventIndex) -> bool
-    ensures { result ≡ eqb (a.0 + 1) b.0 }
+// Whether b comes just after a, which are events or runs.
+pub(crate) fn is_next(a: u32, b: u32) -> bool
+    ensures { result ≡ eqb (a + 1) b }
 {
-    if b.0 <= a.0 {
+    if b <= a {
         return false;
     }
-    b.0 - a.0 == 1
+    b - a == 1
 }
 
 // "the frontier is not rising and below `len` (its last is `len`-1 where there are runs)"
@@ -64,7 +64,7 @@ fn bad_frontier(frontier: &[u32], tips: usize, runs: usize, len: EventIndex) -> 
     if tips == 0 {
         return true;
     }
-    !is_next(EventIndex(frontier[tips - 1]), len)
+    !is_next(frontier[tips - 1], len.0)
 }
 
 // Whether the marks are not those that the starts and the seen lengths give.
