@@ -6,5 +6,5 @@ pub returns : goal.returns
 returns c =
     let a = c.args in
     fresh-stored a.events.0 a.frontier.now _ _ _ _ _ _
-    c.no_starts-starts.ensures c.no_starts.ensures c.no_entries.ensures
-    c.padded.ensures c.no_runs.ensures c.no_runs-2.ensures
+    c.zeros-starts.ensures c.zeros.ensures c.zeros-2.ensures
+    c.padded.ensures c.zeros-3.ensures c.zeros-4.ensures

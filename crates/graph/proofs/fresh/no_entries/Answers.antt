@@ -1,8 +1,0 @@
--- `graph::fresh::no_entries` meets its contract: zeros are the padding of no list. Assumes nothing.
-use mathlib.Core.Path.{refl}
-use Rattle.lists.specs.Areas.{pad}
-use Rattle.graph.proofs.fresh.no_entries.Goals as goal
-
-pub returns : goal.returns
-unfolding pad
-returns c = refl
