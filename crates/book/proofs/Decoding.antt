@@ -1,18 +1,19 @@
--- The words of a list of bytes: how many, the word at a place, a part of them, one more. Assumes nothing.
-use mathlib.Core.Path.{◌≡◌, refl, ◌∙◌, ap}
-use mathlib.Core.List.{List, [], ◌∷◌, ◌++◌, append_assoc}
-use Prim.Native.Nat.{ℕ, zero, suc, ◌+◌, ◌-◌, ◌*◌, ◌<◌, ◌≤◌}
-use native.Mathlib.Numerals.{add-one}
-use native.Mathlib.Omega.{arith}
-use lib.ListN.{length, get_or, take, drop, set}
-use lib.Seq.{drop-drop, drop-cons, get_or-drop, set_at}
-use Rattle.lists.specs.Areas.{over}
-use Rattle.model.specs.Book.{word, words_of}
+-- The words that bytes begin with: how many, the next of them, those that are left after some. Assumes nothing.
+use Rattle.std.proofs.Common.{◌≡◌, refl, sym, ◌∙◌, ap, List, [], ◌∷◌, ◌++◌, ℕ, zero, suc, ◌+◌, ◌-◌, ◌*◌, ◌/◌, ◌<◌, ◌≤◌, length, get_or, take, drop, append_assoc, append-nil, add-one, arith, drop-cons, length-drop, Bool, true, false, subst}
+use Rattle.std.proofs.Math.Option.{none, some, none-ne-some, some-injective}
+use Rattle.std.specs.Int.{w32, from_le_bytes}
+use Rattle.std.specs.List.{IsSplitAt}
+use lib.ListN.{set}
+use lib.Dec.{ltb}
+use lib.Seq.{drop-drop, get_or-drop, set_at}
+use Rattle.model.specs.Book.{word, words_of, take_words}
+use Rattle.std.proofs.lemmas.List.{drop_all}
+use Rattle.model.proofs.BookWords.{Parted, taken, cut_off}
 
-pub words-length : (n : ℕ) (bs : List ℕ) → length (words_of n bs) ≡ n
+pub words_length : (n : ℕ) (bs : List ℕ) → length (words_of n bs) ≡ n
 unfolding words_of
-words-length zero bs = refl
-words-length (suc n) bs = ap suc (words-length n (drop 4 bs))
+words_length zero bs = refl
+words_length (suc n) bs = ap suc (words_length n (drop 4 bs))
 
 -- the bytes after n words and one more
 after_one : (n : ℕ) (bs : List ℕ) → drop (4 * n) (drop 4 bs) ≡ drop (4 * suc n) bs
@@ -32,37 +33,62 @@ take_words_lem (suc m) n bs =
     let e : suc m + n ≡ suc (m + n) = omega arith in
     ap (λ k. take (suc m) (words_of k bs)) e ∙ ap (λ ws. word bs ∷ ws) (take_words_lem m n (drop 4 bs))
 
--- m words from the place a on
-pub words-part : (bs : List ℕ) (n a m : ℕ) → a + m ≤ n → take m (drop a (words_of n bs)) ≡ words_of m (drop (4 * a) bs)
-words-part bs n a m h =
-    let e : n ≡ a + (m + (n - (a + m))) = omega arith in
-    ap (λ k. take m (drop a (words_of k bs))) e ∙ ap (take m) (drop-words a (m + (n - (a + m))) bs) ∙ take_words_lem m (n - (a + m)) (drop (4 * a) bs)
-
--- the word at a place
-pub words-at : (bs : List ℕ) (n i : ℕ) → i < n → get_or (words_of n bs) i 0 ≡ word (drop (4 * i) bs)
-unfolding words_of
-words-at bs zero i h = absurd (omega arith)
-words-at bs (suc n) zero h = refl
-words-at bs (suc n) (suc i) h = words-at (drop 4 bs) n i (omega arith) ∙ ap word (after_one i bs)
-
 words_snoc : (n : ℕ) (bs : List ℕ) → words_of (suc n) bs ≡ words_of n bs ++ word (drop (4 * n) bs) ∷ []
 unfolding words_of
 words_snoc zero bs = refl
 words_snoc (suc n) bs = ap (λ ws. word bs ∷ ws) (words_snoc n (drop 4 bs) ∙ ap (λ cs. words_of n (drop 4 bs) ++ word cs ∷ []) (after_one n bs))
 
 -- One more word in its place
-pub decode_none : (bs l : List ℕ) → l ≡ over (words_of 0 bs) l
-unfolding words_of over
-decode_none bs l = refl
-
-pub decode_next : (bs l : List ℕ) (i : ℕ) → i < length l → set (over (words_of i bs) l) i (word (drop (4 * i) bs)) ≡ over (words_of (i + 1) bs) l
-unfolding over
+pub decode_next : (bs l : List ℕ) (i : ℕ) → i < length l → set (words_of i bs ++ drop i l) i (word (drop (4 * i) bs)) ≡ words_of (i + 1) bs ++ drop (i + 1) l
 decode_next bs l i h =
-    rw (add-one i, words-length i bs, words-length (suc i) bs, words_snoc i bs, append_assoc, drop-cons l i 0 h)
-    (set_at (words_of i bs) (get_or l i 0) (drop (suc i) l) (word (drop (4 * i) bs)) i (words-length i bs))
+    rw (add-one i, words_snoc i bs, append_assoc, drop-cons l i 0 h)
+    (set_at (words_of i bs) (get_or l i 0) (drop (suc i) l) (word (drop (4 * i) bs)) i (words_length i bs))
 
--- A word by its bytes
+pub decode_all : (bs l : List ℕ) (i : ℕ) → length l ≤ i → i ≤ length l → words_of i bs ++ drop i l ≡ words_of (length l) bs
+decode_all bs l i h k =
+    let e : i ≡ length l = omega arith in
+    ap (λ (n : ℕ). words_of n bs ++ drop n l) e ∙ ap (λ (r : List ℕ). words_of (length l) bs ++ r) (drop_all (length l) l (omega arith)) ∙ append-nil (words_of (length l) bs)
+
+-- A word by its four bytes
 pub word_bytes : (bs : List ℕ) (at : ℕ) →
-    word (drop at bs) ≡ get_or bs at 0 + get_or bs (at + 1) 0 * 256 + get_or bs (at + 2) 0 * 65536 + get_or bs (at + 3) 0 * 16777216
+    word (drop at bs) ≡ from_le_bytes w32 (get_or bs at 0 ∷ get_or bs (at + 1) 0 ∷ get_or bs (at + 2) 0 ∷ get_or bs (at + 3) 0 ∷ [])
 unfolding word
 word_bytes bs at = let e : at + 0 ≡ at = omega arith in rw (get_or-drop at bs 0 0, get_or-drop at bs 1 0, get_or-drop at bs 2 0, get_or-drop at bs 3 0, e)
+
+-- Words taken from the front, where `ws` are the words of the bytes `bs`
+module _ (bs ws : List ℕ) (d : ws ≡ words_of (length bs / 4) bs) (n : ℕ) where
+  ws_length : length ws ≡ length bs / 4
+  ws_length = ap length d ∙ words_length (length bs / 4) bs
+
+  pub none_left : length ws < n → take_words n bs ≡ none
+  none_left h = cut_off bs 0 n (omega arith) (omega (arith, ws_length))
+
+  pub fits : n ≤ length ws → 4 * n ≤ length bs
+  fits h = omega (arith, ws_length)
+
+  module _ (a b rest : List ℕ) (s : IsSplitAt ws n a b) (r : rest ≡ drop (4 * n) bs) where
+    parts : length bs / 4 ≡ n + (length bs / 4 - n)
+    parts = omega (arith, ws_length, s.0)
+
+    words_are : ws ≡ words_of (n + (length bs / 4 - n)) bs
+    words_are = d ∙ ap (λ k. words_of k bs) parts
+
+    pub some_taken : take_words n bs ≡ some (a, rest)
+    some_taken =
+        let e : 0 + n ≡ n = omega arith in
+        let first : words_of n bs ≡ a = sym (s.1 ∙ ap (take n) words_are ∙ take_words_lem n (length bs / 4 - n) bs) in
+        taken bs 0 n (omega (arith, ws_length, s.0)) ∙ ap (λ k. some (words_of n bs, drop (4 * k) bs)) e ∙ ap (λ l. some (l, drop (4 * n) bs)) first ∙ ap (λ l. some (a, l)) (sym r)
+
+    pub decoded_after : b ≡ words_of (length rest / 4) rest
+    decoded_after =
+        let e : length bs / 4 - n ≡ length rest / 4 = omega (arith, ap length r, length-drop (4 * n) bs, fits s.0) in
+        s.2 ∙ ap (drop n) words_are ∙ drop-words n (length bs / 4 - n) bs ∙ ap (λ l. words_of (length bs / 4 - n) l) (sym r) ∙ ap (λ k. words_of k rest) e
+
+-- The next word
+pub one_word : (bs ws rest : List ℕ) → take_words 1 bs ≡ some (ws, rest) → ws ≡ get_or ws 0 0 ∷ []
+unfolding take_words words_of
+one_word bs ws rest = go (ltb (length bs) (4 * 1))
+  where
+    go : (t : Bool) → ◌≡◌ {A = Parted} (elim t as (λ _. Parted) [ true ↦ none | false ↦ some (words_of 1 bs, drop (4 * 1) bs) ]) (some (ws, rest)) → ws ≡ get_or ws 0 0 ∷ []
+    go true e = absurd (none-ne-some (ws, rest) e)
+    go false e = let w : words_of 1 bs ≡ ws = ap (λ (t : List ℕ × List ℕ). t.0) (some-injective (words_of 1 bs, drop (4 * 1) bs) (ws, rest) e) in subst (λ (l : List ℕ). l ≡ get_or l 0 0 ∷ []) w refl

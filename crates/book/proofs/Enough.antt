@@ -21,7 +21,7 @@ use Rattle.book.proofs.Numbers.{Small, Smalls}
 use Rattle.book.proofs.Whole.{by_answer, replay_text_lem}
 use Rattle.std.specs.Prelude.{Ok, Err, Result}
 use Rattle.model.specs.declared.answers.BookRefusal.{BookRefusal}
-use Rattle.model.specs.declared.answers.BookRefusal.TheVariants.{Refused, PushRefused}
+use Rattle.model.specs.declared.answers.BookRefusal.TheVariants.{Refused as BookRefused, PushRefused}
 
 -- No line is longer than 55 bytes
 line_length : (l : Line) → length (ended l) ≤ 55
@@ -56,10 +56,10 @@ steps-length (s ∷ ss) l h =
 -- The text of a book, by its answer
 answer-length : (g : CausalGraph) → Held g → (a : (Result (Unit {0}) BookRefusal)) → length (text (by_answer g a)) ≤ 65591
 unfolding by_answer
-answer-length g H (Ok _) =
+answer-length g H (Ok tt) =
     let r = replay_text_lem g H in
     omega (arith, ap (λ (ls : List Line). length (text ls)) r.2.0, steps-length r.0 r.1 r.2.2, r.2.1)
-answer-length g H (Err (Refused r)) = omega (arith, one_length (refused_line (number r)))
+answer-length g H (Err (BookRefused r)) = omega (arith, one_length (refused_line (number r)))
 answer-length g H (Err (PushRefused r k)) = omega (arith, one_length (push_refused_line (number r) k))
 
 -- A buffer of 131,072 bytes is long enough for every book

@@ -2,10 +2,10 @@
 use mathlib.Core.Path.{◌≡◌, refl, sym, ◌∙◌, ap}
 use mathlib.Core.Bool.{Bool, true, false}
 use mathlib.Core.List.{List, [], ◌∷◌, ◌++◌, map, append_assoc}
-use Prim.Native.Nat.{ℕ, suc, ◌+◌, ◌-◌, ◌<◌, ◌≤◌}
+use Prim.Native.Nat.{ℕ, ◌+◌, ◌-◌, ◌<◌, ◌≤◌}
 use native.Mathlib.Omega.{arith}
 use lib.ListN.{length, get_or, take, drop, length-append, length-drop}
-use lib.Seq.{length-take-le, take-append_seam, drop-append-add, drop-drop, drop-cons}
+use lib.Seq.{take-append_seam, drop-append-add, drop-drop}
 use lib.Dec.{ltb}
 use borrow.Author.Tests.{lt-ltb, le-ltb, le-leb, lt-leb, ltb-true}
 use Rattle.lists.specs.Lists.{concat}
@@ -14,72 +14,40 @@ use Rattle.lists.proofs.Truth.{lt_or_le, bool_iff}
 use mathlib.Core.Logic.{◌⊎◌, inl, inr}
 use Rattle.model.specs.Reader.{decoded}
 use Rattle.model.specs.Print.{Line as PrintLine, text}
-use Rattle.book.specs.declared.printing.Line.{Line}
 use Rattle.book.specs.declared.printing.Printed.{Printed}
-use Rattle.book.specs.Output.{shown, ended, step_bytes, word_lines, put_line, put_lines, printing}
+use Rattle.book.specs.Output.{ended, step_bytes, word_lines, put_line, put_lines, printing}
 
 -- Where a line goes
 module _ (p : Printed) (out xs : List ℕ) where
-  put-after : p.short ≡ true → ◌≡◌ {A = Printed × List ℕ} (record { used = p.used; short = true }, out) (put_line (p, out) xs)
+  pub put-after : p.short ≡ true → ◌≡◌ {A = Printed × List ℕ} (record { used = p.used; short = true }, out) (put_line (p, out) xs)
   unfolding put_line
   put-after e = rw e
 
-  put-none : p.short ≡ false → length out < p.used + length xs → ◌≡◌ {A = Printed × List ℕ} (record { used = p.used; short = true }, out) (put_line (p, out) xs)
+  pub put-none : p.short ≡ false → length out < p.used + length xs → ◌≡◌ {A = Printed × List ℕ} (record { used = p.used; short = true }, out) (put_line (p, out) xs)
   unfolding put_line
   put-none e h = rw (e, lt-leb (p.used + length xs) (length out) h)
 
-  put-fits : p.short ≡ false → p.used + length xs ≤ length out →
+  pub put-fits : p.short ≡ false → p.used + length xs ≤ length out →
       ◌≡◌ {A = Printed × List ℕ} (record { used = p.used + length xs; short = false }, take p.used out ++ xs ++ drop (p.used + length xs) out) (put_line (p, out) xs)
   unfolding put_line
   put-fits e h = rw (e, le-leb (p.used + length xs) (length out) h)
 
--- The same of a line in its array
-module _ (p : Printed) (out : List ℕ) (l : Line) (n : length l.bytes ≡ 64) (f : l.count ≤ 64) where
-  shown-length : length (shown l) ≡ l.count
-  unfolding shown
-  shown-length = length-take-le l.count l.bytes (omega arith)
+-- The lines of words, three at a time
+pub lines_next : (w : Printed × List ℕ) (x ws : List ℕ) → length x ≡ 3 →
+    put_lines (put_line w (step_bytes (decoded (get_or x 0 0) (get_or x 1 0) (get_or x 2 0)))) (word_lines ws) ≡ put_lines w (word_lines (x ++ ws))
+unfolding put_lines word_lines
+lines_next w [] ws h = absurd (omega arith)
+lines_next w (k ∷ []) ws h = absurd (omega arith)
+lines_next w (k ∷ a ∷ []) ws h = absurd (omega arith)
+lines_next w (k ∷ a ∷ b ∷ []) ws h = refl
+lines_next w (k ∷ a ∷ b ∷ d ∷ x) ws h = absurd (omega arith)
 
-  pub line_after : p.short ≡ true → ◌≡◌ {A = Printed × List ℕ} (record { used = p.used; short = true }, out) (put_line (p, out) (shown l))
-  line_after e = put-after p out (shown l) e
-
-  pub line_none : p.short ≡ false → length out < p.used + l.count → ◌≡◌ {A = Printed × List ℕ} (record { used = p.used; short = true }, out) (put_line (p, out) (shown l))
-  line_none e h = put-none p out (shown l) e (omega (arith, shown-length))
-
-  pub line_fits : (m : List ℕ) → p.short ≡ false → p.used + l.count ≤ length out →
-      m ≡ take p.used out ++ take (l.count - 0) l.bytes ++ drop (p.used + length (take (l.count - 0) l.bytes)) out →
-      ◌≡◌ {A = Printed × List ℕ} (record { used = p.used + l.count; short = false }, m) (put_line (p, out) (shown l))
-  unfolding shown
-  line_fits m e h q =
-      let z : l.count - 0 ≡ l.count = omega arith in
-      ap {A = ℕ} {B = Printed × List ℕ} (λ k. (record { used = p.used + k; short = false }, m)) (sym shown-length) ∙
-      ap {A = List ℕ} {B = Printed × List ℕ} (λ (x : List ℕ). (record { used = p.used + length (take l.count l.bytes); short = false }, x))
-      (q ∙ ap (λ k. take p.used out ++ take k l.bytes ++ drop (p.used + length (take k l.bytes)) out) z) ∙
-      put-fits p out (shown l) e (omega (arith, shown-length))
-
--- The lines of words
-three : (ws : List ℕ) (i : ℕ) → i + 3 ≤ length ws → drop i ws ≡ get_or ws i 0 ∷ get_or ws (i + 1) 0 ∷ get_or ws (i + 2) 0 ∷ drop (i + 3) ws
-three ws i h =
-    let e₁ : i + 1 ≡ suc i = omega arith in
-    let e₂ : i + 2 ≡ suc (suc i) = omega arith in
-    let e₃ : i + 3 ≡ suc (suc (suc i)) = omega arith in
-    rw (e₁, e₂, e₃, drop-cons ws i 0 (omega arith), drop-cons ws (suc i) 0 (omega arith), drop-cons ws (suc (suc i)) 0 (omega arith))
-
-few : (ws : List ℕ) → length ws < 3 → word_lines ws ≡ []
-unfolding word_lines
-few [] h = refl
-few (k ∷ []) h = refl
-few (k ∷ a ∷ []) h = refl
-few (k ∷ a ∷ b ∷ ws) h = absurd (omega arith)
-
-module _ (w : Printed × List ℕ) (ws : List ℕ) (i : ℕ) where
-  pub lines_next : i + 3 ≤ length ws →
-      put_lines (put_line w (step_bytes (decoded (get_or ws i 0) (get_or ws (i + 1) 0) (get_or ws (i + 2) 0)))) (word_lines (drop (i + 3) ws)) ≡ put_lines w (word_lines (drop i ws))
-  unfolding put_lines word_lines
-  lines_next h = sym (ap (λ (l : List ℕ). put_lines w (word_lines l)) (three ws i h))
-
-  pub lines_none : length ws < i + 3 → w ≡ put_lines w (word_lines (drop i ws))
-  unfolding put_lines
-  lines_none h = ap (put_lines w) (sym (few (drop i ws) (omega (arith, length-drop i ws))))
+pub lines_none : (w : Printed × List ℕ) (ws : List ℕ) → length ws < 3 → w ≡ put_lines w (word_lines ws)
+unfolding put_lines word_lines
+lines_none w [] h = refl
+lines_none w (k ∷ []) h = refl
+lines_none w (k ∷ a ∷ []) h = refl
+lines_none w (k ∷ a ∷ b ∷ ws) h = absurd (omega arith)
 
 -- Lines after one that did not fit
 short-stays : (n : ℕ) (out : List ℕ) (xs : List (List ℕ)) →

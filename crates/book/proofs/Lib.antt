@@ -2,10 +2,9 @@
 pub mod Decoding
 pub mod Taking
 pub mod Turning
-pub mod Heading
 pub mod Decimals
-pub mod Lining
 pub mod Fits
+pub mod Lining
 pub mod Numbers
 pub mod Whole
 pub mod Enough

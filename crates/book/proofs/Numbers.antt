@@ -172,7 +172,7 @@ range_in_lem g N (concurrent a b) rows lo end cs h k = go (rows_too_long (range_
 
     go : (t : Bool) → Smalls N (elim t as (λ _. Replayed) [
       | true ↦ (Err RowsTooLong, opened a b ∷ [], rows_into (range_of g a b) rows)
-      | false ↦ (Ok tt, opened a b ∷ steps_of (range_of g a b) a 0 0, rows_into (range_of g a b) rows)
+      | false ↦ ((Ok tt), opened a b ∷ steps_of (range_of g a b) a 0 0, rows_into (range_of g a b) rows)
     ]).1
     go true = ((omega (arith, h.1, e), omega (arith, e)), tt)
     go false = ((omega (arith, h.1, e), omega (arith, e)), steps_in g N a b (omega (arith, h.1, e, range_span g a b)))

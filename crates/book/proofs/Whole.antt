@@ -5,7 +5,7 @@ use mathlib.Core.List.{List, [], ◌∷◌, ◌++◌, map}
 use mathlib.Core.Option.{Option, none, some}
 use Prim.Native.Nat.{ℕ, ◌-◌, ◌*◌, ◌/◌, ◌≤◌}
 use native.Mathlib.Omega.{arith}
-use lib.ListN.{length, take, drop, replicate, length-append, length-take, length-replicate}
+use lib.ListN.{length, take, replicate, length-append, length-take, length-replicate}
 use lib.Dec.{ltb, eqb}
 use borrow.Author.Tests.{ltb-false}
 use Rattle.lists.specs.Lists.{concat}
@@ -29,8 +29,7 @@ use Rattle.model.proofs.Results.{replay_is}
 use Rattle.model.proofs.Reading.{said-words, words-length}
 use Rattle.lists.proofs.Pads.{take-over}
 use Rattle.book.specs.declared.printing.Printed.{Printed}
-use Rattle.book.specs.declared.printing.Line.{Line}
-use Rattle.book.specs.Output.{shown, Shows, ended, step_bytes, word_lines, put_line, put_lines, printing, lines_of}
+use Rattle.book.specs.Output.{ended, step_bytes, word_lines, put_line, put_lines, printing, lines_of}
 use Rattle.book.proofs.Numbers.{Smalls, replay_numbers}
 use Rattle.book.proofs.Fits.{unused, lines_printing, line_printing, put-append}
 use Rattle.std.specs.Prelude.{Ok, Err, Result}
@@ -124,18 +123,17 @@ module _ (g : CausalGraph) (H : Held g) where
         ap (λ (ss : List Step). map step_line ss ++ last_line w.outcome w.moved ∷ [])
         (said-steps (take (3 * w.count) steps) all.1 (ap said words_are ∙ said-words all.1))
 
-    pub replay_printed : (out out₁ out₂ : List ℕ) (b p r : Printed) (l : Line) → b ≡ unused →
-        (p, out₁) ≡ put_lines (b, out) (word_lines (take (3 * w.count - 0) (drop 0 steps))) →
-        Shows l (ended (last_line w.outcome w.moved)) → (r, out₂) ≡ put_line (p, out₁) (shown l) → (r, out₂) ≡ printing (replay_lines g) out
+    pub replay_printed : (out out₁ out₂ l : List ℕ) (b p r : Printed) → b ≡ unused →
+        (p, out₁) ≡ put_lines (b, out) (word_lines (take (3 * w.count) steps)) →
+        l ≡ ended (last_line w.outcome w.moved) → (r, out₂) ≡ put_line (p, out₁) l → (r, out₂) ≡ printing (replay_lines g) out
     unfolding put_lines
-    replay_printed out out₁ out₂ b p r l eb ep S er =
+    replay_printed out out₁ out₂ l b p r eb ep el er =
         let last = last_line w.outcome w.moved in
-        let z : 3 * w.count - 0 ≡ 3 * w.count = omega arith in
         let stepped : (p, out₁) ≡ put_lines (unused, out) (map ended (map step_line all.1)) =
-        ep ∙ ap (λ (x : Printed). put_lines (x, out) (word_lines (take (3 * w.count - 0) steps))) eb ∙
-        ap (λ (ws : List ℕ). put_lines (unused, out) (word_lines ws)) (ap (λ n. take n steps) z ∙ words_are) ∙
+        ep ∙ ap (λ (x : Printed). put_lines (x, out) (word_lines (take (3 * w.count) steps))) eb ∙
+        ap (λ (ws : List ℕ). put_lines (unused, out) (word_lines ws)) words_are ∙
         ap (put_lines (unused, out)) (words_lines all.1) in
-        er ∙ ap (put_line (p, out₁)) S.text ∙ ap (λ (x : Printed × List ℕ). put_line x (ended last)) stepped ∙
+        er ∙ ap (put_line (p, out₁)) el ∙ ap (λ (x : Printed × List ℕ). put_line x (ended last)) stepped ∙
         sym (put-append (unused, out) (map ended (map step_line all.1)) (ended last ∷ [])) ∙
         ap (put_lines (unused, out)) (sym (map-append (map step_line all.1) (last ∷ []))) ∙
         lines_printing (map step_line all.1 ++ last ∷ []) out ∙ ap (λ (ls : List PrintLine). printing ls out) (sym lines_are)
@@ -152,10 +150,8 @@ replay_text_lem g H =
     )
 
 -- A single line
-pub line_printed : (out out₁ : List ℕ) (b r : Printed) (l : Line) (x : PrintLine) → b ≡ unused → Shows l (ended x) →
-    (r, out₁) ≡ put_line (b, out) (shown l) → (r, out₁) ≡ printing (x ∷ []) out
-line_printed out out₁ b r l x eb S er =
-    er ∙ ap (put_line (b, out)) S.text ∙ ap (λ (c : Printed). put_line (c, out) (ended x)) eb ∙ line_printing x out
+pub line_printed : (out l : List ℕ) (x : PrintLine) {w : Printed × List ℕ} → l ≡ ended x → w ≡ put_line (unused, out) l → w ≡ printing (x ∷ []) out
+line_printed out l x e p = p ∙ ap (put_line (unused, out)) e ∙ line_printing x out
 
 -- The lines of a book by its answer
 unfoldable pub by_answer : CausalGraph → Result (Unit {0}) BookRefusal → List PrintLine

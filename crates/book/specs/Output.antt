@@ -1,5 +1,5 @@
 -- Lines written into a lent buffer: the whole lines that fit. Assumes nothing.
-use Rattle.std.specs.Prelude.{◌≡◌, true, false, not, cond, ◌&&◌, List, [], ◌∷◌, ◌++◌, map, ℕ, ◌+◌, ◌≤◌, length, take, drop, leb, ltb, Ok, Err}
+use Rattle.std.specs.Prelude.{true, false, not, cond, ◌&&◌, List, [], ◌∷◌, ◌++◌, map, ℕ, ◌+◌, length, take, drop, leb, ltb, Ok, Err}
 use Rattle.std.proofs.Math.Option.{Option, none, some}
 use Rattle.lists.specs.Lists.{concat}
 use Rattle.lists.specs.Areas.{over, fitting}
@@ -7,7 +7,6 @@ use Rattle.model.specs.Steps.{Step}
 use Rattle.model.specs.Reader.{decoded}
 use Rattle.model.specs.declared.answers.BookRead.{BookRead}
 use Rattle.model.specs.Print.{Line as PrintLine, step_line, refusal_line, ascii, line_text, text, replay_lines}
-use Rattle.book.specs.declared.printing.Line.{Line}
 use Rattle.book.specs.declared.printing.Printed.{Printed}
 
 -- how many bytes a line has room for
@@ -17,21 +16,6 @@ max_line = 64
 -- how many bytes the lines of any book take at most
 abbrev pub max_text : ℕ
 max_text = 131072
-
--- a line's text
-unfoldable pub shown : Line → List ℕ
-shown l = take l.count l.bytes
-
--- a line has just this text
-pub record Shows (l : Line) (xs : List ℕ) : Type 0 where
-  pub text : shown l ≡ xs
-  pub count : l.count ≡ length xs
-  pub fits : l.count ≤ max_line
-
--- a line is another with a text after it
-pub record Adds (l : Line) (xs : List ℕ) (r : Line) : Type 0 where
-  pub text : shown r ≡ shown l ++ xs
-  pub count : r.count ≡ l.count + length xs
 
 -- a line of 01's, and its end
 unfoldable pub ended : PrintLine → List ℕ

@@ -4,5 +4,6 @@
 mod printing;
 pub mod reading;
 pub mod replaying;
+mod words;
 
 pub use printing::Printed;

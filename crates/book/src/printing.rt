@@ -1,29 +1,141 @@
 // What `replay` prints, line by line, into a lent buffer: the whole lines that fit.
-ghost use Rattle.std.specs.Prelude.{◌≡◌, false, [], ◌++◌, ◌+◌, ◌<◌, ◌≤◌, length, drop, take, replicate};
+ghost use Rattle.std.specs.Prelude.{◌≡◌, false, not, ◌&&◌, ℕ, List, [], ◌++◌, ◌+◌, ◌≤◌, length, take, leb};
 ghost use Rattle.model.specs.Refusals;
 ghost use Rattle.model.specs.Print;
 ghost use Rattle.model.specs.Print.{ascii, last_line, refused_line, push_refused_line, refusal_line};
 ghost use Rattle.model.specs.Reader.{decoded};
 ghost use Rattle.book.specs.Output;
-ghost use Rattle.book.specs.Output.{max_line, shown, Shows, Adds, step_bytes, word_lines, put_line, put_lines};
+ghost use Rattle.book.specs.Output.{max_line, step_bytes, word_lines, put_line, put_lines};
 
-use model::{BookRefusal, EventRunIndex, Refusal};
+use itoa::Buffer;
+use model::{BookRefusal, EventRunIndex, Refusal, WalkStep};
+use std::marker::Model;
 
 // How many bytes a line has room for: no line of 01's is longer.
-pub(crate) const MAX_LINE: usize = 64;
+const MAX_LINE: usize = 64;
 
-// A line: `count` of its bytes are used.
-#[derive(Clone, Copy)]
+// A line, of which `count` bytes are used.
+#[derive(Drop)]
 pub(crate) struct Line {
-    pub(crate) bytes: [u8; MAX_LINE],
-    pub(crate) count: usize,
+    bytes: [u8; MAX_LINE],
+    count: usize,
 }
 
-// A number's digits, from place `at` on.
-#[derive(Clone, Copy)]
-pub(crate) struct Digits {
-    pub(crate) bytes: [u8; 20],
-    pub(crate) at: usize,
+// Clauses see the text.
+impl Model for Line {
+    ghost Value = { List ℕ };
+
+    ghost view = { λ l. take l.count l.bytes };
+
+    ghost invariant = { λ l. l.count ≤ 64 };
+}
+
+impl Line {
+    // A line with no text yet.
+    fn new() -> Self
+        ensures { result ≡ [] }
+    {
+        Line {
+            bytes: [0; MAX_LINE],
+            count: 0,
+        }
+    }
+
+    // The line with a text after it.
+    fn text(mut self, s: &[u8]) -> Self
+        requires { length self + length s.now ≤ max_line }
+        ensures text { result ≡ self ++ s.now }
+        ensures len { length result ≡ length self + length s.now }
+    {
+        let at = self.count;
+        let end = at + s.len();
+        self.bytes[at..end].copy_from_slice(s);
+        self.count = end;
+        self
+    }
+
+    // The line with a number after it, in decimal.
+    #[tactic(auto, using(crate::proofs::Decimals::decimal_is))]
+    fn number(self, n: u64) -> Self
+        requires { length self + 20 ≤ max_line }
+        ensures text { result ≡ self ++ Print.decimal n }
+        ensures len { length result ≤ length self + 20 }
+    {
+        self.text(Buffer::new().format(n).as_bytes())
+    }
+}
+
+// A name and a number, as a line.
+#[tactic(auto, unfolding(model::specs::Print::ascii))]
+fn one(name: &[u8], n: u64) -> Line
+    requires { length name.now ≤ 8 }
+    ensures { result ≡ name.now ++ Print.decimal n ++ ascii "\n" }
+{
+    Line::new().text(name).number(n).text(b"\n")
+}
+
+// A name and two runs, as a line.
+#[tactic(auto, unfolding(model::specs::Print::ascii))]
+fn two(name: &[u8], a: EventRunIndex, b: EventRunIndex) -> Line
+    requires { length name.now ≤ 8 }
+    ensures { result ≡ name.now ++ Print.decimal a.0 ++ ascii " " ++ Print.decimal b.0 ++ ascii "\n" }
+{
+    let first = Line::new().text(name).number(u64::from(a.0));
+    first.text(b" ").number(u64::from(b.0)).text(b"\n")
+}
+
+// A step's line, by its three words; nothing where there is no such step.
+#[tactic(auto, using(crate::proofs::Lining::step_lines), unfolding(model::specs::Print::ascii, crate::specs::Output::step_bytes))]
+fn step_line(kind: u32, a: EventRunIndex, b: EventRunIndex) -> Line
+    ensures { result ≡ step_bytes (decoded kind a.0 b.0) }
+{
+    match reader::step_of(kind, a, b) {
+        Some(WalkStep::Retreat(a, b)) => two(b"retreat ", a, b),
+        Some(WalkStep::Advance(a, b)) => two(b"advance ", a, b),
+        Some(WalkStep::Apply(r)) => one(b"apply ", u64::from(r.0)),
+        Some(WalkStep::Open(a, b)) => two(b"open ", a, b),
+        None => Line::new(),
+    }
+}
+
+// A refusal's line.
+#[tactic(auto, unfolding(model::specs::Print::ascii, model::specs::Print::say, model::specs::Print::line_text, crate::specs::Output::ended))]
+fn refused_line(r: Refusal) -> Line
+    ensures { result ≡ Output.ended (refused_line (Refusals.number r)) }
+{
+    one(b"refused ", u64::from(u32::from(r)))
+}
+
+// The line of a push that was refused.
+#[tactic(auto, unfolding(model::specs::Print::ascii, model::specs::Print::say, model::specs::Print::line_text, crate::specs::Output::ended))]
+fn push_refused_line(r: Refusal, k: u32) -> Line
+    ensures { result ≡ Output.ended (push_refused_line (Refusals.number r) k) }
+{
+    let told = Line::new()
+        .text(b"refused ")
+        .number(u64::from(u32::from(r)));
+    told.text(b" push ").number(u64::from(k)).text(b"\n")
+}
+
+// The line of a book that is refused.
+pub(crate) fn refusal_line(r: BookRefusal) -> Line
+    ensures { result ≡ Output.ended (refusal_line r) }
+{
+    match r {
+        BookRefusal::Refused(r) => refused_line(r),
+        BookRefusal::PushRefused(r, k) => push_refused_line(r, k),
+    }
+}
+
+// The line after a replay's steps.
+#[tactic(auto, unfolding(model::specs::Print::ascii, model::specs::Print::say, model::specs::Print::line_text, model::specs::Print::last_line, crate::specs::Output::ended))]
+pub(crate) fn last_line(outcome: Result<(), Refusal>, moved: u64) -> Line
+    ensures { result ≡ Output.ended (last_line outcome moved) }
+{
+    match outcome {
+        Ok(()) => one(b"moved ", moved),
+        Err(r) => refused_line(r),
+    }
 }
 
 // How many bytes of a lent buffer are used, and whether a line did not fit.
@@ -33,226 +145,46 @@ pub struct Printed {
     pub short: bool,
 }
 
-fn no_digits() -> [u8; 20]
-    ensures { result ≡ replicate 20 0 }
-{
-    [0; 20]
-}
-
-fn digit(n: u64) -> u8
-    requires { n < 10 }
-    ensures { result ≡ 48 + n }
-{
-    48 + n as u8
-}
-
-// A number in decimal.
-fn decimal(n: u64) -> Digits
-    ensures { (drop result.at result.bytes ≡ Print.decimal n) × (result.at < 20) }
-{
-    let mut bytes = no_digits();
-    let mut at = 20;
-    let mut left = n;
-    while 10 <= left {
-        at -= 1;
-        bytes[at] = digit(left % 10);
-        left /= 10;
+impl Printed {
+    // Nothing printed yet.
+    pub(crate) fn new() -> Self
+        ensures { result ≡ record { used = 0; short = false } }
+    {
+        Printed {
+            used: 0,
+            short: false,
+        }
     }
-    at -= 1;
-    bytes[at] = digit(left);
-    Digits {
-        bytes: bytes,
-        at: at,
+
+    // Whether `n` bytes more fit into `room`, and all before them did.
+    fn fits(&self, n: usize, room: usize) -> bool
+        ensures { result ≡ (not self.now.short && leb (self.now.used + n) room) }
+    {
+        !self.short && n <= room && self.used <= room - n
     }
-}
 
-// Copies bytes to the places of a list from `at` on.
-fn copy(list: &mut [u8], at: usize, s: &[u8])
-    requires { at + length s.now ≤ length list.old }
-    ensures { list.new ≡ take at list.old ++ s.now ++ drop (at + length s.now) list.old }
-{
-    let mut i = 0;
-    while i < s.len() {
-        list[at + i] = s[i];
-        i += 1;
+    // Puts a line after the used bytes, if it fits and all before it did.
+    #[tactic(auto, unfolding(crate::specs::Output::put_line))]
+    pub(crate) fn put(&mut self, out: &mut [u8], line: &Line)
+        ensures { (self.new, out.new) ≡ put_line (self.old, out.old) line.now }
+    {
+        let text = &line.bytes[..line.count];
+        if !self.fits(text.len(), out.len()) {
+            self.short = true;
+            return;
+        }
+        let at = self.used;
+        self.used += text.len();
+        out[at..self.used].copy_from_slice(text);
     }
-}
 
-fn no_line() -> [u8; MAX_LINE]
-    ensures { result ≡ replicate max_line 0 }
-{
-    [0; MAX_LINE]
-}
-
-fn empty() -> Line
-    ensures { Shows result [] }
-{
-    Line {
-        bytes: no_line(),
-        count: 0,
+    // Puts a line for each step of a list of words.
+    pub(crate) fn put_steps(&mut self, out: &mut [u8], steps: &[u32])
+        ensures { (self.new, out.new) ≡ put_lines (self.old, out.old) (word_lines steps.now) }
+    {
+        for step in steps.chunks_exact(3) {
+            let line = step_line(step[0], EventRunIndex(step[1]), EventRunIndex(step[2]));
+            self.put(out, &line);
+        }
     }
-}
-
-// The line with a text after it.
-fn text(l: Line, s: &[u8]) -> Line
-    requires { l.count + length s.now ≤ max_line }
-    ensures { Adds l s.now result }
-{
-    let n = l.count;
-    let mut bytes = l.bytes;
-    copy(&mut bytes, n, s);
-    Line {
-        bytes: bytes,
-        count: n + s.len(),
-    }
-}
-
-// The line with a number after it.
-fn number(l: Line, n: u64) -> Line
-    requires { l.count + 20 ≤ max_line }
-    ensures { Adds l (Print.decimal n) result }
-{
-    let d = decimal(n);
-    let at = d.at;
-    let bytes = d.bytes;
-    text(l, &bytes[at..20])
-}
-
-fn wide(n: u32) -> u64
-    ensures { result ≡ n }
-{
-    n as u64
-}
-
-// A name and a number, as a line.
-fn one(name: &[u8], n: u64) -> Line
-    requires { length name.now ≤ 8 }
-    ensures { Shows result (name.now ++ Print.decimal n ++ ascii "\n") }
-{
-    let named = text(empty(), name);
-    text(number(named, n), b"\n")
-}
-
-// A name and two numbers, as a line.
-fn two(name: &[u8], a: u32, b: u32) -> Line
-    requires { length name.now ≤ 8 }
-    ensures { Shows result (name.now ++ Print.decimal a ++ ascii " " ++ Print.decimal b ++ ascii "\n") }
-{
-    let named = text(empty(), name);
-    let first = number(named, wide(a));
-    let apart = text(first, b" ");
-    text(number(apart, wide(b)), b"\n")
-}
-
-// A step's line, by its three words; nothing where there is no such step.
-fn step_line(kind: u32, a: EventRunIndex, b: EventRunIndex) -> Line
-    ensures { Shows result (step_bytes (decoded kind a.0 b.0)) }
-{
-    match kind {
-        0 => two(b"retreat ", a.0, b.0),
-        1 => two(b"advance ", a.0, b.0),
-        2 => one(b"apply ", wide(a.0)),
-        3 => two(b"open ", a.0, b.0),
-        _ => empty(),
-    }
-}
-
-// A refusal's number, as wide as a line takes it.
-fn number_of(r: Refusal) -> u64
-    ensures { result ≡ Refusals.number r }
-{
-    wide(u32::from(r))
-}
-
-fn refused_line(r: Refusal) -> Line
-    ensures { Shows result (Output.ended (refused_line (Refusals.number r))) }
-{
-    one(b"refused ", number_of(r))
-}
-
-fn push_refused_line(r: Refusal, k: u32) -> Line
-    ensures { Shows result (Output.ended (push_refused_line (Refusals.number r) k)) }
-{
-    let named = text(empty(), b"refused ");
-    let told = text(number(named, number_of(r)), b" push ");
-    text(number(told, wide(k)), b"\n")
-}
-
-// The line of a book that is refused.
-pub(crate) fn refusal_line(r: BookRefusal) -> Line
-    ensures { Shows result (Output.ended (refusal_line r)) }
-{
-    match r {
-        BookRefusal::Refused(r) => refused_line(r),
-        BookRefusal::PushRefused(r, k) => push_refused_line(r, k),
-    }
-}
-
-// The line after a replay's steps.
-pub(crate) fn last_line(outcome: Result<(), Refusal>, moved: u64) -> Line
-    ensures { Shows result (Output.ended (last_line outcome moved)) }
-{
-    match outcome {
-        Ok(()) => one(b"moved ", moved),
-        Err(r) => refused_line(r),
-    }
-}
-
-// Nothing printed yet.
-pub(crate) fn blank() -> Printed
-    ensures { result ≡ record { used = 0; short = false } }
-{
-    Printed {
-        used: 0,
-        short: false,
-    }
-}
-
-// Puts a line after the used bytes, if it fits and all before it did.
-pub(crate) fn put_line(out: &mut [u8], p: Printed, l: Line) -> Printed
-    requires { l.count ≤ max_line }
-    ensures { (result, out.new) ≡ put_line (p, out.old) (shown l) }
-{
-    let n = l.count;
-    let used = p.used;
-    if p.short {
-        return Printed {
-            used: used,
-            short: true,
-        };
-    }
-    if out.len() < n {
-        return Printed {
-            used: used,
-            short: true,
-        };
-    }
-    if out.len() - n < used {
-        return Printed {
-            used: used,
-            short: true,
-        };
-    }
-    let bytes = l.bytes;
-    copy(out, used, &bytes[0..n]);
-    Printed {
-        used: used + n,
-        short: false,
-    }
-}
-
-// Puts a line for each step of a list of words.
-pub(crate) fn put_steps(out: &mut [u8], p: Printed, steps: &[u32]) -> Printed
-    ensures { (result, out.new) ≡ put_lines (p, out.old) (word_lines steps.now) }
-{
-    let mut now = p;
-    let mut i = 0;
-    while 3 <= steps.len() - i {
-        let a = EventRunIndex(steps[i + 1]);
-        let b = EventRunIndex(steps[i + 2]);
-        let line = step_line(steps[i], a, b);
-        now = put_line(out, now, line);
-        i += 3;
-    }
-    now
 }

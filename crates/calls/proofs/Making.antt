@@ -1,62 +1,46 @@
--- The calls of a list of words, one after another, and the graph that they make. Assumes nothing.
-use mathlib.Core.Path.{◌≡◌, refl, sym, ◌∙◌, ap}
-use mathlib.Core.List.{List, [], ◌∷◌}
-use Prim.Native.Nat.{ℕ, zero, suc, ◌+◌, ◌-◌, ◌≤◌, ◌<◌}
-use native.Mathlib.Omega.{arith}
-use lib.ListN.{length, length-drop, get_or, take, drop}
-use lib.Seq.{take_all}
+-- The start and the calls that words begin with, one after another, and the graph that they make. Assumes nothing.
+use Rattle.std.proofs.Common.{◌≡◌, refl, sym, ◌∙◌, ap, List, [], ◌∷◌, ◌++◌, ℕ, zero, suc, ◌+◌, ◌<◌, length, length-append, arith, Bool, true, false}
+use lib.Seq.{take-append_seam, drop-append_seam}
+use lib.ListN.{drop}
 use Rattle.model.specs.declared.record.CausalGraph.{CausalGraph}
-use Rattle.model.specs.Fresh.{new_of, after_of}
-use Rattle.model.specs.Push.{push_of}
-use Rattle.model.specs.Start.{start_run_at_of, take_changed_from_of}
+use Rattle.model.specs.Fresh.{new_of}
 use Rattle.model.specs.Log.{Fresh, new, after, Call, push, start_run_at, take_changed_from, Log, begin, begin_log, answer, note, after_calls, made_by}
-use Rattle.calls.specs.Words.{list_in, start_size, start_of, call_size, call_of, calls_after, fresh_in, calls_in, graph_after}
-use Rattle.calls.proofs.Reading.{call_in}
-use Rattle.model.specs.Answers.{Made, Pushed}
+use Rattle.calls.specs.Words.{operation, list_in, listed, start_size, start_of, call_operation, call_size, call_of, calls_after, fresh_in, calls_in, graph_after, start_words, call_words}
+use Rattle.calls.proofs.Reading.{whole-all}
 
--- What is lent: a call's list, and the words from a place on
+-- A call that ends in a list is whole where other words follow it
+listed_front : (op n : ℕ) (ps ws : List ℕ) → listed (op ∷ n ∷ length ps ∷ (ps ++ ws)) ≡ 3 + length ps
+unfolding listed
+listed_front op n ps ws =
+    sym (whole-all (3 + length ps) (op ∷ n ∷ length ps ∷ (ps ++ ws)) (simp length-append (omega arith)))
 
-lent_list : (ws : List ℕ) (k : ℕ) → k ≡ get_or ws 2 0 → take ((3 + k) - 3) (drop 3 ws) ≡ list_in ws
-unfolding list_in
-lent_list ws k e = let n : (3 + k) - 3 ≡ get_or ws 2 0 = omega arith in ap (λ n. take n (drop 3 ws)) n
+-- The call whose words stand at the front
+size_front : (lent : Bool) (c : Call) (ws : List ℕ) → call_size (call_words lent c ++ ws) ≡ length (call_words lent c)
+unfolding call_size call_words call_operation operation
+size_front true (push ps n) ws = let e : 3 + length ps ≡ suc (suc (suc (length ps))) = omega arith in listed_front 16 n ps ws ∙ e
+size_front false (push ps n) ws = let e : 3 + length ps ≡ suc (suc (suc (length ps))) = omega arith in listed_front 2 n ps ws ∙ e
+size_front true (start_run_at at) ws = sym (whole-all 2 (17 ∷ at ∷ ws) (omega arith))
+size_front false (start_run_at at) ws = sym (whole-all 2 (3 ∷ at ∷ ws) (omega arith))
+size_front true take_changed_from ws = sym (whole-all 1 (18 ∷ ws) (omega arith))
+size_front false take_changed_from ws = sym (whole-all 1 (4 ∷ ws) (omega arith))
 
-pub lent_rest : (ws : List ℕ) (at : ℕ) → take (length ws - at) (drop at ws) ≡ drop at ws
-lent_rest ws at = take_all (length ws - at) (drop at ws) (omega (arith, length-drop at ws))
+call_front : (lent : Bool) (c : Call) (ws : List ℕ) → call_of (call_words lent c ++ ws) ≡ c
+unfolding call_of call_words call_operation operation list_in
+call_front true (push ps n) ws = ap (λ l. push l n) (take-append_seam ps ws)
+call_front false (push ps n) ws = ap (λ l. push l n) (take-append_seam ps ws)
+call_front true (start_run_at at) ws = refl
+call_front false (start_run_at at) ws = refl
+call_front true take_changed_from ws = refl
+call_front false take_changed_from ws = refl
 
--- The graph of a start
-
-pub begin-new : (ws : List ℕ) → start_of ws ≡ new → new_of ≡ (begin (start_of ws)).1
-unfolding begin
-begin-new ws e = ap (λ (f : Fresh). (begin f).1) (sym e)
-
-pub begin-after : (ws : List ℕ) (events k : ℕ) (m : Made) → events ≡ get_or ws 1 0 → k ≡ get_or ws 2 0 →
-    m ≡ after_of events (take ((3 + k) - 3) (drop 3 ws)) → start_of ws ≡ after (get_or ws 1 0) (list_in ws) → m.graph ≡ (begin (start_of ws)).1
-unfolding begin
-begin-after ws events k m f e h q =
-    ap (λ (x : Made). x.graph) (h ∙ ap (λ n. after_of n (take ((3 + k) - 3) (drop 3 ws))) f ∙ ap (after_of (get_or ws 1 0)) (lent_list ws k e))
-    ∙ ap (λ (x : Fresh). (begin x).1) (sym q)
-
--- The graph that a call leaves
-
-pub pushed : (g : CausalGraph) (ws : List ℕ) (n k : ℕ) (p : Pushed) → n ≡ get_or ws 1 0 → k ≡ get_or ws 2 0 →
-    p ≡ push_of g (take ((3 + k) - 3) (drop 3 ws)) n → p.graph ≡ (push_of g (list_in ws) (get_or ws 1 0)).graph
-pushed g ws n k p f e h =
-    ap (λ (x : Pushed). x.graph) (h ∙ ap (λ ps. push_of g ps n) (lent_list ws k e) ∙ ap (push_of g (list_in ws)) f)
-
-pub leaves_push : (g : CausalGraph) (ws ps : List ℕ) (n : ℕ) → call_of ws ≡ push ps n → (push_of g ps n).graph ≡ (answer g (call_of ws)).1
-unfolding answer
-leaves_push g ws ps n e = ap (λ (x : Call). (answer g x).1) (sym e)
-
-pub leaves_start : (g : CausalGraph) (ws : List ℕ) (at : ℕ) → call_of ws ≡ start_run_at at → (start_run_at_of g at).graph ≡ (answer g (call_of ws)).1
-unfolding answer
-leaves_start g ws at e = ap (λ (x : Call). (answer g x).1) (sym e)
-
-pub leaves_take : (g : CausalGraph) (ws : List ℕ) → call_of ws ≡ take_changed_from → (take_changed_from_of g).graph ≡ (answer g (call_of ws)).1
-unfolding answer
-leaves_take g ws e = ap (λ (x : Call). (answer g x).1) (sym e)
+size-some : (lent : Bool) (c : Call) → 0 < length (call_words lent c)
+unfolding call_words
+size-some lent (push ps n) = omega arith
+size-some lent (start_run_at at) = omega arith
+size-some lent take_changed_from = omega arith
 
 -- The calls after n words and m more
-pub after-add : (n m : ℕ) (ws : List ℕ) → calls_after (n + m) ws ≡ calls_after m (drop n ws)
+after-add : (n m : ℕ) (ws : List ℕ) → calls_after (n + m) ws ≡ calls_after m (drop n ws)
 unfolding calls_after
 after-add zero m ws = let e : 0 + m ≡ m = omega arith in ap (λ k. calls_after k ws) e
 after-add (suc n) m [] = refl
@@ -64,41 +48,94 @@ after-add (suc n) m (w ∷ ws) =
     let e : suc n + m ≡ suc (n + m) = omega arith in
     ap (λ k. calls_after k (w ∷ ws)) e ∙ after-add n m ws
 
+after_front : (front ws : List ℕ) → calls_after (length front) (front ++ ws) ≡ calls_after 0 ws
+after_front front ws =
+    let plus : length front ≡ length front + 0 = omega arith in
+    ap (λ k. calls_after k (front ++ ws)) plus ∙ after-add (length front) 0 (front ++ ws) ∙ ap (calls_after 0) (drop-append_seam front ws)
+
 -- The call at the front, and those after it
-pub front_next : (ws : List ℕ) → 0 < call_size ws → calls_after 0 ws ≡ call_of ws ∷ calls_after (call_size ws) ws
+front_next : (ws : List ℕ) → 0 < length ws → 0 < call_size ws → calls_after 0 ws ≡ call_of ws ∷ calls_after (call_size ws) ws
 unfolding calls_after
-front_next [] h = absurd (omega (arith, call_in []))
-front_next (w ∷ ws) h = go (call_size (w ∷ ws)) h
+front_next [] k h = absurd (omega arith)
+front_next (w ∷ ws) k h = go (call_size (w ∷ ws)) h
   where
     go : (s : ℕ) → 0 < s → elim s [ zero ↦ [] | suc n ↦ call_of (w ∷ ws) ∷ calls_after n ws ] ≡ call_of (w ∷ ws) ∷ calls_after s (w ∷ ws)
     go zero h = absurd (omega arith)
     go (suc n) h = refl
 
-front_none : (ws : List ℕ) → call_size ws ≡ 0 → calls_after 0 ws ≡ []
+module _ (lent : Bool) (c : Call) (ws : List ℕ) where
+  pub words_shorter : length ws < length (call_words lent c ++ ws)
+  words_shorter = omega (arith, length-append (call_words lent c) ws, size-some lent c)
+
+  pub calls_next : calls_after 0 (call_words lent c ++ ws) ≡ c ∷ calls_after 0 ws
+  calls_next =
+      front_next (call_words lent c ++ ws) (omega (arith, words_shorter)) (omega (arith, size_front lent c ws, size-some lent c)) ∙
+      ap (λ d. d ∷ calls_after (call_size (call_words lent c ++ ws)) (call_words lent c ++ ws)) (call_front lent c ws) ∙
+      ap (λ k. c ∷ calls_after k (call_words lent c ++ ws)) (size_front lent c ws) ∙ ap (λ ds. c ∷ ds) (after_front (call_words lent c) ws)
+
+calls_none : (ws : List ℕ) → call_size ws ≡ 0 → calls_after 0 ws ≡ []
 unfolding calls_after
-front_none [] e = refl
-front_none (w ∷ ws) e = go (call_size (w ∷ ws)) e
+calls_none [] e = refl
+calls_none (w ∷ ws) e = go (call_size (w ∷ ws)) e
   where
     go : (s : ℕ) → s ≡ 0 → ◌≡◌ {A = List Call} (elim s [ zero ↦ [] | suc n ↦ call_of (w ∷ ws) ∷ calls_after n ws ]) []
     go zero e = refl
     go (suc n) e = absurd (omega arith)
 
--- The loop's turn and its end
-module _ (ws : List ℕ) (at size : ℕ) (e : size ≡ call_size (drop at ws)) where
-  from_front : calls_after at ws ≡ calls_after 0 (drop at ws)
-  from_front = let z : at ≡ at + 0 = omega arith in ap (λ n. calls_after n ws) z ∙ after-add at 0 ws
+-- A turn of the loop, and its end
+pub graph_next : (lent : Bool) (c : Call) (ws rest : List ℕ) (g h : CausalGraph) → ws ≡ call_words lent c ++ rest → h ≡ (answer g c).1 →
+    graph_after h (calls_after 0 rest) ≡ graph_after g (calls_after 0 ws)
+unfolding graph_after
+graph_next lent c ws rest g h e q =
+    ap (λ (x : CausalGraph). graph_after x (calls_after 0 rest)) q ∙ sym (ap (graph_after g) (ap (calls_after 0) e ∙ calls_next lent c rest))
 
-  pub calls_next : 0 < size → (g : CausalGraph) →
-      graph_after (answer g (call_of (drop at ws))).1 (calls_after (at + size) ws) ≡ graph_after g (calls_after at ws)
-  unfolding graph_after
-  calls_next h g = rw (from_front, front_next (drop at ws) (omega arith), after-add at size ws, e)
+pub graph_end : (ws : List ℕ) (g : CausalGraph) → call_size ws ≡ 0 → g ≡ graph_after g (calls_after 0 ws)
+unfolding graph_after
+graph_end ws g e = sym (ap (graph_after g) (calls_none ws e))
 
-  pub calls_none : size ≡ 0 → (g : CausalGraph) → g ≡ graph_after g (calls_after at ws)
-  unfolding graph_after
-  calls_none h g = rw (from_front, front_none (drop at ws) (sym e ∙ h))
+-- The same of the start
+start-size : (f : Fresh) (ws : List ℕ) → start_size (start_words f ++ ws) ≡ length (start_words f)
+unfolding start_size start_words operation
+start-size new ws = sym (whole-all 1 (0 ∷ ws) (omega arith))
+start-size (after events frontier) ws =
+    let e : 3 + length frontier ≡ suc (suc (suc (length frontier))) = omega arith in
+    listed_front 1 events frontier ws ∙ e
 
-  pub calls_fit : at ≤ length ws → at + size ≤ length ws
-  calls_fit h = omega (arith, call_in (drop at ws), length-drop at ws)
+start_front : (f : Fresh) (ws : List ℕ) → start_of (start_words f ++ ws) ≡ f
+unfolding start_of start_words operation list_in
+start_front new ws = refl
+start_front (after events frontier) ws = ap (after events) (take-append_seam frontier ws)
+
+start-some : (f : Fresh) → 0 < length (start_words f)
+unfolding start_words
+start-some new = omega arith
+start-some (after events frontier) = omega arith
+
+said : (ws : List ℕ) → 0 < start_size ws → (fresh_in ws ≡ start_of ws) × (calls_in ws ≡ calls_after (start_size ws) ws)
+unfolding fresh_in calls_in
+said ws h = go (start_size ws) h
+  where
+    go : (s : ℕ) → 0 < s →
+        (elim s [ zero ↦ new | suc n ↦ start_of ws ] ≡ start_of ws) ×
+        (elim s [ zero ↦ [] | suc n ↦ calls_after (suc n) ws ] ≡ calls_after s ws)
+    go zero h = absurd (omega arith)
+    go (suc n) h = (refl, refl)
+
+pub start_next : (f : Fresh) (ws : List ℕ) → (fresh_in (start_words f ++ ws) ≡ f) × (calls_in (start_words f ++ ws) ≡ calls_after 0 ws)
+start_next f ws =
+    let s = said (start_words f ++ ws) (omega (arith, start-size f ws, start-some f)) in (
+      s.0 ∙ start_front f ws,
+      s.1 ∙ ap (λ k. calls_after k (start_words f ++ ws)) (start-size f ws) ∙ after_front (start_words f) ws,
+    )
+
+unsaid : (ws : List ℕ) → start_size ws ≡ 0 → (fresh_in ws ≡ new) × ◌≡◌ {A = List Call} (calls_in ws) []
+unfolding fresh_in calls_in
+unsaid ws h = go (start_size ws) h
+  where
+    go : (s : ℕ) → s ≡ 0 →
+        (elim s [ zero ↦ new | suc n ↦ start_of ws ] ≡ new) × ◌≡◌ {A = List Call} (elim s [ zero ↦ [] | suc n ↦ calls_after (suc n) ws ]) []
+    go zero h = (refl, refl)
+    go (suc n) h = absurd (omega arith)
 
 -- The graph does not hang on the log
 pub log_free : (g : CausalGraph) (l : Log) (cs : List Call) → (after_calls g l cs).0 ≡ graph_after g cs
@@ -106,27 +143,19 @@ unfolding after_calls graph_after
 log_free g l [] = refl
 log_free g l (c ∷ cs) = log_free (answer g c).1 (note l c (answer g c).0) cs
 
-pub made_by_lem : (f : Fresh) (cs : List Call) → (made_by f cs).0 ≡ graph_after (begin f).1 cs
+-- The graph of words with no start, and of words with one
+pub none_made : (ws : List ℕ) → start_size ws ≡ 0 → new_of ≡ (made_by (fresh_in ws) (calls_in ws)).0
+unfolding made_by after_calls begin
+none_made ws h = sym (ap (λ f. (made_by f (calls_in ws)).0) (unsaid ws h).0 ∙ ap (λ cs. (made_by new cs).0) (unsaid ws h).1)
+
+start_made : (f : Fresh) (ws : List ℕ) →
+    graph_after (begin f).1 (calls_after 0 ws) ≡ (made_by (fresh_in (start_words f ++ ws)) (calls_in (start_words f ++ ws))).0
 unfolding made_by
-made_by_lem f cs = log_free (begin f).1 (begin_log f (begin f).0) cs
+start_made f ws =
+    sym (ap (λ x. (made_by x (calls_in (start_words f ++ ws))).0) (start_next f ws).0 ∙ ap (λ cs. (made_by f cs).0) (start_next f ws).1 ∙
+    log_free (begin f).1 (begin_log f (begin f).0) (calls_after 0 ws))
 
--- Words with no start, and words with one
-module _ (ws : List ℕ) where
-  pub no_start : start_size ws ≡ 0 → new_of ≡ (made_by (fresh_in ws) (calls_in ws)).0
-  unfolding fresh_in calls_in made_by after_calls begin
-  no_start e = go (start_size ws) e
-    where
-      go : (s : ℕ) → s ≡ 0 →
-          new_of ≡ (made_by (elim s [ zero ↦ new | suc n ↦ start_of ws ]) (elim s [ zero ↦ [] | suc n ↦ calls_after (suc n) ws ])).0
-      go zero e = refl
-      go (suc n) e = absurd (omega arith)
-
-  pub started : 0 < start_size ws → graph_after (begin (start_of ws)).1 (calls_after (start_size ws) ws) ≡ (made_by (fresh_in ws) (calls_in ws)).0
-  unfolding fresh_in calls_in
-  started h = go (start_size ws) h
-    where
-      go : (s : ℕ) → 0 < s →
-          graph_after (begin (start_of ws)).1 (calls_after s ws) ≡
-          (made_by (elim s [ zero ↦ new | suc n ↦ start_of ws ]) (elim s [ zero ↦ [] | suc n ↦ calls_after (suc n) ws ])).0
-      go zero h = absurd (omega arith)
-      go (suc n) h = sym (made_by_lem (start_of ws) (calls_after (suc n) ws))
+pub start_made_by : (f : Fresh) (ws rest : List ℕ) (g : CausalGraph) → ws ≡ start_words f ++ rest → g ≡ (begin f).1 →
+    graph_after g (calls_after 0 rest) ≡ (made_by (fresh_in ws) (calls_in ws)).0
+start_made_by f ws rest g e q =
+    ap (λ (x : CausalGraph). graph_after x (calls_after 0 rest)) q ∙ start_made f rest ∙ sym (ap (λ (l : List ℕ). (made_by (fresh_in l) (calls_in l)).0) e)

@@ -1,14 +1,10 @@
 -- A fresh record, place by place, and the ways out of `after`. Assumes nothing.
 use mathlib.Core.Path.{◌≡◌, refl, sym, ap, ◌∙◌}
 use mathlib.Core.Bool.{true, false}
-use mathlib.Core.List.{List, [], ◌∷◌, ◌++◌}
-use Prim.Native.Nat.{ℕ, ◌+◌, ◌<◌, ◌≤◌}
-use native.Mathlib.Numerals.{add-one}
-use native.Mathlib.Omega.{arith}
-use lib.ListN.{length, take, get_or, set}
-use lib.Seq.{take-suc, length-take-le}
+use mathlib.Core.List.{List, [], ◌∷◌}
+use Prim.Native.Nat.{ℕ, ◌<◌, ◌≤◌}
+use lib.ListN.{length, set}
 use borrow.Author.Tests.{lt-ltb, le-ltb}
-use Rattle.lists.proofs.Pads.{add-pad}
 use Rattle.lists.specs.Lists.{rising, below, filter, upto, from, concat, sum}
 use Rattle.lists.specs.Areas.{pad, group_starts}
 use Rattle.model.specs.declared.record.CausalGraph.{CausalGraph}
@@ -20,12 +16,6 @@ use Rattle.model.specs.Record.{store}
 use Rattle.model.specs.Fresh.{fresh, new_of, after_outcome, after_of}
 use Rattle.std.specs.Prelude.{Ok, Err}
 use Rattle.model.specs.Answers.{Made}
-
-pub copy_turn : (l : List ℕ) (i : ℕ) → i < length l → length l ≤ 512 → set (pad 512 (take i l)) i (get_or l i 0) ≡ pad 512 (take (i + 1) l)
-copy_turn l i h k =
-    let n : length (take i l) ≡ i = length-take-le i l (omega arith) in
-    let s : set (pad 512 (take i l)) (length (take i l)) (get_or l i 0) ≡ pad 512 (take i l ++ get_or l i 0 ∷ []) = add-pad 512 (take i l) (get_or l i 0) (omega arith) in
-    rw (add-one i, take-suc l i 0 h) (rw n at s)
 
 -- One item with zeros after it
 pub pad_one : (e : ℕ) → set (pad 513 []) 0 e ≡ pad 513 (e ∷ [])

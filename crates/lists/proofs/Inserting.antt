@@ -1,7 +1,7 @@
 -- One number put into a list or an area, the later ones changed: in an area by shifting, in a padded list, among groups. Assumes nothing.
 use mathlib.Core.Path.{◌≡◌, refl, sym, ap}
-use mathlib.Core.List.{List, [], ◌∷◌, ◌++◌, map, append_assoc, map-append}
-use Prim.Native.Nat.{ℕ, zero, suc, ◌+◌, ◌-◌, ◌≤◌, ◌<◌, ◌^◌}
+use mathlib.Core.List.{List, [], ◌∷◌, ◌++◌, map, append_assoc, append-nil, map-append}
+use Prim.Native.Nat.{ℕ, zero, suc, ◌+◌, ◌-◌, ◌≤◌, ◌<◌}
 use native.Mathlib.Numerals.{add-one, sub-one}
 use native.Mathlib.Omega.{arith}
 use lib.ListN.{length, take, drop, get_or, replicate, set, drop_of_length-le, length-append, length-map, length-take, length-drop, take-append-drop, get_or-append}
@@ -11,11 +11,6 @@ use Rattle.lists.specs.Lists.{concat, insert_at}
 use Rattle.lists.specs.Areas.{pad, group_starts}
 use Rattle.lists.specs.Scans.{grow, insert, insert_in}
 use Rattle.lists.proofs.Groups.{concat-append, concat-split, group_start-at}
-
--- A number that grows by nothing, or by as much as it has room for, fits
-pub sum_fits : (v by : ℕ) → v < 2 ^ 32 → (0 < by → v + by < 2 ^ 32) → v + by < 2 ^ 32
-sum_fits v zero f h = omega arith
-sum_fits v (suc b) f h = h (omega arith)
 
 -- One item more
 pub length-insert : (at item : ℕ) (f : ℕ → ℕ) (l : List ℕ) → at ≤ length l → length (insert at item f l) ≡ suc (length l)
@@ -77,6 +72,21 @@ module _ (a : List ℕ) (n : ℕ) (f : ℕ → ℕ) (fits : n < length a) where
       let l : at < length a = omega arith in
       let k : length (take at a) ≡ at = simp length-take (omega arith) in
       rw (e, q, take-suc a at 0, append_assoc, set_at, take-take, append_assoc)
+
+-- The last place taken up
+pub insert-last : (at item : ℕ) (f : ℕ → ℕ) (a : List ℕ) → 0 < length a → insert_in (length a - 1) at item f a ≡ insert at item f (take (length a - 1) a)
+unfolding insert_in
+insert-last at item f a h =
+    let l : length a ≤ suc (length a - 1) = omega arith in
+    rw (drop_of_length-le a l, append-nil)
+
+-- and of the first m places of an area, of which all but one are in use
+pub insert-front : (n m at item : ℕ) (f : ℕ → ℕ) (a : List ℕ) → m ≡ suc n → n < length a →
+    insert at item f (take (length (take m a) - 1) (take m a)) ++ drop m a ≡ insert_in n at item f a
+unfolding insert_in
+insert-front n m at item f a e h =
+    let k : length (take (suc n) a) - 1 ≡ n = simp length-take (omega arith) in
+    rw (e, k, take-take n (suc n) a (omega arith))
 
 -- In a padded list
 drop_past : (m : ℕ) (l : List ℕ) → drop (suc (length l)) (pad m l) ≡ replicate (m - suc (length l)) 0

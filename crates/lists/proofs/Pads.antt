@@ -4,8 +4,10 @@ use mathlib.Core.Bool.{Bool, true, false}
 use mathlib.Core.List.{List, [], ◌∷◌, ◌++◌, append_assoc}
 use Prim.Native.Nat.{ℕ, zero, suc, ◌+◌, ◌-◌, ◌≤◌, ◌<◌}
 use native.Mathlib.Omega.{arith}
-use lib.ListN.{length, take, drop, get_or, set, replicate, length-append, length-take, length-drop, length-replicate, take-append-drop, get_or-append}
-use lib.Seq.{take_at, drop_at, set_at, get_or-append-add, get_or-drop}
+use Rattle.std.proofs.Math.Nat.{sub-zero}
+use Rattle.std.proofs.lemmas.List.{drop-replicate}
+use lib.ListN.{length, take, drop, get_or, set, replicate, length-append, length-take, length-drop, length-replicate, take-append-drop}
+use lib.Seq.{take_at, drop_at, set_at}
 use lib.Dec.{leb, eqb}
 use borrow.Author.Tests.{leb-true, eqb-true}
 use Rattle.lists.specs.Lists.{all, concat}
@@ -67,11 +69,7 @@ padded m n a l q h e t =
     let k : length (drop n a) ≡ m - length l = rw (← t) (simp (length-take, length-drop) (omega arith)) in
     sym (take-append-drop n a) ∙ rw (← k, ← zeros_are (drop n a) e, t)
 
--- Words written from the start of a lent list: none, the length, the words in front, the rest behind
-pub over_none : (lent : List ℕ) → over [] lent ≡ lent
-unfolding over
-over_none lent = refl
-
+-- Words written from the start of a lent list: the length, the words in front, the rest behind
 pub length_over : (words lent : List ℕ) → length words ≤ length lent → length (over words lent) ≡ length lent
 unfolding over
 length_over words lent h = simp (length-append, length-drop) (omega arith)
@@ -83,18 +81,6 @@ take-over words lent n e = take_at words (drop (length words) lent) n e
 pub drop-over : (words lent : List ℕ) (n : ℕ) → length words ≡ n → drop n (over words lent) ≡ drop n lent
 unfolding over
 drop-over words lent n e = drop_at words (drop (length words) lent) n e ∙ ap (λ (k : ℕ). drop k lent) e
-
--- A read of what was written
-pub get_over : (words lent : List ℕ) (k : ℕ) → k < length words → get_or (over words lent) k 0 ≡ get_or words k 0
-unfolding over
-get_over words lent k h = get_or-append words (drop (length words) lent) 0 k h
-
--- A read past what was written
-pub get_past-over : (words lent : List ℕ) (k : ℕ) → length words ≤ k → get_or (over words lent) k 0 ≡ get_or lent k 0
-unfolding over
-get_past-over words lent k h =
-    let e : length words + (k - length words) ≡ k = omega arith in
-    ap (λ (j : ℕ). get_or (words ++ drop (length words) lent) j 0) (sym e) ∙ get_or-append-add words (drop (length words) lent) (k - length words) 0 ∙ get_or-drop (length words) lent (k - length words) 0 ∙ ap (λ (j : ℕ). get_or lent j 0) e
 
 -- The whole records that fit take no more room than there is
 pub fitting_fit : (room : ℕ) (rs : List (List ℕ)) → length (concat (fitting room rs)) ≤ room
@@ -114,6 +100,11 @@ add-pad m l v h =
     let n : m - length l ≡ suc (m - suc (length l)) = omega arith in
     let q : length (l ++ v ∷ []) ≡ suc (length l) = simp length-append (omega arith) in
     rw (n, set_at l 0 (replicate (m - suc (length l)) 0) v (length l) refl, q, append_assoc)
+
+-- A list written over the first of so many zeros
+pub over-zeros : (m : ℕ) (l : List ℕ) → l ++ drop (length l) (pad m []) ≡ pad m l
+unfolding pad
+over-zeros m l = rw (sub-zero, drop-replicate)
 
 -- One number more at the end of the list in an area
 pub set-area : (m n v : ℕ) (xs : List ℕ) → n < m → xs ≡ pad m (take n xs) → set xs n v ≡ pad m (take (n + 1) (set xs n v))

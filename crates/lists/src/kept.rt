@@ -82,6 +82,7 @@ impl Kept {
     pub fn into_array(self) -> [u32; MAX_KEPT]
         ensures { result ≡ pad max_kept self }
     {
-        self.items
+        let Kept { items, count: _ } = self;
+        items
     }
 }

@@ -3,10 +3,10 @@
 // Scans, insertions and filters over lists of numbers. What they find and leave is in specs/. It knows nothing of graphs.
 mod kept;
 
-ghost use Rattle.std.specs.Prelude.{◌≡◌, [], true, not, ◌&&◌, ℕ, ◌+◌, ◌<◌, ◌≤◌, ◌^◌, get_or, length, drop};
+ghost use Rattle.std.specs.Prelude.{◌≡◌, [], true, not, ◌&&◌, ℕ, ◌+◌, ◌<◌, ◌≤◌, ◌^◌, ◌-◌, get_or, length, take};
 ghost use Rattle.lists.specs.Lists.{rising, below, mem, filter};
 ghost use Rattle.lists.specs.Areas.{zeros, pad, climbs, groups, part};
-ghost use Rattle.lists.specs.Scans.{max_kept, last_at_most, grow, insert_in, groups_fit, between};
+ghost use Rattle.lists.specs.Scans.{max_kept, last_at_most, grow, insert, groups_fit, between};
 
 pub use kept::{Kept, MAX_KEPT};
 
@@ -125,14 +125,14 @@ fn grown(v: u32, from: u32, by: u32) -> u32
     if from <= v { v + by } else { v }
 }
 
-// Puts `item` in at `at` among the first n, each later number from `from` on grown by `by` as it shifts.
-pub fn insert_and_grow(a: &mut [u32], n: usize, at: usize, item: u32, from: u32, by: u32)
-    requires n_in_bounds { n < length a.old }
-    requires at_le_n { at ≤ n }
-    requires by_bound { 0 < by → (k : ℕ) → k < n → get_or a.old k 0 + by < 2 ^ 32 }
-    ensures { a.new ≡ insert_in n at item (grow from by) a.old }
+// Puts `item` in at `at` before the free last place, each later number from `from` on grown by `by` as it shifts.
+pub fn insert_and_grow(a: &mut [u32], at: usize, item: u32, from: u32, by: u32)
+    requires at_in_bounds { at < length a.old }
+    requires by_bound { 0 < by → (k : ℕ) → k < length a.old - 1 → get_or a.old k 0 + by < 2 ^ 32 }
+    ensures { a.new ≡ insert at item (grow from by) (take (length a.old - 1) a.old) }
 {
-    for i in (at..n).rev() {
+    let last = a.len() - 1;
+    for i in (at..last).rev() {
         a[i + 1] = grown(a[i], from, by);
     }
     a[at] = item;

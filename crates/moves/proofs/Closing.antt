@@ -1,6 +1,7 @@
 -- What a writer leaves, in closed form: the whole records that fit, and the rest of the list untouched. Assumes nothing.
 use mathlib.Core.Path.{◌≡◌, refl, sym, ap, ◌∙◌}
 use mathlib.Core.Logic.{⊎_elim}
+use mathlib.Core.Bool.{Bool, true, false}
 use mathlib.Core.List.{List, [], ◌∷◌, ◌++◌, append_assoc}
 use Prim.Native.Nat.{ℕ, suc, ◌+◌, ◌*◌, ◌/◌, ◌-◌, ◌<◌, ◌≤◌}
 use native.Mathlib.Nat.{sub-zero, zero-add}
@@ -10,15 +11,14 @@ use borrow.Author.Tests.{lt-ltb, le-ltb}
 use lib.ListN.{length, take, drop, length-set, length-append, take-append-drop}
 use lib.Seq.{sets-eq, take_at, drop-append-add, drop-drop, length-take-le, take-nil}
 use lib.Dec.{ltb, leb-suc-suc}
-use Rattle.lists.specs.Lists.{bit}
 use Rattle.lists.proofs.Truth.{lt_or_le}
 use Rattle.moves.specs.declared.writing.Out.{Out}
-use Rattle.moves.specs.Emit.{Rec, Writing, put3, emit}
+use Rattle.moves.specs.Emit.{kind_word, Rec, Writing, put3, emit}
 
 -- The words of some records, and the events that they move
 unfoldable pub rec_words : List Rec → List ℕ
 rec_words [] = []
-rec_words (s ∷ ss) = s.kind ∷ s.first ∷ s.past ∷ rec_words ss
+rec_words (s ∷ ss) = kind_word s.kind ∷ s.first ∷ s.past ∷ rec_words ss
 
 unfoldable pub rec_events : List Rec → ℕ
 rec_events [] = 0
@@ -26,16 +26,16 @@ rec_events (s ∷ ss) = s.events + rec_events ss
 
 -- k records stand there, which moved m, and all found room
 abbrev pub going : ℕ → ℕ → Out
-going k m = record { count = k; moved = m; short = 0 }
+going k m = record { count = k; moved = m; short = false }
 
 -- the same, and one found no room
 abbrev pub stopped : ℕ → ℕ → Out
-stopped k m = record { count = k; moved = m; short = 1 }
+stopped k m = record { count = k; moved = m; short = true }
 
 -- k records stand there, which moved m; of ss those that fit follow
 abbrev pub after : ℕ → ℕ → List ℕ → List Rec → List Rec → Writing
 after k m ws ss fit = (
-  record { count = k + length fit; moved = m + rec_events fit; short = bit (ltb (length ws / 3 - k) (length ss)) },
+  record { count = k + length fit; moved = m + rec_events fit; short = ltb (length ws / 3 - k) (length ss) },
   take (3 * k) ws ++ (rec_words fit ++ drop (3 * (k + length fit)) ws),
 )
 
@@ -69,7 +69,7 @@ module _ (ws : List ℕ) (k x y z : ℕ) (h : 3 * k + 3 ≤ length ws) where
       ap (drop (3 * (k + 1 + n))) (put3_eq ws (3 * k) x y z h) ∙ ap (λ (m : ℕ). drop m (front ++ drop (3 * k + 3) ws)) e ∙
       drop-append-add front (drop (3 * k + 3) ws) (3 * n) ∙ drop-drop (3 * n) (3 * k + 3) ws ∙ ap (λ (m : ℕ). drop m ws) (sym f)
 
-writing_eq : {n n' m m' t t' : ℕ} {l l' : List ℕ} → n ≡ n' → m ≡ m' → t ≡ t' → l ≡ l' →
+writing_eq : {n n' m m' : ℕ} {t t' : Bool} {l l' : List ℕ} → n ≡ n' → m ≡ m' → t ≡ t' → l ≡ l' →
     ◌≡◌ {A = Writing} (record { count = n; moved = m; short = t }, l) (record { count = n'; moved = m'; short = t' }, l')
 writing_eq p q r e = λ i. (record { count = p i; moved = q i; short = r i }, e i)
 
@@ -79,7 +79,7 @@ rejoined k ws = let e : 3 * (k + 0) ≡ 3 * k = omega arith in rw e (take-append
 -- A record that fits, and one that does not
 module _ (s : Rec) (ss : List Rec) (k m : ℕ) (ws : List ℕ) where
   abbrev put : List ℕ
-  put = put3 ws (3 * k) s.kind s.first s.past
+  put = put3 ws (3 * k) (kind_word s.kind) s.first s.past
 
   one_more : k < length ws / 3 → (fit : List Rec) → after (k + 1) (m + s.events) put ss fit ≡ after k m ws (s ∷ ss) (s ∷ fit)
   unfolding rec_words rec_events
@@ -90,22 +90,22 @@ module _ (s : Rec) (ss : List Rec) (k m : ℕ) (ws : List ℕ) where
       let room : ltb (length put / 3 - (k + 1)) (length ss) ≡ ltb (length ws / 3 - k) (suc (length ss)) =
       ap (λ (l : ℕ). ltb (l / 3 - (k + 1)) (length ss)) (put3-length ws k _ _ _ h) ∙
       sym (leb-suc-suc (suc (length ws / 3 - (k + 1))) (length ss)) ∙ ap (λ (r : ℕ). ltb r (suc (length ss))) (sym e) in
-      writing_eq (omega arith) (omega arith) (ap bit room)
+      writing_eq (omega arith) (omega arith) room
       (ap (λ (l : List ℕ). l ++ (rec_words fit ++ drop (3 * (k + 1 + n)) put)) (put3-take ws k _ _ _ h)
-      ∙ ap (λ (l : List ℕ). front ws k s.kind s.first s.past h ++ (rec_words fit ++ l)) (put3-drop ws k _ _ _ h n ∙ ap (λ (j : ℕ). drop (3 * (k + j)) ws) (add-one n))
+      ∙ ap (λ (l : List ℕ). front ws k (kind_word s.kind) s.first s.past h ++ (rec_words fit ++ l)) (put3-drop ws k _ _ _ h n ∙ ap (λ (j : ℕ). drop (3 * (k + j)) ws) (add-one n))
       ∙ append_assoc (take (3 * k) ws) _ _)
 
   no_room : length ws / 3 ≤ k → (stopped k m, ws) ≡ after k m ws (s ∷ ss) []
   unfolding rec_words rec_events
   no_room ge =
       let e : length ws / 3 - k ≡ 0 = omega arith in
-      writing_eq (omega arith) (omega arith) (ap bit (sym (lt-ltb (length ws / 3 - k) (suc (length ss)) (omega arith)))) (sym (rejoined k ws))
+      writing_eq (omega arith) (omega arith) (sym (lt-ltb (length ws / 3 - k) (suc (length ss)) (omega arith))) (sym (rejoined k ws))
 
 -- From any point on
 pub emit-closed : (ss : List Rec) (k m : ℕ) (ws : List ℕ) → k ≤ length ws / 3 → emit (going k m, ws) ss ≡ after k m ws ss (take (length ws / 3 - k) ss)
 unfolding emit rec_words rec_events
 emit-closed [] k m ws h =
-    rw take-nil (writing_eq (omega arith) (omega arith) (ap bit (sym (le-ltb (length ws / 3 - k) 0 (omega arith)))) (sym (rejoined k ws)))
+    rw take-nil (writing_eq (omega arith) (omega arith) (sym (le-ltb (length ws / 3 - k) 0 (omega arith))) (sym (rejoined k ws)))
 emit-closed (s ∷ ss) k m ws h = ⊎_elim
     (λ (lt : k < length ws / 3).
     let r : 3 * k + 3 ≤ length ws = omega arith in
@@ -121,5 +121,5 @@ emit-closed (s ∷ ss) k m ws h = ⊎_elim
 
 -- From the start: the records that fit, and the rest of the list as it was
 pub emit-fresh : (ss : List Rec) (ws : List ℕ) → let fit : List Rec = take (length ws / 3) ss in emit (going 0 0, ws) ss
-    ≡ (record { count = length fit; moved = rec_events fit; short = bit (ltb (length ws / 3) (length ss)) }, rec_words fit ++ drop (3 * length fit) ws)
+    ≡ (record { count = length fit; moved = rec_events fit; short = ltb (length ws / 3) (length ss) }, rec_words fit ++ drop (3 * length fit) ws)
 emit-fresh ss ws = simp (sub-zero, zero-add) at (emit-closed ss 0 0 ws (omega arith))

@@ -17,6 +17,8 @@ use Rattle.model.specs.Choice.{Range}
 use Rattle.model.specs.Steps.{Step, retreat, advance, apply, add_run, moves, visit}
 use Rattle.model.specs.Steps as model
 use Rattle.tables.specs.Tables.{Listed, Reaches}
+use Rattle.moves.specs.declared.writing.Kind.{Kind}
+use Rattle.moves.specs.declared.writing.Kind.TheVariants.{Retreat, Advance, Apply}
 use Rattle.moves.specs.Emit.{Rec, step_of}
 use Rattle.moves.specs.Stretches.{span_of, pick_l, stretch_from, stretches}
 use Rattle.moves.specs.Moves.{Inside, runs_of, moves_from, visit_of, rec_of, recs}
@@ -28,14 +30,14 @@ map-append f [] ys = refl
 map-append f (x ∷ xs) ys = ap (λ l. f x ∷ l) (map-append f xs ys)
 
 -- A kind of moves, and its record
-pub record Kind (st : List ℕ) (k : ℕ) (step : ℕ → ℕ → Step) : Type 0 where
+pub record Recorded (st : List ℕ) (k : Kind) (step : ℕ → ℕ → Step) : Type 0 where
   pub is : (a b : ℕ) → rec_of st (step a b) ≡ step_of k a b (get_or st b 0 - get_or st a 0)
 
-pub retreats : (st : List ℕ) → Kind st 0 retreat
+pub retreats : (st : List ℕ) → Recorded st Retreat retreat
 unfolding rec_of
 retreats st = record { is = λ a b. refl }
 
-pub advances : (st : List ℕ) → Kind st 1 advance
+pub advances : (st : List ℕ) → Recorded st Advance advance
 unfolding rec_of
 advances st = record { is = λ a b. refl }
 
@@ -56,7 +58,7 @@ add_apart l s ss e = go (eqb s.0 (suc l)) (ne_eqb s.0 (suc l) e)
     go false q = refl
 
 -- Stretches joined from the front are the definitions', joined from the end
-module _ (st : List ℕ) (k : ℕ) (step : ℕ → ℕ → Step) (K : Kind st k step) (b : ℕ) where
+module _ (st : List ℕ) (k : Kind) (step : ℕ → ℕ → Step) (K : Recorded st k step) (b : ℕ) where
   abbrev given : List (ℕ × ℕ) → List Rec
   given ss = recs st (map (λ s. step (b + s.0) (b + s.1)) ss)
 
@@ -109,7 +111,7 @@ module _ (C : List (List ℕ)) (begins members : List ℕ) (L : Listed C begins 
   inside s version f c l = omega (arith, f c l, count_le (λ m. mem m s) (at C c), L.fits c l)
 
   -- All chains' moves
-  module _ (gst : List ℕ) (k : ℕ) (step : ℕ → ℕ → Step) (K : Kind gst k step) (b : ℕ) (s t from to : List ℕ)
+  module _ (gst : List ℕ) (k : Kind) (step : ℕ → ℕ → Step) (K : Recorded gst k step) (b : ℕ) (s t from to : List ℕ)
       (ps : Prefixed C s) (pt : Prefixed C t) (f : Reaches C s from) (g : Reaches C t to) where
     abbrev fresh : ℕ → Bool
     fresh m = mem m s && not (mem m t)
@@ -143,15 +145,15 @@ module _ (C : List (List ℕ)) (begins members : List ℕ) (L : Listed C begins 
       visit_of gst a members begins cur row n r ≡ recs gst (visit w a now r)
   unfolding visit_of visit
   visit-is w gst a r n now cur row e f pn ph g h = rw (f, ← e)
-      (ap₂ (λ (x y : List Rec). x ++ y) (moves_are gst 0 retreat (retreats gst) a now hr cur row pn ph g h)
-      (ap₂ (λ (x y : List Rec). x ++ y) (moves_are gst 1 advance (advances gst) a hr now row cur ph pn h g) last ∙
+      (ap₂ (λ (x y : List Rec). x ++ y) (moves_are gst Retreat retreat (retreats gst) a now hr cur row pn ph g h)
+      (ap₂ (λ (x y : List Rec). x ++ y) (moves_are gst Advance advance (advances gst) a hr now row cur ph pn h g) last ∙
       sym (map-append (rec_of gst) (moves advance a C hr now) (apply (a + r) ∷ []))) ∙ sym (map-append (rec_of gst) (moves retreat a C now hr) (moves advance a C hr now ++ apply (a + r) ∷ [])))
     where
       hr : List ℕ
       hr = at w.history r
 
-      last : step_of 2 (a + r) (a + r + 1) 0 ∷ [] ≡ recs gst (apply (a + r) ∷ [])
+      last : step_of Apply (a + r) (a + r + 1) 0 ∷ [] ≡ recs gst (apply (a + r) ∷ [])
       last = apply-is
         where
-          apply-is : step_of 2 (a + r) (a + r + 1) 0 ∷ [] ≡ rec_of gst (apply (a + r)) ∷ []
+          apply-is : step_of Apply (a + r) (a + r + 1) 0 ∷ [] ≡ rec_of gst (apply (a + r)) ∷ []
           apply-is = let q : a + r + 1 ≡ suc (a + r) = omega arith in rw q (unfold rec_of in refl)

@@ -3,6 +3,7 @@ use mathlib.Core.Path.{◌≡◌, refl}
 use mathlib.Core.List.{List, [], ◌∷◌, ◌++◌}
 use Prim.Native.Nat.{ℕ, suc, ◌+◌, ◌-◌, ◌≤◌, ◌<◌}
 use native.Mathlib.Omega.{arith}
+use Rattle.moves.specs.declared.writing.Kind.TheVariants.{Apply}
 use Rattle.moves.specs.Emit.{Rec, Writing, step_of, emit_one, emit, applies}
 
 -- One list after another is both together
@@ -13,7 +14,7 @@ emit-append w (s ∷ ss) ts = emit-append (emit_one w s) ss ts
 
 -- A run's Apply written, and the rest after it, is the whole
 pub applies-next : (w : Writing) (run end : ℕ) → run < end →
-    emit (emit_one w (step_of 2 run (run + 1) 0)) (applies (run + 1) (end - (run + 1))) ≡ emit w (applies run (end - run))
+    emit (emit_one w (step_of Apply run (run + 1) 0)) (applies (run + 1) (end - (run + 1))) ≡ emit w (applies run (end - run))
 unfolding emit applies
 applies-next w run end h = let e : end - run ≡ suc (end - (run + 1)) = omega arith in rw e
 

@@ -5,11 +5,12 @@ use Prim.Native.Nat.{ℕ, zero, suc, ◌+◌, ◌-◌, ◌*◌, ◌/◌}
 use native.Mathlib.Omega.{arith}
 use lib.ListN.{length, get_or, take, drop, length-map}
 use lib.Dec.{ltb}
-use Rattle.lists.specs.Lists.{bit, concat, from}
+use Rattle.lists.specs.Lists.{concat, from}
 use Rattle.lists.specs.Areas.{over}
 use Rattle.model.specs.Graph.{Graph, start}
 use Rattle.model.specs.Steps.{Step, retreat, advance, apply, opened, step_words, words, moved_in}
 use Rattle.model.proofs.Reading.{words-length}
+use Rattle.moves.specs.declared.writing.Kind.TheVariants.{Retreat, Advance, Apply, Open}
 use Rattle.moves.specs.Emit.{Rec, Writing, step_of, emit_one, emit, applies}
 use Rattle.moves.specs.Moves.{rec_of, recs}
 use Rattle.moves.proofs.Emitting.{emit-append}
@@ -24,13 +25,13 @@ emit_then gst w ss ts = sym (ap (emit w) (map-append (rec_of gst) ss ts) ∙ emi
 pub recs-same : (st st' : List ℕ) → ((i : ℕ) → get_or st i 0 ≡ get_or st' i 0) → (ss : List Step) → recs st ss ≡ recs st' ss
 unfolding rec_of
 recs-same st st' h [] = refl
-recs-same st st' h (retreat a b ∷ ss) = ap₂ (λ (n : ℕ) (l : List Rec). step_of 0 a b n ∷ l) (ap₂ (λ (x y : ℕ). x - y) (h b) (h a)) (recs-same st st' h ss)
-recs-same st st' h (advance a b ∷ ss) = ap₂ (λ (n : ℕ) (l : List Rec). step_of 1 a b n ∷ l) (ap₂ (λ (x y : ℕ). x - y) (h b) (h a)) (recs-same st st' h ss)
-recs-same st st' h (apply r ∷ ss) = ap (λ (l : List Rec). step_of 2 r (suc r) 0 ∷ l) (recs-same st st' h ss)
-recs-same st st' h (opened a b ∷ ss) = ap (λ (l : List Rec). step_of 3 a b 0 ∷ l) (recs-same st st' h ss)
+recs-same st st' h (retreat a b ∷ ss) = ap₂ (λ (n : ℕ) (l : List Rec). step_of Retreat a b n ∷ l) (ap₂ (λ (x y : ℕ). x - y) (h b) (h a)) (recs-same st st' h ss)
+recs-same st st' h (advance a b ∷ ss) = ap₂ (λ (n : ℕ) (l : List Rec). step_of Advance a b n ∷ l) (ap₂ (λ (x y : ℕ). x - y) (h b) (h a)) (recs-same st st' h ss)
+recs-same st st' h (apply r ∷ ss) = ap (λ (l : List Rec). step_of Apply r (suc r) 0 ∷ l) (recs-same st st' h ss)
+recs-same st st' h (opened a b ∷ ss) = ap (λ (l : List Rec). step_of Open a b 0 ∷ l) (recs-same st st' h ss)
 
 -- Open of a range
-pub open_is : (gst : List ℕ) (w : Writing) (a b : ℕ) → emit_one w (step_of 3 a b 0) ≡ emit w (recs gst (opened a b ∷ []))
+pub open_is : (gst : List ℕ) (w : Writing) (a b : ℕ) → emit_one w (step_of Open a b 0) ≡ emit w (recs gst (opened a b ∷ []))
 unfolding emit rec_of
 open_is gst w a b = refl
 
@@ -38,7 +39,7 @@ open_is gst w a b = refl
 pub applies_are : (gst : List ℕ) (a n : ℕ) → applies a n ≡ recs gst (map apply (from a n))
 unfolding applies from rec_of
 applies_are gst a zero = refl
-applies_are gst a (suc n) = let e : a + 1 ≡ suc a = omega arith in rw e (ap (λ (l : List Rec). step_of 2 a (suc a) 0 ∷ l) (applies_are gst (suc a) n))
+applies_are gst a (suc n) = let e : a + 1 ≡ suc a = omega arith in rw e (ap (λ (l : List Rec). step_of Apply a (suc a) 0 ∷ l) (applies_are gst (suc a) n))
 
 -- Records are the definitions' steps, in words and in the events moved
 words_are : (gst : List ℕ) (ss : List Step) → rec_words (recs gst ss) ≡ words ss
@@ -65,7 +66,7 @@ take-recs gst (suc k) (s ∷ ss) = ap (λ (l : List Rec). rec_of gst s ∷ l) (t
 -- Steps in an empty list of some room: those that fit are written, counted and moved, and it is short if not all fit
 pub written_is : (g : Graph) (ss : List Step) (area : List ℕ) → let fit : List Step = take (length area / 3) ss in
     emit (going 0 0, area) (recs g.starts ss)
-    ≡ (record { count = length fit; moved = moved_in g fit; short = bit (ltb (length area / 3) (length ss)) }, over (words fit) area)
+    ≡ (record { count = length fit; moved = moved_in g fit; short = ltb (length area / 3) (length ss) }, over (words fit) area)
 unfolding over
 written_is g ss area =
     let room : ℕ = length area / 3 in
@@ -74,5 +75,5 @@ written_is g ss area =
     let ws : rec_words (take room (recs g.starts ss)) ≡ words (take room ss) = ap rec_words t ∙ words_are g.starts (take room ss) in
     let mv : rec_events (take room (recs g.starts ss)) ≡ moved_in g (take room ss) = ap rec_events t ∙ events_are g (take room ss) in
     let three : 3 * length (take room (recs g.starts ss)) ≡ length (words (take room ss)) = omega (arith, len, words-length (take room ss)) in
-    let sh : bit (ltb room (length (recs g.starts ss))) ≡ bit (ltb room (length ss)) = ap (λ (n : ℕ). bit (ltb room n)) (length-map ss (rec_of g.starts)) in
+    let sh : ltb room (length (recs g.starts ss)) ≡ ltb room (length ss) = ap (ltb room) (length-map ss (rec_of g.starts)) in
     emit-fresh (recs g.starts ss) area ∙ (λ i. (record { count = len i; moved = mv i; short = sh i }, ws i ++ drop (three i) area))

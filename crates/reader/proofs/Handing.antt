@@ -15,7 +15,6 @@ use Rattle.reader.specs.Reading.{HandedOut, before, reads}
 use Rattle.reader.proofs.Decoding.{decode, next-short, next-long}
 use Rattle.std.specs.Prelude.{Ok, Err, Some, None}
 use Rattle.model.specs.Answers.{NextStep}
-use Rattle.model.specs.Refusals.{OrRefusal}
 
 -- One answer, and what is handed out with it
 end_first : (fuel : ℕ) (ws : List ℕ) (at : ℕ) → next_of ws at ≡ ((Ok None), at) → reads fuel ws at ≡ ([], ((Ok None), at))

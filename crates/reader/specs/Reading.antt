@@ -4,10 +4,18 @@ use Rattle.std.specs.Prelude.{List, [], ◌∷◌, ℕ, zero, suc, length, Ok, E
 use Rattle.model.specs.Answers.{NextStep}
 use Rattle.std.specs.Borrow.{Bor}
 use Rattle.model.specs.declared.steps.WalkStep.{WalkStep}
+use Rattle.model.specs.declared.steps.WalkStep.TheVariants.{Retreat, Advance, Apply, Open}
+use Rattle.model.specs.Steps.{Step, retreat, advance, opened, apply}
 use Rattle.model.specs.Reader.{next_of}
 use Rattle.reader.specs.declared.StepAt.{StepAt}
 use Rattle.reader.specs.declared.StepReader.{StepReader}
-use Rattle.model.specs.Refusals.{OrRefusal}
+
+-- A step that was read, as the model has it
+abbrev pub step_read : WalkStep → Step
+step_read (Retreat a b) = retreat a.0 b.0
+step_read (Advance a b) = advance a.0 b.0
+step_read (Apply r) = apply r.0
+step_read (Open a b) = opened a.0 b.0
 
 -- An answer, and the place where the reader then stands
 abbrev pub step_at : NextStep → ℕ → StepAt

@@ -6,46 +6,52 @@ ghost use Rattle.std.specs.Prelude.{length};
 ghost use Rattle.stdio.specs.Reads.{Came};
 
 use book::replaying::MAX_TEXT;
-use model::{MAX_BOOK};
-use std::io;
+use model::MAX_BOOK;
 use std::process::ExitCode;
-use stdio::{Filled, Reading};
+use std::{fmt, io};
+use stdio::Reading;
 
-// One byte more than a book may have: a longer one is refused by its length alone, and the rest of it is not read.
-fn no_bytes() -> [u8; MAX_BOOK + 1] {
-    [0; MAX_BOOK + 1]
+// Which call failed, and why.
+#[derive(Clone, Copy)]
+enum Failure {
+    Read(io::Error),
+    Write(io::Error),
 }
 
-// As many bytes as the lines of any book.
-fn no_text() -> [u8; MAX_TEXT] {
-    [0; MAX_TEXT]
+impl fmt::Display for Failure {
+    fn fmt<W: fmt::Write>(&self, f: &mut fmt::Formatter<W>) -> fmt::Result {
+        match self {
+            Failure::Read(why) => write!(f, "read: {why}"),
+            Failure::Write(why) => write!(f, "write: {why}"),
+        }
+    }
 }
 
 // Prints the replay of a book, of as many bytes as came, with no read that failed. Demand 3 is the contract of what is printed.
 fn print(rt: &impl Print, reading: Reading, bytes: &[u8]) -> io::Result<()>
     requires { Came reading (length bytes.now) }
 {
-    let mut text = no_text();
-    let printed = demand::print_book(bytes, &mut text);
-    let used = printed.used;
-    rt.write_all(&text[0..used])
+    // As many bytes as the lines of any book.
+    let mut text = [0; MAX_TEXT];
+    let used = demand::print_book(bytes, &mut text).used;
+    rt.write_all(&text[..used])
 }
 
-// Tells which call failed, and why.
-fn failed(rt: &impl Eprint, call: &str, why: io::Error) -> ExitCode {
-    let _ = eprintln!(rt; "replay: {call}: {why}");
-    ExitCode::FAILURE
+// Reads a book and prints its replay.
+fn replay(rt: &HostRuntime) -> Result<(), Failure> {
+    // One byte more than a book may have: a longer one is refused by its length alone, and the rest of it is not read.
+    let mut bytes = [0; MAX_BOOK + 1];
+    let reading = stdio::fill(&mut rt.stdin(), &mut bytes);
+    let n = reading.gave().map_err(Failure::Read)?;
+    print(rt, reading, &bytes[..n]).map_err(Failure::Write)
 }
 
 fn main(rt: HostRuntime) -> ExitCode {
-    let mut bytes = no_bytes();
-    let reading = stdio::fill(&mut rt.stdin(), &mut bytes);
-    let filled = stdio::gave(reading);
-    match filled {
-        Filled::Bytes(n) => match print(&rt, reading, &bytes[..n]) {
-            Ok(()) => ExitCode::SUCCESS,
-            Err(why) => failed(&rt, "write", why),
-        },
-        Filled::Failed(why) => failed(&rt, "read", why),
+    match replay(&rt) {
+        Ok(()) => ExitCode::SUCCESS,
+        Err(failure) => {
+            let _ = eprintln!(rt; "replay: {failure}");
+            ExitCode::FAILURE
+        }
     }
 }

@@ -6,25 +6,33 @@
 // ranges' words, and these. At most 16,384 words. A failed read or write ends it with an error.
 mod script;
 
-use model::{CausalGraph, EventIndex, MAX_RUNS, MAX_STARTS, Refusal, Written};
-use script::{BYTES, Bytes, WORDS, Words};
-use std::io;
-use stdio::Filled;
+use model::{CausalGraph, MAX_RUNS, MAX_STARTS, Walked, Written};
+use script::{BYTES, Script, Task, WORDS};
+use std::{fmt, io};
 
-// Where the pushes stand: the graph, the place of the next word, and 1 if the last push was refused.
+// The graph that the pushes give, the words that follow them, and whether the last push was refused.
 #[derive(Clone, Copy)]
-struct Built {
+struct Built<'a> {
     graph: CausalGraph,
-    at: usize,
-    refused: u64,
+    rest: &'a [u32],
+    refused: bool,
 }
 
 // What is printed: how many steps, pushes, points or parents, the events moved, and 1 if the last call was refused.
-#[derive(Clone, Copy)]
+#[derive(Clone, Copy, Default)]
 struct Told {
     count: u64,
     moved: u64,
-    refused: u64,
+    refused: bool,
+}
+
+impl fmt::Display for Told {
+    fn fmt<W: fmt::Write>(&self, f: &mut fmt::Formatter<W>) -> fmt::Result {
+        let count = self.count;
+        let moved = self.moved;
+        let refused = u8::from(self.refused);
+        write!(f, "{count} {moved} {refused}")
+    }
 }
 
 // As many words as any graph's replay has.
@@ -32,201 +40,94 @@ const MAX_ROWS: usize = MAX_RUNS * MAX_STARTS / 2;
 
 const MAX_STEPS: usize = 524288;
 
-type Rows = [u32; MAX_ROWS];
-
-type Steps = [u32; MAX_STEPS];
-
-// 1 if a push was refused.
-fn is_refused(answer: Result<(EventIndex, EventIndex), Refusal>) -> u64 {
-    match answer {
-        Ok(_) => 0,
-        Err(_) => 1,
-    }
-}
-
-// 1 if a replay or a list was refused.
-fn is_undone(outcome: Result<(), Refusal>) -> u64 {
-    match outcome {
-        Ok(()) => 0,
-        Err(_) => 1,
-    }
-}
-
-// Makes a push of `len` events, whose words end at place `to`.
-fn pushed(g: CausalGraph, parents: &[u32], len: u32, to: usize) -> Built {
-    let p = graph::pushing::push(g, parents, len);
-    let answer = p.answer;
-    let made = p.graph;
-    Built {
-        graph: made,
-        at: to,
-        refused: is_refused(answer),
-    }
-}
-
-// Makes the push whose words stand at `b.at`, if all of them are there.
-fn push(b: Built, words: &Words) -> Built {
-    let at = b.at;
-    let to = script::end_of(words, at);
-    let all = &words[..];
-    if all.len() < to {
-        return b;
-    }
-    if to - at < 2 {
-        return b;
-    }
-    pushed(b.graph, &all[at + 2..to], all[at], to)
-}
-
-// All pushes, from `new`.
-fn build(words: &Words) -> Built {
-    let fresh = graph::fresh::new();
-    let mut b = Built {
-        graph: fresh,
-        at: 3,
-        refused: 0,
+// Makes the pushes, from `new`, as far as their words are there.
+fn build<'a>(script: &Script<'a>) -> Built<'a> {
+    let mut built = Built {
+        graph: graph::fresh::new(),
+        rest: script.rest,
+        refused: false,
     };
-    let mut left = script::get(words, 2);
-    while 0 < left {
-        b = push(b, words);
-        left -= 1;
+    for _ in 0..script.pushes {
+        let Some((len, parents, rest)) = script::counted(built.rest) else {
+            break;
+        };
+        let pushed = graph::pushing::push(built.graph, parents, len);
+        built = Built {
+            graph: pushed.graph,
+            rest,
+            refused: matches!(pushed.answer, Err(_)),
+        };
     }
-    b
+    built
 }
 
-// The pushes, so many times.
-fn pushes(words: &Words, times: u32) -> Told {
-    let mut told = nothing();
-    let mut left = times;
-    while 0 < left {
-        let b = build(words);
-        told.refused = b.refused;
-        told.count = script::wide(script::get(words, 2));
-        left -= 1;
+// What is printed of the pushes.
+fn pushes(script: &Script) -> Told {
+    let built = build(script);
+    Told {
+        count: u64::from(script.pushes),
+        moved: 0,
+        refused: built.refused,
     }
-    told
 }
 
-// One replay.
-fn replay(g: CausalGraph, rows: &mut [u32], steps: &mut [u32]) -> Told {
-    let w = walk::replaying::replay(g, rows, steps);
-    let outcome = w.outcome;
+// What is printed of a replay.
+fn walked(w: Walked) -> Told {
     Told {
         count: w.count,
         moved: w.moved,
-        refused: is_undone(outcome),
+        refused: matches!(w.outcome, Err(_)),
     }
 }
 
 // What is printed of a written list.
 fn listed(w: Written) -> Told {
-    let outcome = w.outcome;
     Told {
         count: w.count as u64,
         moved: 0,
-        refused: is_undone(outcome),
+        refused: matches!(w.outcome, Err(_)),
     }
 }
 
-// One replay, one list of the archive points, or one of the parents that give the events of the ranges.
-fn once(g: CausalGraph, what: u32, ranges: &[u32], rows: &mut [u32], steps: &mut [u32]) -> Told {
-    match what {
-        1 => replay(g, rows, steps),
-        3 => listed(versions::archive::archive_points(g, steps)),
-        _ => listed(versions::wanted::wanted_parents(g, ranges, steps)),
-    }
-}
-
-// The same, so many times.
-fn repeat(
-    g: CausalGraph,
-    what: u32,
-    ranges: &[u32],
-    times: u32,
-    rows: &mut Rows,
-    steps: &mut Steps,
-) -> Told {
-    let mut told = nothing();
-    let mut left = times;
-    while 0 < left {
-        told = once(g, what, ranges, rows, steps);
-        left -= 1;
+// Does one thing so many times; what is printed of the last.
+fn repeat<F: FnMut() -> Told>(times: u32, mut once: F) -> Told
+    requires { F.IsAlwaysCallable once }
+{
+    let mut told = Told::default();
+    for _ in 0..times {
+        told = once();
     }
     told
 }
 
-// The wanted parents of the ranges whose words stand at `b.at`, so many times, if all of them are there.
-fn wanted(b: Built, words: &Words, times: u32, rows: &mut Rows, steps: &mut Steps) -> Told {
-    let at = b.at;
-    let to = script::end_of(words, at);
-    let all = &words[..];
-    if all.len() < to {
-        return nothing();
-    }
-    if to - at < 2 {
-        return nothing();
-    }
-    repeat(b.graph, 4, &all[at + 2..to], times, rows, steps)
-}
-
-// Before the first.
-fn nothing() -> Told {
-    Told {
-        count: 0,
-        moved: 0,
-        refused: 0,
-    }
-}
-
 // Builds the graph, and does what the script says.
-fn run(words: &Words, rows: &mut Rows, steps: &mut Steps) -> Told {
-    let times = script::get(words, 0);
-    let what = script::get(words, 1);
-    let b = build(words);
-    let all = &words[..];
-    match what {
-        1 | 3 => repeat(b.graph, what, &all[0..0], times, rows, steps),
-        2 => pushes(words, times),
-        4 => wanted(b, words, times, rows, steps),
-        _ => nothing(),
-    }
-}
-
-// The rooms. A function hands an array out without what it holds, so that no proof looks at its elements.
-fn byte_room() -> Bytes {
-    [0; BYTES]
-}
-
-fn word_room() -> Words {
-    [0; WORDS]
-}
-
-fn row_room() -> Rows {
-    [0; MAX_ROWS]
-}
-
-fn step_room() -> Steps {
-    [0; MAX_STEPS]
-}
-
-// Standard input, up to the buffer's end or its own.
-fn read(rt: &HostRuntime, bytes: &mut Bytes) -> io::Result<()> {
-    match stdio::gave(stdio::fill(&mut rt.stdin(), bytes)) {
-        Filled::Bytes(_) => Ok(()),
-        Filled::Failed(why) => Err(why),
+fn run(script: &Script, rows: &mut [u32; MAX_ROWS], steps: &mut [u32; MAX_STEPS]) -> Told {
+    let times = script.times;
+    let built = build(script);
+    let g = built.graph;
+    match script.task {
+        Task::Nothing => Told::default(),
+        Task::Replay => repeat(times, || walked(walk::replaying::replay(g, rows, steps))),
+        Task::Pushes => repeat(times, || pushes(script)),
+        Task::ArchivePoints => repeat(times, || {
+            listed(versions::archive::archive_points(g, steps))
+        }),
+        Task::WantedParents => match script::counted(built.rest) {
+            Some((_, ranges, _)) => repeat(times, || {
+                listed(versions::wanted::wanted_parents(g, ranges, steps))
+            }),
+            None => Told::default(),
+        },
     }
 }
 
 fn main(rt: HostRuntime) -> io::Result<()> {
-    let mut bytes = byte_room();
-    let mut words = word_room();
-    let mut rows = row_room();
-    let mut steps = step_room();
-    read(&rt, &mut bytes)?;
+    let mut bytes = [0; BYTES];
+    let mut words = [0; WORDS];
+    let mut rows = [0; MAX_ROWS];
+    let mut steps = [0; MAX_STEPS];
+    stdio::fill(&mut rt.stdin(), &mut bytes).gave()?;
     script::decode(&bytes, &mut words);
-    let told = run(&words, &mut rows, &mut steps);
-    let count = told.count;
-    let moved = told.moved;
-    let refused = told.refused;
-    println!(rt; "{count} {moved} {refused}")
+    let told = run(&Script::new(&words), &mut rows, &mut steps);
+    println!(rt; "{told}")
 }

@@ -1,60 +1,67 @@
-// The words on standard input.
-ghost use Rattle.std.specs.Prelude.{◌<◌, ◌≤◌, ◌^◌};
+// The words on standard input, 0 after the last.
 
 // As many bytes as the buffer has, and their words.
 pub const BYTES: usize = 65536;
 
 pub const WORDS: usize = BYTES / 4;
 
-pub type Bytes = [u8; BYTES];
-
-pub type Words = [u32; WORDS];
-
-// A byte as a word.
-fn widened(b: u8) -> u32 {
-    b as u32
+// What is done as often as the script says.
+#[derive(Clone, Copy)]
+pub enum Task {
+    Nothing,
+    Replay,
+    Pushes,
+    ArchivePoints,
+    WantedParents,
 }
 
-// The little-endian word of the four bytes from place `i` on; 0 if not all of them are there.
-fn word_at(bytes: &Bytes, i: usize) -> u32 {
-    if BYTES - 4 < i {
-        return 0;
-    }
-    let low = widened(bytes[i]) | widened(bytes[i + 1]) << 8;
-    low | widened(bytes[i + 2]) << 16 | widened(bytes[i + 3]) << 24
-}
-
-// The words of the bytes.
-pub fn decode(bytes: &Bytes, words: &mut Words) {
-    let mut i = 0;
-    while i < WORDS {
-        words[i] = word_at(bytes, 4 * i);
-        i += 1;
+// By its number in the script.
+impl From<u32> for Task {
+    fn from(word: u32) -> Task {
+        match word {
+            1 => Task::Replay,
+            2 => Task::Pushes,
+            3 => Task::ArchivePoints,
+            4 => Task::WantedParents,
+            _ => Task::Nothing,
+        }
     }
 }
 
-// The word at place `i`; past the end, 0.
-pub fn get(words: &Words, i: usize) -> u32 {
-    if i < WORDS { words[i] } else { 0 }
+// How often, what, how many pushes, and the words of these and of the ranges.
+#[derive(Clone, Copy)]
+pub struct Script<'a> {
+    pub times: u32,
+    pub task: Task,
+    pub pushes: u32,
+    pub rest: &'a [u32],
 }
 
-// The end of the push, or of the ranges, whose words start at place `at`; `at` if their count is past the end.
-pub fn end_of(words: &Words, at: usize) -> usize
-    ensures { at ≤ result }
-{
-    if WORDS - 2 < at {
-        return at;
+impl<'a> Script<'a> {
+    // The script that the words are.
+    pub fn new(words: &'a [u32; WORDS]) -> Script<'a> {
+        Script {
+            times: words[0],
+            task: Task::from(words[1]),
+            pushes: words[2],
+            rest: &words[3..],
+        }
     }
-    at + 2 + index(get(words, at + 1))
 }
 
-// A word as a count, and as a long number.
-fn index(word: u32) -> usize
-    ensures { result < 2 ^ 32 }
-{
-    word as usize
+// The little-endian words of the bytes.
+pub fn decode(bytes: &[u8; BYTES], words: &mut [u32; WORDS]) {
+    let (quads, _) = bytes.as_chunks();
+    for (word, quad) in words.iter_mut().zip(quads) {
+        *word = u32::from_le_bytes(*quad);
+    }
 }
 
-pub fn wide(word: u32) -> u64 {
-    word as u64
+// A word, then a count of words and these, and what follows; none if not all of them are there.
+pub fn counted(words: &[u32]) -> Option<(u32, &[u32], &[u32])> {
+    let [first, count, rest @ ..] = words else {
+        return None;
+    };
+    let n = *count as usize;
+    Some((*first, rest.get(..n)?, rest.get(n..)?))
 }

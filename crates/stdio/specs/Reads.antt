@@ -1,45 +1,26 @@
 -- What reads give. Assumes nothing.
-use Rattle.std.specs.Prelude.{ℕ, zero, suc, ◌+◌, ◌-◌, ◌<◌, ◌≤◌, min, Ok, Err, None, Some, Result, true, false, ◌≡◌, List, length, take}
+use Rattle.std.specs.Prelude.{ℕ, zero, suc, ◌+◌, ◌-◌, ◌<◌, ◌≤◌, Ok, Err, Result, ◌≡◌, List, length, take}
 use Rattle.std.specs.declared.io.Error.{Error}
-use Rattle.stdio.specs.declared.reading.Got.{Got}
-use Rattle.stdio.specs.declared.reading.Got.TheVariants.{Bytes as GotBytes, End, Failed as GotFailed}
-use Rattle.stdio.specs.declared.reading.Filled.{Filled}
-use Rattle.stdio.specs.declared.reading.Filled.TheVariants.{Bytes, Failed}
+use Rattle.stdio.specs.declared.reading.State.TheVariants.{Open, Ended, Failed}
 use Rattle.stdio.specs.declared.reading.Reading.{Reading}
 
--- a number of bytes that came; none at the end of the input
-unfoldable pub counted : ℕ → Got
-counted zero = End
-counted (suc k) = GotBytes (suc k)
-
--- what a read's answer says of a buffer of n bytes: at an error it failed
-unfoldable pub got_of : Result ℕ Error → ℕ → Got
-got_of (Ok k) n = counted (min k n)
-got_of (Err e) n = GotFailed e
-
--- bytes that came are at least one, and stand within a buffer of n
-abbrev pub Room : ℕ → ℕ → Got → Type 0
-Room at n (GotBytes k) = (0 < k) × (at + k ≤ n)
-Room at n End = Unit
-Room at n (GotFailed e) = Unit
-
--- a reading after one read more
-unfoldable pub after_read : Reading → Got → Reading
-after_read r (GotBytes k) = record { count = r.count + k; ended = r.ended; failed = r.failed }
-after_read r End = record { count = r.count; ended = true; failed = r.failed }
-after_read r (GotFailed e) = record { count = r.count; ended = r.ended; failed = Some e }
+-- a reading after one read more: bytes that came are at least one, none are the end of the input, and an error is a failure
+unfoldable pub after_read : Reading → Result ℕ Error → Reading
+after_read r (Ok zero) = record { count = r.count; state = Ended }
+after_read r (Ok (suc k)) = record { count = r.count + suc k; state = r.state }
+after_read r (Err e) = record { count = r.count; state = Failed e }
 
 -- how many bytes of a buffer of n may still come: none after the end or a failure
 unfoldable pub left_of : Reading → ℕ → ℕ
-left_of r n = elim r.ended [ true ↦ 0 | false ↦ elim r.failed [ Some e ↦ 0 | None ↦ n - r.count ] ]
+left_of r n = elim r.state [ Open ↦ n - r.count | Ended ↦ 0 | Failed e ↦ 0 ]
 
 -- what a reading gave: so many bytes, or a failure, whatever came before it
-unfoldable pub filled_of : Reading → Filled
-filled_of r = elim r.failed [ Some e ↦ Failed e | None ↦ Bytes r.count ]
+unfoldable pub filled_of : Reading → Result ℕ Error
+filled_of r = elim r.state [ Open ↦ Ok r.count | Ended ↦ Ok r.count | Failed e ↦ Err e ]
 
 -- no read failed, and n bytes came
 abbrev pub Came : Reading → ℕ → Type 0
-Came r n = filled_of r ≡ Bytes n
+Came r n = filled_of r ≡ Ok n
 
 -- a read into the buffer xs took the reading r to s and left ys: what came before is as it was
 pub record On (r : Reading) (xs ys : List ℕ) (s : Reading) : Type 0 where

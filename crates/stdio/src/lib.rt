@@ -1,13 +1,14 @@
 #![tactic(auto)]
 
 // An input, such as standard input, read so that a failed read is told from the end of the input.
-ghost use Rattle.std.specs.Prelude.{length, take, IsTrue};
+ghost use Rattle.std.specs.Prelude.{length, take, ◌≡◌};
 ghost use Rattle.std.specs.Io.KnownBytes.{Consumes, IsAtEnd};
 ghost use Rattle.stdio.specs.Reads.{Full};
+ghost use Rattle.stdio.specs.declared.reading.State.TheVariants.{Ended};
 
 pub mod reading;
 
-pub use reading::{Filled, Reading, gave};
+pub use reading::Reading;
 use std::io::Read;
 
 // Reads until the buffer is full, the input ends or a read fails. After a failed read the reading says why. Of an input whose bytes are
@@ -15,11 +16,12 @@ use std::io::Read;
 pub fn fill<R: Read>(input: &mut R, buf: &mut [u8]) -> Reading
     ensures full { Full (length buf.new) result }
     ensures bytes { Consumes (R.remaining input.old) (R.remaining input.new) (take result.count buf.new) }
-    ensures end { IsTrue result.ended → IsAtEnd (R.remaining input.new) }
+    ensures end { result.state ≡ Ended → IsAtEnd (R.remaining input.new) }
 {
-    let mut r = reading::begin();
-    while 0 < reading::left(r, buf.len()) {
-        r = reading::read_on(r, input, buf);
+    let mut r = Reading::begin();
+    // No `for`: the loop counts nothing, and goes on while more may come.
+    while 0 < r.left(buf.len()) {
+        r = r.read_on(input, buf);
     }
     r
 }
@@ -57,10 +59,7 @@ mod tests {
     fn came(left: usize, fails: bool) -> Option<usize> {
         let mut buf = [0u8; 4];
         let mut input = Pieces { left, fails };
-        match gave(fill(&mut input, &mut buf)) {
-            Filled::Bytes(n) => Some(n),
-            Filled::Failed(_) => None,
-        }
+        fill(&mut input, &mut buf).gave().ok()
     }
 
     #[test]

@@ -1,16 +1,18 @@
 -- The bits of words of any width: joined, counted, and set one by one. Assumes nothing.
-use mathlib.Core.Path.{◌≡◌, refl, sym, ap, ◌∙◌}
+use mathlib.Core.Path.{◌≡◌, refl, sym, ap, ap₂, ◌∙◌}
 use mathlib.Core.Bool.{Bool, true, false, ◌||◌}
 use mathlib.Core.List.{List, [], ◌∷◌, ◌++◌}
-use Prim.Native.Nat.{ℕ, zero, suc, ◌+◌, ◌*◌, ◌/◌, ◌%◌, ◌^◌, ◌≤◌, ◌<◌, max}
+use Prim.Native.Nat.{ℕ, zero, suc, ◌+◌, ◌*◌, ◌/◌, ◌%◌, ◌^◌, ◌<◌, max}
 use native.Mathlib.Omega.{arith}
-use native.Mathlib.Numerals.{add-one}
 use native.Mathlib.Nat.{pow-suc, zero-add, suc-add, zero-mul, suc-mul}
-use lib.ListN.{length, get_or, drop, set, replicate, length-append, drop_of_length-le, replicate-append-replicate}
-use lib.Seq.{set-append_left, drop-cons}
+use lib.ListN.{length, get_or, set, replicate, length-append, replicate-append-replicate}
+use lib.Seq.{set-append_left}
 use lib.Dec.{eqb}
 use lib.Bits.{bit_or, or_step, or_zero_r}
 use lib.Count.{ones, ones_in, ones_step}
+use Rattle.std.specs.Prelude.{count_ones}
+use Rattle.std.specs.List.{sum_by}
+use Rattle.std.proofs.lemmas.List.Sums.{sum_by-cons}
 use Rattle.lists.specs.Lists.{count, bit}
 use Rattle.model.specs.Cover.{either}
 use Rattle.tables.specs.Covers.{bits_of, bits_in, join_words}
@@ -89,14 +91,14 @@ unfolding count
 count-append [] vs = sym (zero-add (count (λ b. b) vs))
 count-append (a ∷ us) vs = omega (arith, count-append us vs)
 
--- The bits counted word by word
-pub count_next : (k : ℕ) (y : List ℕ) (i : ℕ) → i < length y → count (λ b. b) (bits_in k (drop i y)) ≡ count (λ b. b) (bits_of k (get_or y i 0)) + count (λ b. b) (bits_in k (drop (i + 1) y))
+-- Words of k bits, counted one by one
+pub bits_counted : (k : ℕ) (y : List ℕ) → ((i : ℕ) → i < length y → get_or y i 0 < 2 ^ k) → sum_by count_ones y ≡ count (λ b. b) (bits_in k y)
 unfolding bits_in
-count_next k y i h = rw (drop-cons y i 0 h, add-one i) (count-append (bits_of k (get_or y i 0)) (bits_in k (drop (suc i) y)))
-
-pub count_none : (k : ℕ) (y : List ℕ) (i : ℕ) → length y ≤ i → count (λ b. b) (bits_in k (drop i y)) ≡ 0
-unfolding bits_in count
-count_none k y i h = rw (drop_of_length-le y h)
+bits_counted k [] f = unfold count in refl
+bits_counted k (x ∷ xs) f =
+    sum_by-cons count_ones x xs
+    ∙ ap₂ (λ (a b : ℕ). a + b) (sym (bits_ones k x (f 0 (omega arith)))) (bits_counted k xs (λ i h. f (suc i) (omega arith)))
+    ∙ sym (count-append (bits_of k x) (bits_in k xs))
 
 -- ---- a bit set
 

@@ -2,8 +2,8 @@
 use mathlib.Core.Path.{◌≡◌, refl, sym, ap, ap₂, ◌∙◌}
 use mathlib.Core.Logic.{◌⊎◌, inl, inr}
 use mathlib.Core.List.{List, [], ◌∷◌}
-use Prim.Native.Nat.{ℕ, zero, suc, ◌+◌, ◌*◌, ◌≤◌, ◌<◌, ◌^◌}
-use native.Mathlib.Nat.{suc-mul}
+use Prim.Native.Nat.{ℕ, zero, suc, ◌+◌, ◌-◌, ◌*◌, ◌≤◌, ◌<◌, ◌^◌}
+use native.Mathlib.Nat.{suc-mul, zero-add}
 use native.Mathlib.Numerals.{add-one}
 use native.Mathlib.Omega.{arith}
 use lib.ListN.{length, get_or, take, set, length-set, replicate, length-replicate, get_or-replicate, get_or-eq_default}
@@ -14,7 +14,7 @@ use Rattle.lists.specs.Lists.{bit, count, occurs}
 use Rattle.lists.proofs.Truth.{lt_or_le, eq_or-not}
 use Rattle.lists.proofs.Counts.{count-append, count_le}
 use Rattle.model.specs.History.{at}
-use Rattle.tables.specs.Indexed.{sum_below}
+use Rattle.tables.specs.Indexed.{sum_below, Summed}
 use Rattle.tables.specs.Counted.{tally, Counted}
 
 -- One item more
@@ -128,37 +128,50 @@ unfolding sum_below
 sum_less f b zero h = omega arith
 sum_less f b (suc n) h = omega (arith, sum_less f b n h, h n, suc-mul n b)
 
--- The first k + 1 places summed, the others as they were
-pub record Summing (l₀ : List ℕ) (k : ℕ) (l : List ℕ) : Type 0 where
-  pub size : length l ≡ length l₀
-  pub done : (j : ℕ) → j ≤ k → get_or l j 0 ≡ sum_below (λ i. get_or l₀ (i + 1) 0) j
-  pub rest : (j : ℕ) → k < j → get_or l j 0 ≡ get_or l₀ j 0
+-- The first k places hold the sums up to them, `sum` is that of all k, and the other places are as they were
+pub record Summing (l₀ : List ℕ) (k sum : ℕ) (l : List ℕ) : Type 0 where
+  pub total : sum ≡ sum_below (λ i. get_or l₀ i 0) k
+  pub done : (j : ℕ) → j < k → get_or l j 0 ≡ sum_below (λ i. get_or l₀ i 0) (j + 1)
+  pub rest : (j : ℕ) → k ≤ j → get_or l j 0 ≡ get_or l₀ j 0
 
-pub summing_start : (l : List ℕ) → get_or l 0 0 ≡ 0 → Summing l 0 l
-summing_start l e = record { size = refl; done = λ j le. first j le; rest = λ j lt. refl }
-  where
-    first : (j : ℕ) → j ≤ 0 → get_or l j 0 ≡ sum_below (λ i. get_or l (i + 1) 0) j
-    first zero le = unfold sum_below in e
-    first (suc j) le = absurd (omega arith)
+pub summing_start : (l : List ℕ) → Summing l 0 0 l
+unfolding sum_below
+summing_start l = record { total = refl; done = λ j lt. absurd (omega arith); rest = λ j le. refl }
 
-pub summing_room : (l₀ : List ℕ) (k : ℕ) (l : List ℕ) → Summing l₀ k l → k < 512 → ((j : ℕ) → get_or l₀ j 0 ≤ 2 ^ 20) → get_or l (k + 1) 0 + get_or l k 0 < 2 ^ 32
-summing_room l₀ k l S lt h =
-    let b : sum_below (λ i. get_or l₀ (i + 1) 0) k ≤ k * 2 ^ 20 = sum_less (λ i. get_or l₀ (i + 1) 0) (2 ^ 20) k (λ i. h (i + 1)) in
-    omega (arith, S.done k (omega arith), S.rest (k + 1) (omega arith), h (k + 1), b)
+pub summing_room : (l₀ : List ℕ) (k sum : ℕ) (l : List ℕ) → Summing l₀ k sum l → k < 513 → ((j : ℕ) → get_or l₀ j 0 ≤ 2 ^ 20) → sum + get_or l k 0 < 2 ^ 32
+summing_room l₀ k sum l S lt h =
+    let b : sum_below (λ i. get_or l₀ i 0) k ≤ k * 2 ^ 20 = sum_less (λ i. get_or l₀ i 0) (2 ^ 20) k h in
+    omega (arith, S.total, S.rest k (omega arith), h k, b)
 
-pub summing_next : (l₀ : List ℕ) (k : ℕ) (l : List ℕ) → Summing l₀ k l → k + 1 < length l₀ → Summing l₀ (k + 1) (set l (k + 1) (get_or l (k + 1) 0 + get_or l k 0))
-summing_next l₀ k l S lt = record {
-  size = length-set l (k + 1) v ∙ S.size;
-  done = λ j le. go j le (eq_or-not j (k + 1));
-  rest = λ j q. get_or-set_other l (k + 1) j v 0 (λ z. omega arith) ∙ S.rest j (omega arith);
+pub summing_next : (l₀ : List ℕ) (k sum : ℕ) (l : List ℕ) → Summing l₀ k sum l → k < length l → Summing l₀ (k + 1) (sum + get_or l k 0) (set l k (sum + get_or l k 0))
+summing_next l₀ k sum l S lt = record {
+  total = total;
+  done = λ j le. go j le (eq_or-not j k);
+  rest = λ j q. get_or-set_other l k j v 0 (λ z. omega arith) ∙ S.rest j (omega arith);
 }
   where
     v : ℕ
-    v = get_or l (k + 1) 0 + get_or l k 0
+    v = sum + get_or l k 0
 
-    more : sum_below (λ i. get_or l₀ (i + 1) 0) (k + 1) ≡ sum_below (λ i. get_or l₀ (i + 1) 0) k + get_or l₀ (k + 1) 0
-    more = ap (sum_below (λ i. get_or l₀ (i + 1) 0)) (add-one k) ∙ (unfold sum_below in refl)
+    more : sum_below (λ i. get_or l₀ i 0) (k + 1) ≡ sum_below (λ i. get_or l₀ i 0) k + get_or l₀ k 0
+    more = ap (sum_below (λ i. get_or l₀ i 0)) (add-one k) ∙ (unfold sum_below in refl)
 
-    go : (j : ℕ) → j ≤ k + 1 → (j ≡ k + 1) ⊎ (j ≡ k + 1 → ⊥) → get_or (set l (k + 1) v) j 0 ≡ sum_below (λ i. get_or l₀ (i + 1) 0) j
-    go j le (inl e) = rw e (get_or-set_same l (k + 1) v 0 (omega (arith, S.size)) ∙ omega (arith, more, S.done k (omega arith), S.rest (k + 1) (omega arith)))
-    go j le (inr n) = get_or-set_other l (k + 1) j v 0 n ∙ S.done j (omega (arith, le, n))
+    total : v ≡ sum_below (λ i. get_or l₀ i 0) (k + 1)
+    total = omega (arith, more, S.total, S.rest k (omega arith))
+
+    go : (j : ℕ) → j < k + 1 → (j ≡ k) ⊎ (j ≡ k → ⊥) → get_or (set l k v) j 0 ≡ sum_below (λ i. get_or l₀ i 0) (j + 1)
+    go j le (inl e) = rw e (get_or-set_same l k v 0 lt ∙ total)
+    go j le (inr n) = get_or-set_other l k j v 0 n ∙ S.done j (omega (arith, le, n))
+
+-- A first number that is 0 adds nothing
+sum_after : (f : ℕ → ℕ) (k : ℕ) → f 0 ≡ 0 → sum_below f (suc k) ≡ sum_below (λ i. f (i + 1)) k
+unfolding sum_below
+sum_after f zero e = zero-add (f 0) ∙ e
+sum_after f (suc k) e = ap₂ (λ (a b : ℕ). a + b) (sum_after f k e) (ap f (sym (add-one k)))
+
+pub summing_end : (l₀ : List ℕ) (n sum : ℕ) (l : List ℕ) → get_or l₀ 0 0 ≡ 0 → n ≡ length l₀ → Summing l₀ n sum l → Summed (λ i. get_or l₀ (i + 1) 0) (length l₀ - 1) l
+summing_end l₀ n sum l e all S k le = go (lt_or_le k n)
+  where
+    go : (k < n) ⊎ (n ≤ k) → get_or l k 0 ≡ sum_below (λ i. get_or l₀ (i + 1) 0) k
+    go (inl lt) = S.done k lt ∙ (ap (sum_below (λ i. get_or l₀ i 0)) (add-one k) ∙ sum_after (λ i. get_or l₀ i 0) k e)
+    go (inr g) = let z : k ≡ 0 = omega arith in rw z (S.rest 0 (omega arith) ∙ (e ∙ (unfold sum_below in refl)))

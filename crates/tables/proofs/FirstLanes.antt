@@ -69,21 +69,17 @@ unfolding part
 first_back d t first e = omega (arith, e, length-append first (drop (d - 0) t), length-drop (d - 0) t, length-take (d - 0) t)
 
 -- those words cleared
-pub first_clear : (d : ℕ) (t first : List ℕ) → d ≤ length t → first ≡ replicate (length (part 0 d t)) 0 → (take d (first ++ drop (d - 0) t) ≡ replicate d 0) × (length (first ++ drop (d - 0) t) ≡ length t)
-first_clear d t first h e =
-    let long : length (part 0 d t) ≡ d = first-long d t h in
-    let q : first ≡ replicate d 0 = e ∙ ap (λ (k : ℕ). replicate k 0) long in
-    let f : length first ≡ d = ap length q ∙ length-replicate d 0 in
-    (take_at first (drop (d - 0) t) d f ∙ q, first_back d t first (f ∙ sym long))
+pub first_clear : (d : ℕ) (t : List ℕ) → d ≤ length t → (take d (replicate d 0 ++ drop d t) ≡ replicate d 0) × (length (replicate d 0 ++ drop d t) ≡ length t)
+first_clear d t h = (take_at (replicate d 0) (drop d t) d (length-replicate d 0), omega (arith, length-append {A = ℕ} (replicate d 0) (drop d t), length-replicate {A = ℕ} d 0, length-drop d t))
 
 -- Cleared tables say what there is to say before the first run
 pub clear_laid : (pss : List (List ℕ)) (w : ℕ) (a : Area) (t area : List ℕ) → w ≡ length pss + 1 → 4 * w ≤ length t → take (4 * w) t ≡ replicate (4 * w) 0 →
-    a.chains ≡ 0 → a.used ≡ 0 → a.short ≡ 0 → Laid pss 0 (chains_of a w t) area area
+    a.chains ≡ 0 → a.used ≡ 0 → Laid pss 0 (chains_of a w t) area area
 unfolding chains_of
-clear_laid pss w a t area e long clear p q s =
+clear_laid pss w a t area e long clear p q =
     laid_fresh pss _ area
     (lane-long 0 w t (omega arith) ∙ e, lane-long 1 w t (omega arith) ∙ e, lane-long 2 w t (omega arith) ∙ e, lane-long 3 w t (omega arith) ∙ e)
-    (zero-lane 0 w t (omega arith) (λ i h. all i (omega arith)) 0) (zero-lane 3 w t (omega arith) (λ i h. all i (omega arith))) p q s
+    (zero-lane 0 w t (omega arith) (λ i h. all i (omega arith)) 0) (zero-lane 3 w t (omega arith) (λ i h. all i (omega arith))) p q
   where
     all : (i : ℕ) → i < 4 * w → get_or t i 0 ≡ 0
     all i h = sym (get_or-take (4 * w) t i 0 h) ∙ (ap (λ (l : List ℕ). get_or l i 0) clear ∙ zeros_get (4 * w) i)
@@ -132,6 +128,6 @@ module _ (w r k used : ℕ) (t : List ℕ) (rw-in : r + 1 < w) (kw-in : k < w) w
       (sym (lane_get_d 3 w k t kw-in)))
 
   pub place-lanes : (a : Area) (width : ℕ) →
-      chains_of (record { chains = width; used = used; short = 0 }) w (place_in t w r k used) ≡ placed_of (chains_of a w t) r k used width
+      chains_of (record { chains = width; used = used }) w (place_in t w r k used) ≡ placed_of (chains_of a w t) r k used width
   unfolding chains_of
-  place-lanes a width = λ i. record { starts = starts_placed i; chain = chain_placed i; place = place_placed i; lens = lens_placed i; count = width; used = used; short = 0 }
+  place-lanes a width = λ i. record { starts = starts_placed i; chain = chain_placed i; place = place_placed i; lens = lens_placed i; count = width; used = used }

@@ -2,14 +2,11 @@
 use mathlib.Core.Path.{◌≡◌, ◌∙◌}
 use mathlib.Core.Logic.{◌⊎◌, inl, inr}
 use mathlib.Core.List.{List}
-use Prim.Native.Nat.{ℕ, zero, suc, ◌+◌, ◌-◌, ◌*◌, ◌≤◌, ◌<◌}
+use Prim.Native.Nat.{ℕ, zero, suc, ◌+◌, ◌-◌, ◌≤◌, ◌<◌}
 use native.Mathlib.Omega.{arith}
-use native.Mathlib.Nat.{sub-zero}
-use lib.ListN.{length, get_or, set, take, drop}
+use lib.ListN.{length, get_or, set}
 use lib.Seq.{get_or-set_same, get_or-set_other}
-use Rattle.lists.specs.Areas.{part}
 use Rattle.lists.proofs.Truth.{eq_or-not}
-use Rattle.tables.specs.Lanes.{lane}
 use Rattle.tables.specs.Gaps.{gap_at, gaps_from}
 use Rattle.tables.specs.Sizes.{share_at, events_from, row_in, Sized}
 
@@ -60,14 +57,6 @@ sized_next b s starts rows sizes n r v l old e k h = go (eq_or-not k r)
     go : (k ≡ r) ⊎ (k ≡ r → ⊥) → get_or (set sizes r v) k 0 ≡ events_from b s (row_in starts rows k) 0 n
     go (inl q) = rw q (get_or-set_same sizes r v 0 l ∙ e)
     go (inr m) = get_or-set_other sizes r k v 0 m ∙ old k (omega arith)
-
--- The first list of an area, and the k-th, as they are lent
-pub cut_first : (w : ℕ) (area : List ℕ) → take (w - 0) (drop 0 area) ≡ take w area
-cut_first w area = simp sub-zero
-
-pub cut_lane : (k w d e : ℕ) (area : List ℕ) → d ≡ k * w → e ≡ k * w + w → take (e - d) (drop d area) ≡ lane k w area
-unfolding lane part
-cut_lane k w d e area p q = rw (p, q)
 
 -- The same events of a run's history, by equal tables
 pub events-same : (rows : List ℕ) (chains r : ℕ) {b b' s s' t t' : List ℕ} → b ≡ b' → s ≡ s' → t ≡ t' → events_from b s (row_in t rows r) 0 chains ≡ events_from b' s' (row_in t' rows r) 0 chains

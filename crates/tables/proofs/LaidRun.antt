@@ -5,11 +5,12 @@ use Prim.Native.Nat.{ℕ, ◌+◌, ◌*◌, ◌≤◌, ◌<◌, max}
 use native.Mathlib.Omega.{arith}
 use lib.ListN.{length, get_or, replicate}
 use lib.Seq.{paste}
+use Rattle.std.specs.Prelude.{Some, None}
 use Rattle.lists.specs.Areas.{part}
 use Rattle.tables.specs.declared.rows.Area.{Area}
 use Rattle.tables.specs.Lanes.{lane}
 use Rattle.tables.specs.Laid.{chains_of}
-use Rattle.tables.specs.Lay.{join_all, spot_from, FineAll, Laying, place_in, placed_of, row_of, lay_of}
+use Rattle.tables.specs.Lay.{join_all, spot_from, FineAll, place_in, placed_of, row_of, lay_of}
 use Rattle.tables.proofs.Turns.{lay_stop, lay_goes}
 use Rattle.tables.proofs.FirstLanes.{lane-part, lane-long, lane_get_d, place-lanes}
 
@@ -53,15 +54,15 @@ module _ (w : ℕ) (a : Area) (t rows ps : List ℕ) (long : 4 * w ≤ length t)
     spot_is = found ∙ ap (λ (l : List ℕ). spot_from row l 0 a.chains) lens_lent
 
     -- it does not fit
-    pub run_stops : length rows < a.used + width → ◌≡◌ {A = Laying} (chains_of (record { chains = a.chains; used = a.used; short = 1 }) w t, rows) (lay_of (chains_of a w t, rows) r ps)
+    pub run_stops : length rows < a.used + width → lay_of (chains_of a w t, rows) r ps ≡ None
     unfolding chains_of
     run_stops lt = lay_stop (chains_of a w t, rows) r ps row k width row_is spot_is wide lt
 
     -- it fits
     pub run_goes : (t' rows' : List ℕ) → r + 1 < w → k < w → a.used + width ≤ length rows → t' ≡ place_in t w r k (a.used + width) → rows' ≡ paste rows a.used row width →
-        ◌≡◌ {A = Laying} (chains_of (record { chains = width; used = a.used + width; short = 0 }) w t', rows') (lay_of (chains_of a w t, rows) r ps)
+        lay_of (chains_of a w t, rows) r ps ≡ Some (chains_of (record { chains = width; used = a.used + width }) w t', rows')
     run_goes t' rows' rl kl le p q =
-        lay_goes (chains_of a w t, rows) r ps row k width (chains_of (record { chains = width; used = a.used + width; short = 0 }) w t', rows') row_is spot_is wide' le'
+        lay_goes (chains_of a w t, rows) r ps row k width (chains_of (record { chains = width; used = a.used + width }) w t', rows') row_is spot_is wide' le'
         placed pasted
       where
         wide' : width ≡ max (chains_of a w t).count (k + 1)
@@ -70,8 +71,8 @@ module _ (w : ℕ) (a : Area) (t rows ps : List ℕ) (long : 4 * w ≤ length t)
         le' : (chains_of a w t).used + width ≤ length rows
         le' = unfold chains_of in le
 
-        placed : chains_of (record { chains = width; used = a.used + width; short = 0 }) w t' ≡ placed_of (chains_of a w t) r k ((chains_of a w t).used + width) width
-        placed = ap (chains_of (record { chains = width; used = a.used + width; short = 0 }) w) p ∙ unfold chains_of in (place-lanes w r k (a.used + width) t rl kl a width)
+        placed : chains_of (record { chains = width; used = a.used + width }) w t' ≡ placed_of (chains_of a w t) r k ((chains_of a w t).used + width) width
+        placed = ap (chains_of (record { chains = width; used = a.used + width }) w) p ∙ unfold chains_of in (place-lanes w r k (a.used + width) t rl kl a width)
 
         pasted : rows' ≡ paste rows (chains_of a w t).used row width
         pasted = unfold chains_of in q

@@ -34,6 +34,10 @@ pub lane_lent : (k w s e : ℕ) (area : List ℕ) → s ≡ k * w → e ≡ k * 
 unfolding lane part
 lane_lent k w s e area p q = rw (p, q)
 
+-- the first, lent from the start
+pub first_lent : (w : ℕ) (area : List ℕ) → take w area ≡ lane 0 w area
+first_lent w area = let e : w ≡ w - 0 = omega arith in ap (λ (k : ℕ). take k area) e ∙ lane_lent 0 w 0 w area (omega arith) (omega arith)
+
 -- w words of a list, stored there, stand there
 pub lane_pasted : (k w : ℕ) (area l : List ℕ) → k * w + w ≤ length area → w ≤ length l → lane k w (paste area (k * w) l w) ≡ take w l
 unfolding lane part

@@ -1,6 +1,6 @@
 -- The laws behind a range's tables.
 -- Lists in one area
-pub mod Clearing
+pub mod JaggedRows
 pub mod Laning
 pub mod Scratch
 -- Chains and rows of a range
@@ -9,6 +9,7 @@ pub mod Chaining
 pub mod Holding
 pub mod Turns
 pub mod Making
+pub mod Pasting
 pub mod Placing
 pub mod Fitted
 pub mod Outcome
@@ -19,7 +20,6 @@ pub mod RowsIn
 pub mod Gathering
 pub mod Ranging
 -- Both
-pub mod Whole
 -- Members and sums; versions and distances
 pub mod Standing
 pub mod Summing

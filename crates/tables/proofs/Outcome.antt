@@ -1,20 +1,19 @@
 -- A whole range laid, run by run. Assumes nothing.
 use mathlib.Core.Path.{◌≡◌, refl, sym, ap, ◌∙◌, subst}
 use mathlib.Core.Bool.{Bool, true, false}
-use mathlib.Core.List.{List, []}
+use mathlib.Core.List.{List}
 use Prim.Native.Nat.{ℕ, suc, ◌+◌, ◌≤◌, ◌<◌}
 use native.Mathlib.Omega.{arith}
 use lib.ListN.{length, get_or}
 use lib.Dec.{ltb}
-use borrow.Author.Tests.{lt-ltb, le-ltb, ltb-true, ltb-false}
-use Rattle.lists.specs.Lists.{bit, concat}
+use borrow.Author.Tests.{ltb-true, ltb-false}
+use Rattle.std.specs.Prelude.{Option, Some, None, MatchOption}
 use Rattle.lists.specs.Areas.{over, part}
 use Rattle.model.specs.History.{at, histories}
-use Rattle.model.specs.Range.{rows_from}
 use Rattle.model.proofs.Histories.{history-length}
-use Rattle.tables.specs.Laid.{Chains}
-use Rattle.tables.specs.Lay.{Safe, short_of, Laying, width_of, lay_of}
-use Rattle.tables.specs.Laid.{flat, grouped, Sound, Laid, LaidOut}
+use Rattle.tables.specs.declared.rows.Area.{Area}
+use Rattle.tables.specs.Lay.{Safe, Laying, width_of, lay_of}
+use Rattle.tables.specs.Laid.{Chains, flat, grouped, chains_of, Sound, Laid, LaidOut}
 use Rattle.tables.proofs.Making.{flat_up}
 use Rattle.tables.proofs.Placing.{grouped-length, grouped-at, safe, end_is, area_length, laid_next}
 use Rattle.tables.proofs.Fitted.{rows_whole, rows_all, rows_stop}
@@ -28,24 +27,21 @@ module _ (starts items : List ℕ) (n : ℕ) (sound : Sound starts items n) (are
   size = history-length pss ∙ omega (arith, grouped-length starts items n sound.long)
 
   -- the next run does not fit
-  laid_stop : (r : ℕ) (st : Chains) (area : List ℕ) → r < n → Laid pss r st area area₀ → length area₀ < length (flat (histories pss) (suc r)) → LaidOut pss n area₀ (short_of st) area
-  laid_stop r st area lt L gt = record {
+  laid_stop : (r : ℕ) (st : Chains) (area tables : List ℕ) → r < n → Laid pss r st area area₀ → length area₀ < length (flat (histories pss) (suc r)) → LaidOut pss n area₀ None area tables
+  laid_stop r st area tables lt L gt = record {
     area_is = L.written ∙ ap (λ (l : List ℕ). over l area₀) (sym (rows_stop (histories pss) (length area₀) r (omega (arith, size)) L.room gt));
-    short_is = sym (ap bit (lt-ltb (length area₀) (length (concat (rows_from 0 [] (histories pss))))
-        (omega (arith, ap length (rows_whole (histories pss)), flat_up (histories pss) (suc r) (length (histories pss)) (omega (arith, size))))));
-    chains = λ e. absurd (omega (arith, e));
+    told = omega (arith, ap length (rows_whole (histories pss)), flat_up (histories pss) (suc r) (length (histories pss)) (omega (arith, size)));
   }
 
   -- all fit
-  pub laid_end : (r : ℕ) (st : Chains) (area : List ℕ) → r ≡ n → Laid pss r st area area₀ → LaidOut pss n area₀ st area
-  laid_end r st area e L =
+  pub laid_end : (r : ℕ) (a : Area) (area tables : List ℕ) → r ≡ n → Laid pss r (chains_of a (n + 1) tables) area area₀ → LaidOut pss n area₀ (Some a) area tables
+  laid_end r a area tables e L =
       let q : r ≡ length (histories pss) = omega (arith, size) in
       let f : flat (histories pss) r ≡ flat (histories pss) (length (histories pss)) = ap (flat (histories pss)) q in
       let le : length (flat (histories pss) (length (histories pss))) ≤ length area₀ = omega (arith, L.room, ap length f) in
       record {
         area_is = L.written ∙ ap (λ (l : List ℕ). over l area₀) (f ∙ sym (rows_all (histories pss) (length area₀) le));
-        short_is = L.going ∙ sym (ap bit (le-ltb (length area₀) (length (concat (rows_from 0 [] (histories pss)))) (omega (arith, ap length (rows_whole (histories pss))))));
-        chains = λ _. subst (λ (k : ℕ). Laid pss k st area area₀) e L;
+        told = (omega (arith, ap length (rows_whole (histories pss))), subst (λ (k : ℕ). Laid pss k (chains_of a (n + 1) tables) area area₀) e L);
       }
 
   -- a run's turn
@@ -60,24 +56,34 @@ module _ (starts items : List ℕ) (n : ℕ) (sound : Sound starts items n) (are
     pub turn_safe : Safe (n + 1) area st r ps
     turn_safe = rw (grouped-at starts items n r sound.long lt, size₂) at (safe pss sound.below (omega (arith, size₂, sound.few)) r (omega (arith, size₂)) st area area₀ L)
 
-    -- either it does not fit, or the runs so far are one more
-    pub turn : (v : Laying) → v ≡ lay_of (st, area) r ps → ((v.0.short ≡ 0 → ⊥) → LaidOut pss n area₀ v.0 v.1) × (v.0.short ≡ 0 → Laid pss (r + 1) v.0 v.1 area₀)
-    turn v e = subst P (sym (e ∙ ap (lay_of (st, area) r) (sym (grouped-at starts items n r sound.long lt)))) (go (ltb (length area) (st.used + width_of (st, area) (at pss r))) refl)
+    few : length pss ≤ 512
+    few = omega (arith, size₂, sound.few)
+
+    end : st.used + width_of (st, area) (at pss r) ≡ length (flat (histories pss) (suc r))
+    end = end_is pss sound.below few r (omega (arith, size₂)) st area area₀ L
+
+    same : length area ≡ length area₀
+    same = area_length pss sound.below few r (omega (arith, size₂)) st area area₀ L
+
+    group_is : lay_of (st, area) r ps ≡ lay_of (st, area) r (at pss r)
+    group_is = ap (lay_of (st, area) r) (sym (grouped-at starts items n r sound.long lt))
+
+    -- either it does not fit
+    pub turn_stops : (tables : List ℕ) → lay_of (st, area) r ps ≡ None → LaidOut pss n area₀ None area tables
+    turn_stops tables e = go (ltb (length area) (st.used + width_of (st, area) (at pss r))) refl
       where
-        P : Laying → Type 0
-        P v = ((v.0.short ≡ 0 → ⊥) → LaidOut pss n area₀ v.0 v.1) × (v.0.short ≡ 0 → Laid pss (r + 1) v.0 v.1 area₀)
+        go : (t : Bool) → ltb (length area) (st.used + width_of (st, area) (at pss r)) ≡ t → LaidOut pss n area₀ None area tables
+        go true q = laid_stop r st area tables lt L (omega (arith, ltb-true (length area) (st.used + width_of (st, area) (at pss r)) q, end, same))
+        go false q = let d = sym (lay_false (st, area) r (at pss r) q) ∙ sym group_is ∙ e in cc
 
-        few : length pss ≤ 512
-        few = omega (arith, size₂, sound.few)
-
-        end : st.used + width_of (st, area) (at pss r) ≡ length (flat (histories pss) (suc r))
-        end = end_is pss sound.below few r (omega (arith, size₂)) st area area₀ L
-
-        same : length area ≡ length area₀
-        same = area_length pss sound.below few r (omega (arith, size₂)) st area area₀ L
-
-        go : (t : Bool) → ltb (length area) (st.used + width_of (st, area) (at pss r)) ≡ t → P (lay_of (st, area) r (at pss r))
-        go true q = subst P (sym (lay_true (st, area) r (at pss r) q))
-            ((λ _. laid_stop r st area lt L (omega (arith, ltb-true (length area) (st.used + width_of (st, area) (at pss r)) q, end, same))), (λ d. absurd (omega (arith, d))))
-        go false q = subst P (sym (lay_false (st, area) r (at pss r) q))
-            ((λ d. absurd (d refl)), (λ _. laid_next pss sound.below few r (omega (arith, size₂)) st area area₀ L (omega (arith, ltb-false (length area) (st.used + width_of (st, area) (at pss r)) q, end, same))))
+    -- or the runs so far are one more
+    pub turn_goes : (v : Laying) → lay_of (st, area) r ps ≡ Some v → Laid pss (r + 1) v.0 v.1 area₀
+    turn_goes v e = go (ltb (length area) (st.used + width_of (st, area) (at pss r))) refl
+      where
+        go : (t : Bool) → ltb (length area) (st.used + width_of (st, area) (at pss r)) ≡ t → Laid pss (r + 1) v.0 v.1 area₀
+        go true q = let d = sym (lay_true (st, area) r (at pss r) q) ∙ sym group_is ∙ e in cc
+        go false q =
+            let d = sym (lay_false (st, area) r (at pss r) q) ∙ sym group_is ∙ e in
+            let P : Option Laying → Type 0 = λ o. MatchOption o (Unit {0}) (λ w. Laid pss (r + 1) w.0 w.1 area₀) in
+            subst P d
+            (laid_next pss sound.below few r (omega (arith, size₂)) st area area₀ L (omega (arith, ltb-false (length area) (st.used + width_of (st, area) (at pss r)) q, end, same)))

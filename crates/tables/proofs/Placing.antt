@@ -42,9 +42,9 @@ flat-few hs (suc r) le = omega (arith, flat-few hs r (omega arith), flat_grows h
 -- Before the first run all tables are 0
 pub laid_fresh : (pss : List (List ℕ)) (st : Chains) (area : List ℕ) →
     (length st.starts ≡ length pss + 1) × (length st.chain ≡ length pss + 1) × (length st.place ≡ length pss + 1) × (length st.lens ≡ length pss + 1) →
-    get_or st.starts 0 0 ≡ 0 → ((c : ℕ) → get_or st.lens c 0 ≡ 0) → st.count ≡ 0 → st.used ≡ 0 → st.short ≡ 0 → Laid pss 0 st area area
+    get_or st.starts 0 0 ≡ 0 → ((c : ℕ) → get_or st.lens c 0 ≡ 0) → st.count ≡ 0 → st.used ≡ 0 → Laid pss 0 st area area
 unfolding flat chs over at
-laid_fresh pss st area sizes starts lens count used short = record {
+laid_fresh pss st area sizes starts lens count used = record {
   sizes = sizes;
   starts = λ p le. subst (λ (k : ℕ). get_or st.starts k 0 ≡ length (flat (histories pss) k)) (z p le) starts;
   chain = λ m lt. absurd (omega arith);
@@ -54,7 +54,6 @@ laid_fresh pss st area sizes starts lens count used short = record {
   used = used;
   room = omega arith;
   written = refl;
-  going = short;
 }
   where
     z : (p : ℕ) → p ≤ 0 → 0 ≡ p
@@ -184,5 +183,4 @@ module _ (pss : List (List ℕ)) (b : Below pss) (few : length pss ≤ 512) (r :
     used = refl;
     room = le;
     written = ap (λ (k : ℕ). take k area ++ take (length (chs hs (suc r))) (row_of (st, area) (at pss r)) ++ drop (length (flat hs (suc r))) area) L.used ∙ written_next;
-    going = refl;
   }

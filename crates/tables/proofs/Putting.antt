@@ -1,5 +1,5 @@
 -- A run put among the kids of each of its parents, parent by parent. Assumes nothing.
-use mathlib.Core.Path.{◌≡◌, refl, sym, ap, ap₂, ◌∙◌, subst}
+use mathlib.Core.Path.{◌≡◌, refl, sym, ap, ◌∙◌, subst}
 use mathlib.Core.Logic.{◌⊎◌, inl, inr}
 use mathlib.Core.List.{List, [], ◌∷◌}
 use Prim.Native.Nat.{ℕ, ◌+◌, ◌≤◌, ◌<◌}
@@ -45,29 +45,31 @@ place-next x p ps s room q m = (omega (arith, h.0, length-set s.0 p (v + 1)), go
         omega (arith, a, b, h.1, occurs-cons q p ps, ap bit (eq-eqb p q (sym e)), length-set s.1 v x)
     go (inr n) = omega (arith, get_or-set_other s.0 p q (v + 1) 0 n, h.1, occurs-cons q p ps, length-set s.1 v x)
 
--- What is left to put, from the i-th parent on, gives the whole
+-- What is left to put, from the i-th parent on, gives the whole, and the i-th parent has a place
 pub record Putting (x : ℕ) (ps : List ℕ) (s₀ s : Placing) (i : ℕ) : Type 0 where
   pub left : put_all x s (drop i ps) ≡ put_all x s₀ ps
   pub room : Placeable (drop i ps) s
-  pub next_size : length s.0 ≡ length s₀.0
-  pub size : length s.1 ≡ length s₀.1
+  pub next_in : i < length ps → get_or ps i 0 < length s.0
+  pub child_in : i < length ps → get_or s.0 (get_or ps i 0) 0 < length s.1
+
+first-left : (ps : List ℕ) (i : ℕ) → i < length ps → drop i ps ≡ get_or ps i 0 ∷ drop (i + 1) ps
+first-left ps i lt = drop-cons ps i 0 lt ∙ ap (λ (k : ℕ). get_or ps i 0 ∷ drop k ps) (sym (add-one i))
+
+putting_of : (x : ℕ) (ps : List ℕ) (s₀ s : Placing) (i : ℕ) → put_all x s (drop i ps) ≡ put_all x s₀ ps → Placeable (drop i ps) s → Putting x ps s₀ s i
+putting_of x ps s₀ s i left room = record { left = left; room = room; next_in = λ lt. (here lt).0; child_in = λ lt. (here lt).1 }
+  where
+    here : i < length ps → (get_or ps i 0 < length s.0) × (get_or s.0 (get_or ps i 0) 0 < length s.1)
+    here lt = place-first (get_or ps i 0) (drop (i + 1) ps) s (subst (λ (l : List ℕ). Placeable l s) (first-left ps i lt) room)
 
 pub putting_start : (x : ℕ) (ps : List ℕ) (s : Placing) → Placeable ps s → Putting x ps s s 0
-putting_start x ps s room = record { left = refl; room = room; next_size = refl; size = refl }
+putting_start x ps s room = putting_of x ps s s 0 refl room
 
-first-left : (ps : List ℕ) (i p : ℕ) → i < length ps → p ≡ get_or ps i 0 → drop i ps ≡ p ∷ drop (i + 1) ps
-first-left ps i p lt e = drop-cons ps i 0 lt ∙ ap₂ (λ (a k : ℕ). a ∷ drop k ps) (sym e) (sym (add-one i))
-
-pub putting_here : (x : ℕ) (ps : List ℕ) (s₀ s : Placing) (i p : ℕ) → i < length ps → p ≡ get_or ps i 0 → Putting x ps s₀ s i → (p < length s.0) × (get_or s.0 p 0 < length s.1)
-putting_here x ps s₀ s i p lt e P = place-first p (drop (i + 1) ps) s (subst (λ (l : List ℕ). Placeable l s) (first-left ps i p lt e) P.room)
-
-pub putting_next : (x : ℕ) (ps : List ℕ) (s₀ s : Placing) (i p : ℕ) → i < length ps → p ≡ get_or ps i 0 → Putting x ps s₀ s i → Putting x ps s₀ (put_one x s p) (i + 1)
-putting_next x ps s₀ s i p lt e P = record {
-  left = sym (put-cons x s p (drop (i + 1) ps)) ∙ (ap (put_all x s) (sym (first-left ps i p lt e)) ∙ P.left);
-  room = place-next x p (drop (i + 1) ps) s (subst (λ (l : List ℕ). Placeable l s) (first-left ps i p lt e) P.room);
-  next_size = length-set s.0 p (get_or s.0 p 0 + 1) ∙ P.next_size;
-  size = length-set s.1 (get_or s.0 p 0) x ∙ P.size;
-}
+pub putting_next : (x : ℕ) (ps : List ℕ) (s₀ s : Placing) (i : ℕ) → i < length ps → Putting x ps s₀ s i → Putting x ps s₀ (put_one x s (get_or ps i 0)) (i + 1)
+putting_next x ps s₀ s i lt P =
+    let p : ℕ = get_or ps i 0 in
+    putting_of x ps s₀ (put_one x s p) (i + 1)
+    (sym (put-cons x s p (drop (i + 1) ps)) ∙ (ap (put_all x s) (sym (first-left ps i lt)) ∙ P.left))
+    (place-next x p (drop (i + 1) ps) s (subst (λ (l : List ℕ). Placeable l s) (first-left ps i lt) P.room))
 
 pub putting_end : (x : ℕ) (ps : List ℕ) (s₀ s : Placing) (i : ℕ) → i ≡ length ps → Putting x ps s₀ s i → s ≡ put_all x s₀ ps
 putting_end x ps s₀ s i e P = sym (ap (put_all x s) (ap (λ (k : ℕ). drop k ps) e ∙ drop-length ps) ∙ put-none x s) ∙ P.left

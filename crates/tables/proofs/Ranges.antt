@@ -14,11 +14,9 @@ use Rattle.lists.specs.Lists.{from, upto}
 use Rattle.lists.proofs.Truth.{lt_eq_gt, lt_or_le}
 use Rattle.lists.proofs.Between.{within, within_in, within-before, within-after, none_within}
 use Rattle.model.specs.Cover.{either}
-use Rattle.tables.specs.Lanes.{lane}
 use Rattle.tables.specs.Covers.{cover_room, bits_in, join_words, range_bits}
 use Rattle.tables.proofs.Bits.{bits_join, bits_in_set, bits_in_zeros}
 use Rattle.tables.proofs.Joins.{either_comm}
-use Rattle.tables.proofs.Laning.{lane-length, lane_get_d}
 
 -- Joined up to place i, and the rest still to be joined
 unfoldable pub join_rest : ℕ → List ℕ → List ℕ → List ℕ
@@ -44,21 +42,9 @@ join_step i z ys h k =
     let m : ℕ = bit_or (get_or z i 0) (get_or ys i 0) in
     rw (add-one, take-suc-set z i m h, drop-set-lt (suc i) z i m (omega arith), append_snoc, drop-cons z i 0 h, drop-cons ys i 0 k)
 
--- A turn: a run's i-th word joined, of the w that lie in the area
-pub lane-step : (w : ℕ) (area z after : List ℕ) (x i a m : ℕ) → x * w + w ≤ length area → length z ≡ w → i < w → a ≡ x → m ≡ get_or area (a * w + i) 0 →
-    after ≡ set z i (bit_or (get_or z i 0) m) → join_rest (i + 1) after (lane x w area) ≡ join_rest i z (lane x w area)
-lane-step w area z after x i a m room l h e read s =
-    let y : List ℕ = lane x w area in
-    let v : m ≡ get_or y i 0 = read ∙ ap (λ (k : ℕ). get_or area (k * w + i) 0) e ∙ sym (lane_get_d x w area i h) in
-    ap (λ (z : List ℕ). join_rest (i + 1) z y) (s ∙ ap (λ (d : ℕ). set z i (bit_or (get_or z i 0) d)) v) ∙ join_step i z y (omega arith) (omega (arith, lane-length x w area room))
-
--- When all w are joined, so are the bits
-pub lane-joined : (k w : ℕ) (area z z₀ : List ℕ) (x i : ℕ) → x * w + w ≤ length area → length z₀ ≡ w → w ≤ i → join_rest i z (lane x w area) ≡ join_words z₀ (lane x w area) →
-    bits_in k z ≡ either (bits_in k (lane x w area)) (bits_in k z₀)
-lane-joined k w area z z₀ x i room l h e =
-    let y : List ℕ = lane x w area in
-    let long : length y ≡ w = lane-length x w area room in
-    ap (bits_in k) (sym (join_end i z y (omega arith)) ∙ e) ∙ bits_join k z₀ y (l ∙ sym long) ∙ either_comm (bits_in k z₀) (bits_in k y)
+-- When all are joined, so are the bits
+pub bits_joined : (k : ℕ) (z z₀ ys : List ℕ) (i : ℕ) → length z₀ ≡ length ys → length ys ≤ i → join_rest i z ys ≡ join_words z₀ ys → bits_in k z ≡ either (bits_in k ys) (bits_in k z₀)
+bits_joined k z z₀ ys i l h e = ap (bits_in k) (sym (join_end i z ys h) ∙ e) ∙ bits_join k z₀ ys l ∙ either_comm (bits_in k z₀) (bits_in k ys)
 
 -- ---- ranges of bits
 

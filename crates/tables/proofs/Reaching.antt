@@ -3,15 +3,17 @@ use mathlib.Core.Path.{◌≡◌, refl, sym, ap, ◌∙◌}
 use mathlib.Core.Logic.{◌⊎◌, inl, inr}
 use mathlib.Core.Bool.{Bool, true, false, cond, ◌||◌}
 use mathlib.Core.List.{List, [], ◌∷◌, ◌++◌}
-use Prim.Native.Nat.{ℕ, zero, suc, ◌+◌, ◌≤◌, ◌<◌}
+use Prim.Native.Nat.{ℕ, zero, suc, ◌+◌, ◌-◌, ◌≤◌, ◌<◌, min}
 use native.Mathlib.Omega.{arith}
 use native.Mathlib.Numerals.{add-one}
-use lib.ListN.{length, get_or, set}
-use lib.Seq.{get_or-set_same, get_or-set_other}
+use lib.ListN.{length, get_or, set, take, drop, replicate, length-replicate, get_or-append, get_or-eq_default}
+use lib.Seq.{get_or-set_same, get_or-set_other, get_or-take, get_or-drop, length-take-le}
+use Rattle.std.proofs.lemmas.List.{get_or-append_right}
 use lib.Dec.{eqb}
 use borrow.Author.Tests.{eq-eqb, ne_eqb}
 use Rattle.lists.specs.Lists.{mem, count, from, upto}
-use Rattle.lists.proofs.Truth.{eq_or-not}
+use Rattle.lists.proofs.Truth.{eq_or-not, lt_or_le}
+use Rattle.lists.proofs.Pads.{zeros_get}
 use Rattle.lists.proofs.Counts.{count_same, count_none}
 use Rattle.model.specs.History.{at, histories}
 use Rattle.model.proofs.Histories.{Below}
@@ -55,6 +57,27 @@ started_none chain place l n h c cl = h c cl
 pub arrived-set : (row l : List ℕ) (chain place n : ℕ) → chain < length l → Holds (λ c. get_or row c 0) n l → Holds (arrived row chain place) n (set l chain (place + 1))
 unfolding arrived
 arrived-set row l chain place n lt h c cl = set-read l chain (place + 1) c lt ∙ ap (λ (k : ℕ). cond (eqb chain c) (place + 1) k) (h c cl)
+
+-- The first n words cleared
+pub front_cleared : (l : List ℕ) (n : ℕ) → Holds (λ _. 0) n (replicate n 0 ++ drop n l)
+front_cleared l n c lt = get_or-append (replicate n 0) (drop n l) 0 c (omega (arith, length-replicate {A = ℕ} n 0)) ∙ zeros_get n c
+
+-- then a row copied into them
+pub row_copied : (row l : List ℕ) (m n : ℕ) → m ≡ min (length row) n → Holds (λ c. get_or row c 0) n (take m row ++ drop m (replicate n 0 ++ drop n l))
+row_copied row l m n e c lt = go (lt_or_le c m)
+  where
+    size : length (take m row) ≡ m
+    size = length-take-le m row (omega arith)
+
+    rest : List ℕ
+    rest = replicate n 0 ++ drop n l
+
+    go : (c < m) ⊎ (m ≤ c) → get_or (take m row ++ drop m rest) c 0 ≡ get_or row c 0
+    go (inl h) = get_or-append (take m row) (drop m rest) 0 c (omega (arith, size)) ∙ get_or-take m row c 0 h
+    go (inr h) =
+        let back : m + (c - m) ≡ c = omega arith in
+        get_or-append_right (take m row) (drop m rest) m c 0 size h ∙ get_or-drop m rest (c - m) 0 ∙ ap (λ (i : ℕ). get_or rest i 0) back ∙ front_cleared l n c lt ∙
+        sym (get_or-eq_default row 0 {n = c} (omega arith))
 
 module _ (pss : List (List ℕ)) (b : Below pss) where
   abbrev H : List (List ℕ)

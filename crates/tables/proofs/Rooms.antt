@@ -3,19 +3,19 @@ use mathlib.Core.Path.{◌≡◌, refl, ap}
 use mathlib.Core.Logic.{◌⊎◌, inl, inr}
 use mathlib.Core.List.{List, [], ◌∷◌, ◌++◌}
 use Prim.Native.Nat.{ℕ, zero, suc, ◌+◌, ◌≤◌, ◌<◌}
-use native.Mathlib.Numerals.{add-one}
 use native.Mathlib.Omega.{arith}
-use lib.ListN.{length, get_or, replicate, length-append, length-replicate}
+use lib.ListN.{length, get_or, take, replicate, length-append, length-replicate}
 use lib.Dec.{eqb}
 use borrow.Author.Tests.{eq-eqb, ne_eqb}
-use Rattle.lists.specs.Lists.{bit, count, occurs}
+use Rattle.lists.specs.Lists.{bit, count, occurs, concat}
 use Rattle.lists.proofs.Truth.{eq_or-not}
 use Rattle.model.specs.History.{at}
 use Rattle.tables.specs.Laid.{grouped, Sound}
 use Rattle.tables.specs.Indexed.{sum_below}
 use Rattle.tables.specs.Counted.{tally, kids, kids_from}
 use Rattle.tables.proofs.Counting.{tally-none, tally-next}
-use Rattle.tables.proofs.ParentGroups.{group_long}
+use Rattle.tables.proofs.ParentGroups.{groups-size}
+use Rattle.tables.proofs.JaggedRows.{rows_more, rows-most, items-most}
 
 -- Sums of no terms above 0, of the same terms, of terms added, and of more terms
 sum-none : (n : ℕ) → sum_below (λ i. 0) n ≡ 0
@@ -65,19 +65,21 @@ occurs-all (y ∷ ys) n =
     omega (arith, s, (one_number y n).0, occurs-all ys n)
 
 -- The kids of runs below x are no more than their parents
-tally-all : (heads items : List ℕ) (n : ℕ) → Sound heads items n → (x : ℕ) → x ≤ n → sum_below (λ r. tally (grouped heads items n) r x) n ≤ get_or heads x 0
+tally-all : (pss : List (List ℕ)) (n x : ℕ) → x ≤ length pss → sum_below (λ r. tally pss r x) n ≤ length (concat (take x pss))
 unfolding tally sum_below
-tally-all heads items n sound zero le =
-    let z : sum_below (λ r. tally (grouped heads items n) r 0) n ≡ 0 = sum-none n in
-    omega (arith, z)
-tally-all heads items n sound (suc x) le =
-    let ps = at (grouped heads items n) x in
-    let s : sum_below (λ r. tally (grouped heads items n) r (suc x)) n ≡ sum_below (λ r. tally (grouped heads items n) r x) n + sum_below (λ r. occurs r ps) n = sum-plus (λ r. tally (grouped heads items n) r x) (λ r. occurs r ps) n in
-    omega (arith, s, tally-all heads items n sound x (omega arith), occurs-all ps n, group_long heads items n x sound (omega arith), ap (λ (k : ℕ). get_or heads k 0) (add-one x))
+tally-all pss n zero le = let z : sum_below (λ r. tally pss r 0) n ≡ 0 = sum-none n in omega (arith, z)
+tally-all pss n (suc x) le =
+    let ps = at pss x in
+    let s : sum_below (λ r. tally pss r (suc x)) n ≡ sum_below (λ r. tally pss r x) n + sum_below (λ r. occurs r ps) n = sum-plus (λ r. tally pss r x) (λ r. occurs r ps) n in
+    let e : suc x ≡ x + 1 = omega arith in
+    omega (arith, s, tally-all pss n x (omega arith), occurs-all ps n, rows_more pss x (omega arith), ap (λ (k : ℕ). length (concat (take k pss))) e)
+
+pub kids-most : (pss : List (List ℕ)) (n : ℕ) → n ≤ length pss → kids_from pss n n ≤ length (concat pss)
+unfolding kids_from
+kids-most pss n le = omega (arith, tally-all pss n n le, rows-most pss n)
 
 pub kids_fit : (heads items : List ℕ) (n : ℕ) → Sound heads items n → kids_from (grouped heads items n) n n ≤ get_or heads n 0
-unfolding kids_from
-kids_fit heads items n sound = tally-all heads items n sound n (omega arith)
+kids_fit heads items n sound = omega (arith, kids-most (grouped heads items n) n (omega (arith, groups-size heads items n sound.long)), items-most heads items n sound)
 
 -- Where kids begin
 pub begin-is : (pss : List (List ℕ)) (n r : ℕ) → sum_below (λ k. tally pss k n) r ≡ kids_from pss n r

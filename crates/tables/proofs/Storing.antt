@@ -5,30 +5,12 @@ use mathlib.Core.List.{List, ◌++◌}
 use Prim.Native.Nat.{ℕ, ◌+◌, ◌-◌, ◌*◌, ◌≤◌, ◌<◌, ◌^◌}
 use native.Mathlib.Omega.{arith}
 use lib.ListN.{length, get_or, take, drop, get_or-append}
-use lib.Seq.{paste, length_front, length-take-le, take_at, get_or-append-add, get_or-drop}
+use lib.Seq.{length_front, length-take-le, get_or-append-add, get_or-drop}
 use Rattle.lists.proofs.Truth.{lt_or_le}
 use Rattle.tables.specs.Lanes.{lane, Kept}
 use Rattle.tables.specs.Tables.{size_in}
 use Rattle.tables.specs.Indexed.{sum_below, Summed, Bounded, BoundedTo, Placed, pos, Scattered, IndexOf}
-use Rattle.tables.proofs.Laning.{lane_lent, lane-stored, lane-kept, kept_trans, kept_fewer}
-
--- The first w words, lent
-pub front_length : (w : ℕ) (s : List ℕ) → w ≤ length s → length (take (w - 0) s) ≡ w
-front_length w s le = let e : w - 0 ≡ w = omega arith in rw e (length-take-le w s le)
-
--- lent again, after they were written
-front_again : (w : ℕ) (s e : List ℕ) → length e ≡ w → take (w - 0) (e ++ drop (w - 0) s) ≡ e
-front_again w s e h = take_at e (drop (w - 0) s) (w - 0) (omega (arith, h))
-
--- and stored as the k-th list
-front_stored : (k w : ℕ) (t t' s e : List ℕ) → k * w + w ≤ length t → w ≤ length s → length e ≡ length (take (w - 0) s) →
-    t' ≡ paste t (k * w) (take (w - 0) (e ++ drop (w - 0) s)) w → (lane k w t' ≡ e) × Kept k w t' t
-front_stored k w t t' s e fits le size p =
-    let h : length e ≡ w = size ∙ front_length w s le in
-    let q : t' ≡ paste t (k * w) e w = p ∙ ap (λ (l : List ℕ). paste t (k * w) l w) (front_again w s e h) in (
-      ap (lane k w) q ∙ lane-stored k w t e fits h,
-      subst (λ (x : List ℕ). Kept k w x t) (sym q) (lane-kept k w w t e fits (omega (arith, h))),
-    )
+use Rattle.tables.proofs.Laning.{lane_lent, kept_trans, kept_fewer}
 
 -- Lists lent from the tables
 lent_1 : (w : ℕ) (t : List ℕ) → take (2 * w - w) (drop w t) ≡ lane 1 w t
@@ -59,17 +41,16 @@ scattered-same b b' c c' p p' n x y z h = rw (x, y, z) h
 pub begins-ready : (w : ℕ) (t : List ℕ) → Bounded 512 (lane 3 w t) → Bounded 512 (take (4 * w - 3 * w) (drop (3 * w) t))
 begins-ready w t h = subst (Bounded 512) (sym (lent_3 w t)) h
 
-pub begins-stored : (w chains : ℕ) (t t' s e : List ℕ) → 6 * w ≤ length t → w ≤ length s →
-    Summed (λ i. get_or (take (4 * w - 3 * w) (drop (3 * w) t)) i 0) chains e × Bounded (2 ^ 18) e × (length e ≡ length (take (w - 0) s)) →
-    t' ≡ paste t (4 * w) (take (w - 0) (e ++ drop (w - 0) s)) w →
-    Summed (λ i. get_or (lane 3 w t) i 0) chains (lane 4 w t') × Bounded (2 ^ 18) (lane 4 w t') × Kept 4 w t' t × (length (e ++ drop (w - 0) s) ≡ length s)
-begins-stored w chains t t' s e fits le h p =
-    let q : (lane 4 w t' ≡ e) × Kept 4 w t' t = front_stored 4 w t t' s e (omega arith) le h.2 p in (
-      (λ k l. ap (λ (x : List ℕ). get_or x k 0) q.0 ∙ (h.0 k l ∙ ap (λ (x : List ℕ). sum_below (λ i. get_or x i 0) k) (lent_3 w t))),
-      subst (Bounded (2 ^ 18)) (sym q.0) h.1,
-      q.1,
-      length_front s e (w - 0) h.2,
-    )
+pub begins-stored : (w chains : ℕ) (t t' s e : List ℕ) →
+    Summed (λ i. get_or (take (4 * w - 3 * w) (drop (3 * w) t)) i 0) chains e × Bounded (2 ^ 18) e × (length e ≡ length (take w s)) →
+    (lane 4 w t' ≡ e) × Kept 4 w t' t →
+    Summed (λ i. get_or (lane 3 w t) i 0) chains (lane 4 w t') × Bounded (2 ^ 18) (lane 4 w t') × Kept 4 w t' t × (length (e ++ drop w s) ≡ length s)
+begins-stored w chains t t' s e h q = (
+  (λ k l. ap (λ (x : List ℕ). get_or x k 0) q.0 ∙ (h.0 k l ∙ ap (λ (x : List ℕ). sum_below (λ i. get_or x i 0) k) (lent_3 w t))),
+  subst (Bounded (2 ^ 18)) (sym q.0) h.1,
+  q.1,
+  length_front s e w h.2,
+)
 
 -- The members
 pub members-ready : (w n : ℕ) (t : List ℕ) → Scattered (lane 4 w t) (lane 1 w t) (lane 2 w t) n →
@@ -77,49 +58,48 @@ pub members-ready : (w n : ℕ) (t : List ℕ) → Scattered (lane 4 w t) (lane 
 members-ready w n t h =
     scattered-same (take (5 * w - 4 * w) (drop (4 * w) t)) (lane 4 w t) (take (2 * w - w) (drop w t)) (lane 1 w t) (take (3 * w - 2 * w) (drop (2 * w) t)) (lane 2 w t) n (lent_4 w t) (lent_1 w t) (lent_2 w t) h
 
-pub members-stored : (w n : ℕ) (t t' s e : List ℕ) → 6 * w ≤ length t → w ≤ length s →
-    Placed (pos (take (5 * w - 4 * w) (drop (4 * w) t)) (take (2 * w - w) (drop w t)) (take (3 * w - 2 * w) (drop (2 * w) t))) n e × Bounded 511 e × (length e ≡ length (take (w - 0) s)) →
-    t' ≡ paste t (5 * w) (take (w - 0) (e ++ drop (w - 0) s)) w →
-    Placed (pos (lane 4 w t) (lane 1 w t) (lane 2 w t)) n (lane 5 w t') × Bounded 511 (lane 5 w t') × Kept 5 w t' t × (length (e ++ drop (w - 0) s) ≡ length s)
-members-stored w n t t' s e fits le h p =
-    let q : (lane 5 w t' ≡ e) × Kept 5 w t' t = front_stored 5 w t t' s e (omega arith) le h.2 p in
+pub members-stored : (w n : ℕ) (t t' s e : List ℕ) →
+    Placed (pos (take (5 * w - 4 * w) (drop (4 * w) t)) (take (2 * w - w) (drop w t)) (take (3 * w - 2 * w) (drop (2 * w) t))) n e × Bounded 511 e × (length e ≡ length (take w s)) →
+    (lane 5 w t' ≡ e) × Kept 5 w t' t →
+    Placed (pos (lane 4 w t) (lane 1 w t) (lane 2 w t)) n (lane 5 w t') × Bounded 511 (lane 5 w t') × Kept 5 w t' t × (length (e ++ drop w s) ≡ length s)
+members-stored w n t t' s e h q =
     let r : Placed (pos (lane 4 w t) (lane 1 w t) (lane 2 w t)) n e =
     placed_same (take (5 * w - 4 * w) (drop (4 * w) t)) (lane 4 w t) (take (2 * w - w) (drop w t)) (lane 1 w t) (take (3 * w - 2 * w) (drop (2 * w) t)) (lane 2 w t) e n (lent_4 w t) (lent_1 w t) (lent_2 w t) h.0 in (
       subst (Placed (pos (lane 4 w t) (lane 1 w t) (lane 2 w t)) n) (sym q.0) r,
       subst (Bounded 511) (sym q.0) h.1,
       q.1,
-      length_front s e (w - 0) h.2,
+      length_front s e w h.2,
     )
 
 -- The sums
 pub sums-stored : (n : ℕ) (starts t s e : List ℕ) → n + 1 ≤ length s →
-    Summed (λ i. size_in starts (get_or (take (6 * (n + 1) - 5 * (n + 1)) (drop (5 * (n + 1)) t)) i 0)) n e × BoundedTo n (2 ^ 41) e × (length e ≡ length (take (n + 1 - 0) s)) →
-    Summed (λ i. size_in starts (get_or (lane 5 (n + 1) t) i 0)) n (e ++ drop (n + 1 - 0) s) × BoundedTo n (2 ^ 41) (e ++ drop (n + 1 - 0) s) ×
-    (Bounded (2 ^ 41) s → Bounded (2 ^ 41) (e ++ drop (n + 1 - 0) s)) × (length (e ++ drop (n + 1 - 0) s) ≡ length s)
+    Summed (λ i. size_in starts (get_or (take (6 * (n + 1) - 5 * (n + 1)) (drop (5 * (n + 1)) t)) i 0)) n e × BoundedTo n (2 ^ 41) e × (length e ≡ length (take (n + 1) s)) →
+    Summed (λ i. size_in starts (get_or (lane 5 (n + 1) t) i 0)) n (e ++ drop (n + 1) s) × BoundedTo n (2 ^ 41) (e ++ drop (n + 1) s) ×
+    (Bounded (2 ^ 41) s → Bounded (2 ^ 41) (e ++ drop (n + 1) s)) × (length (e ++ drop (n + 1) s) ≡ length s)
 sums-stored n starts t s e le h = (
   (λ k l. early k l ∙ (h.0 k l ∙ ap (λ (x : List ℕ). sum_below (λ i. size_in starts (get_or x i 0)) k) (lent_5 (n + 1) t))),
   low,
   (λ b k. cases b k (lt_or_le k (n + 1))),
-  length_front s e (n + 1 - 0) h.2,
+  length_front s e (n + 1) h.2,
 )
   where
     size : length e ≡ n + 1
-    size = h.2 ∙ front_length (n + 1) s le
+    size = h.2 ∙ length-take-le (n + 1) s le
 
-    early : (k : ℕ) → k ≤ n → get_or (e ++ drop (n + 1 - 0) s) k 0 ≡ get_or e k 0
-    early k l = get_or-append e (drop (n + 1 - 0) s) 0 k (omega (arith, size))
+    early : (k : ℕ) → k ≤ n → get_or (e ++ drop (n + 1) s) k 0 ≡ get_or e k 0
+    early k l = get_or-append e (drop (n + 1) s) 0 k (omega (arith, size))
 
-    low : BoundedTo n (2 ^ 41) (e ++ drop (n + 1 - 0) s)
+    low : BoundedTo n (2 ^ 41) (e ++ drop (n + 1) s)
     low k l = omega (arith, early k l, h.1 k l)
 
-    late : (k : ℕ) → n + 1 ≤ k → get_or (e ++ drop (n + 1 - 0) s) k 0 ≡ get_or s k 0
+    late : (k : ℕ) → n + 1 ≤ k → get_or (e ++ drop (n + 1) s) k 0 ≡ get_or s k 0
     late k l =
         let a : k ≡ length e + (k - (n + 1)) = omega (arith, size) in
-        let b : n + 1 - 0 + (k - (n + 1)) ≡ k = omega arith in
-        ap (λ (i : ℕ). get_or (e ++ drop (n + 1 - 0) s) i 0) a ∙ (get_or-append-add e (drop (n + 1 - 0) s) (k - (n + 1)) 0 ∙
-        (get_or-drop (n + 1 - 0) s (k - (n + 1)) 0 ∙ ap (λ (i : ℕ). get_or s i 0) b))
+        let b : n + 1 + (k - (n + 1)) ≡ k = omega arith in
+        ap (λ (i : ℕ). get_or (e ++ drop (n + 1) s) i 0) a ∙ (get_or-append-add e (drop (n + 1) s) (k - (n + 1)) 0 ∙
+        (get_or-drop (n + 1) s (k - (n + 1)) 0 ∙ ap (λ (i : ℕ). get_or s i 0) b))
 
-    cases : Bounded (2 ^ 41) s → (k : ℕ) → (k < n + 1) ⊎ (n + 1 ≤ k) → get_or (e ++ drop (n + 1 - 0) s) k 0 ≤ 2 ^ 41
+    cases : Bounded (2 ^ 41) s → (k : ℕ) → (k < n + 1) ⊎ (n + 1 ≤ k) → get_or (e ++ drop (n + 1) s) k 0 ≤ 2 ^ 41
     cases b k (inl l) = low k (omega arith)
     cases b k (inr l) = omega (arith, late k l, b k)
 

@@ -1,5 +1,6 @@
 -- Turns of the loops that make a run's row, and of a run that is laid. Assumes nothing.
-use mathlib.Core.Path.{◌≡◌, refl, ap, ap₂, ◌∙◌}
+use mathlib.Core.Path.{◌≡◌, refl, sym, ap, ap₂, ◌∙◌}
+use Rattle.std.specs.Prelude.{Some, None}
 use mathlib.Core.Bool.{true, false}
 use mathlib.Core.List.{List, [], ◌∷◌, ◌++◌}
 use Prim.Native.Nat.{ℕ, zero, suc, ◌+◌, ◌-◌, ◌≤◌, ◌<◌, max}
@@ -11,7 +12,7 @@ use lib.Dec.{ltb}
 use borrow.Author.Tests.{lt-ltb, le-ltb, eq-eqb, ne_eqb}
 use Rattle.model.specs.Range.{row}
 use Rattle.tables.specs.Laid.{Chains}
-use Rattle.tables.specs.Lay.{join_of, join_parent, join_all, spot_from, short_of, placed_of, Laying, row_of, spot_of, width_of, lay_of}
+use Rattle.tables.specs.Lay.{join_of, join_parent, join_all, spot_from, placed_of, Laying, row_of, spot_of, width_of, lay_of}
 
 -- Nothing joined
 join-none : (xs : List ℕ) → join_of xs [] ≡ xs
@@ -81,7 +82,7 @@ spot-none row lens c n h = let e : n - c ≡ 0 = omega arith in rw e h
 
 -- A run that does not fit, and one that does
 pub lay_stop : (w : Laying) (r : ℕ) (ps row : List ℕ) (k width : ℕ) → row ≡ row_of w ps → k ≡ spot_from row w.0.lens 0 w.0.count → width ≡ max w.0.count (k + 1) →
-    length w.1 < w.0.used + width → (short_of w.0, w.1) ≡ lay_of w r ps
+    length w.1 < w.0.used + width → lay_of w r ps ≡ None
 unfolding lay_of width_of spot_of
 lay_stop w r ps row k width e f g lt =
     let q : width ≡ max w.0.count (spot_from (row_of w ps) w.0.lens 0 w.0.count + 1) = g ∙ ap (λ n. max w.0.count (n + 1)) (f ∙ ap (λ (l : List ℕ). spot_from l w.0.lens 0 w.0.count) e) in
@@ -89,21 +90,21 @@ lay_stop w r ps row k width e f g lt =
 
 -- it fits
 pub lay_goes : (w : Laying) (r : ℕ) (ps row : List ℕ) (k width : ℕ) (v : Laying) → row ≡ row_of w ps → k ≡ spot_from row w.0.lens 0 w.0.count → width ≡ max w.0.count (k + 1) →
-    w.0.used + width ≤ length w.1 → v.0 ≡ placed_of w.0 r k (w.0.used + width) width → v.1 ≡ paste w.1 w.0.used row width → v ≡ lay_of w r ps
+    w.0.used + width ≤ length w.1 → v.0 ≡ placed_of w.0 r k (w.0.used + width) width → v.1 ≡ paste w.1 w.0.used row width → lay_of w r ps ≡ Some v
 unfolding lay_of width_of spot_of
 lay_goes w r ps row k width v e f g le p q =
     let d : k ≡ spot_from (row_of w ps) w.0.lens 0 w.0.count = f ∙ ap (λ (l : List ℕ). spot_from l w.0.lens 0 w.0.count) e in
     let h : width ≡ max w.0.count (spot_from (row_of w ps) w.0.lens 0 w.0.count + 1) = g ∙ ap (λ n. max w.0.count (n + 1)) d in
     rw (le-ltb (length w.1) (w.0.used + max w.0.count (spot_from (row_of w ps) w.0.lens 0 w.0.count + 1)) (omega arith), ← h, ← d, ← e)
-    (ap₂ (λ (a : Chains) (l : List ℕ). (a, l)) p q)
+    (ap₂ (λ (a : Chains) (l : List ℕ). Some (a, l)) (sym p) (sym q))
 
 -- By the test for room: too little
-pub lay_true : (w : Laying) (r : ℕ) (ps : List ℕ) → ltb (length w.1) (w.0.used + width_of w ps) ≡ true → lay_of w r ps ≡ (short_of w.0, w.1)
+pub lay_true : (w : Laying) (r : ℕ) (ps : List ℕ) → ltb (length w.1) (w.0.used + width_of w ps) ≡ true → lay_of w r ps ≡ None
 unfolding lay_of
 lay_true w r ps e = rw e
 
 -- enough
 pub lay_false : (w : Laying) (r : ℕ) (ps : List ℕ) → ltb (length w.1) (w.0.used + width_of w ps) ≡ false →
-    lay_of w r ps ≡ (placed_of w.0 r (spot_of w ps) (w.0.used + width_of w ps) (width_of w ps), paste w.1 w.0.used (row_of w ps) (width_of w ps))
+    lay_of w r ps ≡ Some (placed_of w.0 r (spot_of w ps) (w.0.used + width_of w ps) (width_of w ps), paste w.1 w.0.used (row_of w ps) (width_of w ps))
 unfolding lay_of
 lay_false w r ps e = rw e

@@ -1,20 +1,24 @@
 -- A run's cover written and weighed, the last run first, gives the weights of the definition. Assumes nothing.
 use mathlib.Core.Path.{◌≡◌, sym, ap, ◌∙◌}
-use mathlib.Core.Bool.{Bool, true}
+use mathlib.Core.Bool.{Bool}
 use mathlib.Core.List.{List, map}
-use Prim.Native.Nat.{ℕ, zero, suc, ◌+◌, ◌-◌, ◌*◌, ◌/◌, ◌^◌, ◌≤◌, ◌<◌}
+use Prim.Native.Nat.{ℕ, zero, suc, ◌+◌, ◌-◌, ◌*◌, ◌/◌, ◌%◌, min, ◌≤◌, ◌<◌}
 use native.Mathlib.Omega.{arith}
-use native.Mathlib.Nat.{div-lt_iff_lt-mul, mul-le-mul_right, le_of_eq, le_trans}
+use native.Mathlib.Nat.{div-lt_iff_lt-mul, div-eq_of_lt-le, mul-le-mul_right, le_of_eq, le_trans}
 use lib.ListN.{length, get_or, take, drop, length-take, get_or-map}
 use lib.Seq.{paste, length-paste, drop-paste, drop-drop, get_or-take}
 use lib.Ieee.Nearest.{div_mono}
+use Rattle.std.proofs.lemmas.Grind.{div_ceil_times}
 use Rattle.lists.specs.Lists.{mem, ceil}
 use Rattle.lists.specs.Areas.{part}
 use Rattle.model.specs.Cover.{per_bit}
+use Rattle.model.specs.History.{at}
 use Rattle.tables.specs.Lanes.{lane}
+use Rattle.tables.specs.Jagged.{rows_in}
 use Rattle.tables.specs.Covers.{word_bits, cover_room, cover_words, bits_in, cover_at, range_bits, join_of, offset, offsets, run_bits, Inside, Covered, Weighable}
 use Rattle.tables.proofs.Laning.{lane-before, lane-stored}
 use Rattle.tables.proofs.Bits.{bits_in_length}
+use Rattle.tables.proofs.JaggedRows.{row_part}
 
 -- ---- a run's words in the area
 
@@ -52,9 +56,10 @@ pub per_pos : (events : ℕ) → 0 < per_bit events
 unfolding per_bit
 per_pos events = omega arith
 
-pub per_small : (events : ℕ) → events < 2 ^ 32 → per_bit events < 2 ^ 32
-unfolding per_bit ceil
-per_small events h = omega arith
+-- The library's quotient rounded up is the definition's
+pub ceil_is : (x m : ℕ) → 0 < m → x / m + min 1 (x % m) ≡ ceil x m
+unfolding ceil
+ceil_is x m some = let t = div_ceil_times x m some in sym (div-eq_of_lt-le m (omega arith) (omega arith))
 
 pub low_high : (per first end : ℕ) → 0 < per → first ≤ end → first / per ≤ ceil end per
 unfolding ceil
@@ -88,20 +93,29 @@ offset-is starts n r h =
 
 -- ---- what weighing a run needs, and what it gives
 
-pub weigh-ready : (starts begins children covers : List ℕ) (n r per a b high s e : ℕ) → Weighable starts begins children n → r < n → n * cover_words ≤ length covers → per ≡ per_bit (offset starts n) →
-    a ≡ offset starts r → b ≡ offset starts (r + 1) → high ≡ ceil b per → s ≡ get_or begins r 0 → e ≡ get_or begins (r + 1) 0 →
-    (a / per ≤ high) × (high ≤ 127) × (r < 512) × (r * cover_words + cover_words ≤ length covers) × Inside covers (take (e - s) (drop s children))
-unfolding Inside part
-weigh-ready starts begins children covers n r per a b high s e w h room p ae be he se ee =
-    let few : n ≤ 512 = w.few in
-    let up : a ≤ b = rw (ae, be) (offset-rise starts begins children n r (r + 1) w (omega arith) (omega arith)) in
-    let low : a / per ≤ ceil b per = low_high per a b (rw p (per_pos (offset starts n))) up in
-    let top : ceil b per ≤ 127 = rw (p, be) (high_low (offset starts (r + 1)) (offset starts n) (offset-rise starts begins children n (r + 1) n w (omega arith) (omega arith))) in
-    let ins : (x : ℕ) → mem x (take (e - s) (drop s children)) ≡ true → x < n = rw (se, ee) (λ x m. (w.later r x h m).1) in
-    (rw he low, rw he top, omega arith, omega arith, λ x m. let k : x < n = ins x m in omega arith)
+pub record Turn (starts begins children covers ks : List ℕ) (r per low high : ℕ) : Type 0 where
+  pub rising : low ≤ high
+  pub within : high ≤ 127
+  pub few : r < 512
+  pub room : r * cover_words + cover_words ≤ length covers
+  pub inside : Inside covers ks
+  pub bits : join_of (range_bits low high) (cover_at covers) ks ≡ run_bits starts per begins children covers r
 
-pub weigh_bits : (starts begins children covers : List ℕ) (r per a b high s e : ℕ) → a ≡ offset starts r → b ≡ offset starts (r + 1) → high ≡ ceil b per →
-    s ≡ get_or begins r 0 → e ≡ get_or begins (r + 1) 0 →
-    join_of (range_bits (a / per) high) (cover_at covers) (take (e - s) (drop s children)) ≡ run_bits starts per begins children covers r
-unfolding run_bits part
-weigh_bits starts begins children covers r per a b high s e ae be he se ee = rw (he, ae, be, se, ee)
+-- a and b are how far into the range the run starts and ends, and ks the r-th of all runs' children, kss
+pub turn_of : (starts begins children covers ks : List ℕ) (n r : ℕ) (kss : List (List ℕ)) (per a b high : ℕ) → Weighable starts begins children n → r < n → n * cover_words ≤ length covers →
+    per ≡ per_bit (offset starts n) → a ≡ offset starts r → b ≡ offset starts (r + 1) → high ≡ b / per + min 1 (b % per) → kss ≡ rows_in begins children n → ks ≡ at kss r →
+    Turn starts begins children covers ks r per (a / per) high
+unfolding Inside run_bits
+turn_of starts begins children covers ks n r kss per a b high w h room p ae be he all row =
+    let up : a ≤ b = rw (ae, be) (offset-rise starts begins children n r (r + 1) w (omega arith) (omega arith)) in
+    let some : 0 < per = rw p (per_pos (offset starts n)) in
+    let top : high ≡ ceil b per = he ∙ ceil_is b per some in
+    let ke = row ∙ (ap (λ (l : List (List ℕ)). at l r) all ∙ row_part begins children n r h) in
+    record {
+      rising = rw top (low_high per a b some up);
+      within = rw (top, p, be) (high_low (offset starts (r + 1)) (offset starts n) (offset-rise starts begins children n (r + 1) n w (omega arith) (omega arith)));
+      few = omega (arith, w.few);
+      room = omega arith;
+      inside = λ x m. let k = (w.later r x h (ap (mem x) (sym ke) ∙ m)).1 in omega arith;
+      bits = rw (top, ae, be, ke);
+    }

@@ -1,6 +1,6 @@
 -- The chains and rows that the definitions give for the runs so far, and what laying a range's rows leaves. Assumes nothing.
-use Rattle.std.specs.Prelude.{◌≡◌, true, cond, List, [], ◌∷◌, ◌++◌, map, ℕ, zero, suc, ◌+◌, ◌-◌, ◌≤◌, ◌<◌, length, get_or, take, drop, leb, ltb}
-use Rattle.lists.specs.Lists.{bit, all, mem, concat, filter}
+use Rattle.std.specs.Prelude.{◌≡◌, true, cond, List, [], ◌∷◌, ◌++◌, map, ℕ, zero, suc, ◌+◌, ◌-◌, ◌≤◌, ◌<◌, length, get_or, take, drop, leb, Option, MatchOption}
+use Rattle.lists.specs.Lists.{all, mem, concat, filter}
 use Rattle.lists.specs.Areas.{over, fitting, groups, part}
 use Rattle.model.specs.Limits.{max_runs}
 use Rattle.model.specs.History.{at, histories}
@@ -58,7 +58,7 @@ unfoldable pub items_in : ℕ → List ℕ → List ℕ
 items_in n area = drop (n + 1) area
 
 -- The chains so far as tables: where each run's row starts, each run's chain and place, each chain's length; how many chains there are,
--- how much of the row area is used, and 1 once a row found no room
+-- and how much of the row area is used
 pub record Chains : Type 0 where
   pub starts : List ℕ
   pub chain : List ℕ
@@ -66,7 +66,6 @@ pub record Chains : Type 0 where
   pub lens : List ℕ
   pub count : ℕ
   pub used : ℕ
-  pub short : ℕ
 
 -- so they stand in the first four lists of w words
 unfoldable pub chains_of : Area → ℕ → List ℕ → Chains
@@ -77,7 +76,6 @@ chains_of a w tables = record {
   lens = lane 3 w tables;
   count = a.chains;
   used = a.used;
-  short = a.short;
 }
 
 -- The tables and the area say what the definitions say of the first r runs
@@ -91,16 +89,15 @@ pub record Laid (pss : List (List ℕ)) (r : ℕ) (st : Chains) (area area₀ : 
   pub used : st.used ≡ length (flat (histories pss) r)
   pub room : length (flat (histories pss) r) ≤ length area₀
   pub written : area ≡ over (flat (histories pss) r) area₀
-  pub going : st.short ≡ 0
 
--- What laying the rows of n runs gives, whose groups of parents are pss: the rows that fit, whether all do, and then the tables
-pub record LaidOut (pss : List (List ℕ)) (n : ℕ) (area₀ : List ℕ) (st : Chains) (area : List ℕ) : Type 0 where
+-- What laying the rows of n runs gives, whose groups of parents are pss: the rows that fit, and the tables where all do
+pub record LaidOut (pss : List (List ℕ)) (n : ℕ) (area₀ : List ℕ) (r : Option Area) (area tables : List ℕ) : Type 0 where
   pub area_is : area ≡ over (concat (fitting (length area₀) (rows_from 0 [] (histories pss)))) area₀
-  pub short_is : st.short ≡ bit (ltb (length area₀) (length (concat (rows_from 0 [] (histories pss)))))
-  pub chains : st.short ≡ 0 → Laid pss n st area area₀
+  pub told : MatchOption r (length area₀ < length (concat (rows_from 0 [] (histories pss))))
+      (λ a. (length (concat (rows_from 0 [] (histories pss))) ≤ length area₀) × Laid pss n (chains_of a (n + 1) tables) area area₀)
 
 -- What a range's parents and rows leave: the parents are pss
-pub record RangeLaid (pss : List (List ℕ)) (n : ℕ) (area₀ : List ℕ) (r : Area) (area groups tables : List ℕ) : Type 0 where
-  pub out : LaidOut pss n area₀ (chains_of r (n + 1) tables) area
+pub record RangeLaid (pss : List (List ℕ)) (n : ℕ) (area₀ : List ℕ) (r : Option Area) (area groups tables : List ℕ) : Type 0 where
+  pub out : LaidOut pss n area₀ r area tables
   pub groups_are : grouped (heads_in n groups) (items_in n groups) n ≡ pss
   pub sound : Sound (heads_in n groups) (items_in n groups) n

@@ -1,5 +1,5 @@
 -- The chains so far as tables, and one run laid: its row made of its parents' rows, and written where it fits. Assumes nothing.
-use Rattle.std.specs.Prelude.{Bool, true, false, cond, List, [], ◌∷◌, ℕ, zero, suc, ◌+◌, ◌-◌, ◌*◌, ◌≤◌, ◌<◌, max, length, get_or, set, replicate, ltb, eqb}
+use Rattle.std.specs.Prelude.{cond, Option, Some, None, List, [], ◌∷◌, ℕ, zero, suc, ◌+◌, ◌-◌, ◌*◌, ◌≤◌, ◌<◌, max, length, get_or, set, replicate, ltb, eqb}
 use Rattle.std.proofs.Math.Seq.{paste}
 use Rattle.lists.specs.Areas.{part}
 use Rattle.model.specs.Limits.{max_runs, max_starts}
@@ -45,10 +45,6 @@ Safe w area st r ps =
     (w ≤ max_starts) × (r + 1 < w) × (st.count ≤ r) × (st.used ≤ length area) × (st.used ≤ max_runs * r) × ((c : ℕ) → get_or st.lens c 0 ≤ max_runs) × FineAll w area st.starts
     st.chain st.place ps
 
--- A row found no room
-abbrev pub short_of : Chains → Chains
-short_of s = record { starts = s.starts; chain = s.chain; place = s.place; lens = s.lens; count = s.count; used = s.used; short = 1 }
-
 -- Run r put on chain k, its row ending at `used`
 abbrev pub placed_of : Chains → ℕ → ℕ → ℕ → ℕ → Chains
 placed_of s r k used width = record {
@@ -58,7 +54,6 @@ placed_of s r k used width = record {
   lens = set s.lens k (get_or s.lens k 0 + 1);
   count = width;
   used = used;
-  short = 0;
 }
 
 -- the same in the tables' own area, of lists of w words
@@ -70,10 +65,6 @@ place_in tables w r k used =
 abbrev pub Laying : Type 0
 Laying = Chains × List ℕ
 
-abbrev pub pick : Bool → Laying → Laying → Laying
-pick true a b = a
-pick false a b = b
-
 -- The row of a run with parents ps, the chain it joins, and how many chains there then are
 unfoldable pub row_of : Laying → List ℕ → List ℕ
 row_of w ps = join_all w.1 w.0.starts w.0.chain w.0.place (replicate (length w.0.starts) 0) ps
@@ -84,7 +75,7 @@ spot_of w ps = spot_from (row_of w ps) w.0.lens 0 w.0.count
 unfoldable pub width_of : Laying → List ℕ → ℕ
 width_of w ps = max w.0.count (spot_of w ps + 1)
 
--- A run's row made of its parents', and written where it fits
-unfoldable pub lay_of : Laying → ℕ → List ℕ → Laying
-lay_of w r ps = pick (ltb (length w.1) (w.0.used + width_of w ps)) (short_of w.0, w.1)
-    (placed_of w.0 r (spot_of w ps) (w.0.used + width_of w ps) (width_of w ps), paste w.1 w.0.used (row_of w ps) (width_of w ps))
+-- A run's row made of its parents', and written where it fits; else none
+unfoldable pub lay_of : Laying → ℕ → List ℕ → Option Laying
+lay_of w r ps = cond (ltb (length w.1) (w.0.used + width_of w ps)) None
+    (Some (placed_of w.0 r (spot_of w ps) (w.0.used + width_of w ps) (width_of w ps), paste w.1 w.0.used (row_of w ps) (width_of w ps)))

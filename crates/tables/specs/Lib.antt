@@ -1,5 +1,6 @@
 -- What the tables of a range hold.
 pub mod Lanes
+pub mod Jagged
 pub mod Laid
 pub mod Tables
 -- What the code computes

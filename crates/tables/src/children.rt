@@ -1,52 +1,54 @@
 // The children of each run: counted, then placed.
-ghost use Rattle.std.specs.Prelude.{◌≡◌, ℕ, ◌+◌, ◌<◌, ◌≤◌, ◌^◌, length, get_or};
-ghost use Rattle.model.specs.Limits.{max_runs};
+ghost use Rattle.std.specs.Prelude.{◌≡◌, ℕ, ◌+◌, ◌-◌, ◌<◌, ◌≤◌, ◌^◌, length, get_or};
+ghost use Rattle.model.specs.Limits.{max_runs, max_starts};
+ghost use Rattle.lists.specs.Lists.{concat};
+ghost use Rattle.tables.specs.Jagged.{Below};
 ghost use Rattle.tables.specs.Laid.{grouped, Sound};
 ghost use Rattle.tables.specs.Indexed.{Summed};
 ghost use Rattle.tables.specs.Counted.{tally, Counted, Countable, Placeable, Kids, put_all};
 
-use crate::words::{clear, get, wide};
+use crate::jagged::Jagged;
 
 // One child more for each of the runs ps.
 fn count_parents(starts: &mut [u32], ps: &[u32])
     requires countable { Countable ps.now starts.old }
-    requires ps_len_bound { (length ps.now ≤ 2 ^ 20) × ((k : ℕ) → get_or starts.old k 0 ≤ 2 ^ 20) }
+    requires few { length ps.now ≤ 2 ^ 20 }
+    requires small { (k : ℕ) → get_or starts.old k 0 ≤ 2 ^ 20 }
     ensures { Counted ps.now starts.old starts.new }
 {
-    let mut i = 0;
-    while i < ps.len() {
-        let p = wide(ps[i]);
-        starts[p + 1] = starts[p + 1] + 1;
-        i += 1;
+    for p in ps {
+        starts[*p as usize + 1] += 1;
     }
 }
 
 // How many children each run has, one place on.
-fn count_all<'a>(starts: &mut [u32], heads: &'a [u32], items: &'a [u32], n: usize)
-    requires { Sound heads.now items.now n × (length starts.old ≡ n + 1) × (get_or heads.now n 0 ≤ 2 ^ 20) }
-    ensures { (get_or starts.new 0 0 ≡ 0) ×
-        ((r : ℕ) → r < n → get_or starts.new (r + 1) 0 ≡ tally (grouped heads.now items.now n) r n) ×
-        (length starts.new ≡ length starts.old) × ((k : ℕ) → get_or starts.new k 0 ≤ 2 ^ 20) }
+fn count_all(starts: &mut [u32], parents: &Jagged)
+    requires sized { length starts.old ≡ length parents.now + 1 }
+    requires below { Below parents.now }
+    requires few { length (concat parents.now) ≤ 2 ^ 20 }
+    ensures first { get_or starts.new 0 0 ≡ 0 }
+    ensures counted { (r : ℕ) → r < length parents.now → get_or starts.new (r + 1) 0 ≡ tally parents.now r (length parents.now) }
+    ensures small { (k : ℕ) → get_or starts.new k 0 ≤ 2 ^ 20 }
 {
-    clear(starts);
-    let mut r = 0;
-    while r < n {
-        let s = wide(get(heads, r));
-        let e = wide(get(heads, r + 1));
-        count_parents(starts, &items[s..e]);
-        r += 1;
+    starts.fill(0);
+    // By number: rows are cut from the items as they are asked for, and stand in no slice to go over
+    for r in 0..parents.len() {
+        count_parents(starts, parents.row(r));
     }
 }
 
 // Each place the sum of those up to it.
-fn sum_up(starts: &mut [u32], n: usize)
-    requires { (n ≤ max_runs) × (n < length starts.old) × (get_or starts.old 0 0 ≡ 0) × ((k : ℕ) → get_or starts.old k 0 ≤ 2 ^ 20) }
-    ensures { Summed (λ i. get_or starts.old (i + 1) 0) n starts.new × (length starts.new ≡ length starts.old) }
+fn sum_up(starts: &mut [u32])
+    requires few { length starts.old ≤ max_starts }
+    requires first { get_or starts.old 0 0 ≡ 0 }
+    requires small { (k : ℕ) → get_or starts.old k 0 ≤ 2 ^ 20 }
+    ensures summed { Summed (λ i. get_or starts.old (i + 1) 0) (length starts.old - 1) starts.new }
+    ensures len_unchanged { length starts.new ≡ length starts.old }
 {
-    let mut k = 0;
-    while k < n {
-        starts[k + 1] = starts[k + 1] + starts[k];
-        k += 1;
+    let mut sum = 0;
+    for s in starts.iter_mut() {
+        sum += *s;
+        *s = sum;
     }
 }
 
@@ -55,26 +57,40 @@ pub fn starts_of<'a>(starts: &mut [u32], heads: &'a [u32], items: &'a [u32], n: 
     requires { Sound heads.now items.now n × (length starts.old ≡ n + 1) × (get_or heads.now n 0 ≤ 2 ^ 20) }
     ensures { Summed (λ r. tally (grouped heads.now items.now n) r n) n starts.new × (length starts.new ≡ length starts.old) }
 {
-    count_all(starts, heads, items, n);
-    sum_up(starts, n);
+    let parents = Jagged::new(heads, items, n);
+    count_all(starts, &parents);
+    sum_up(starts);
 }
 
 // Run r put among the children of each of its parents.
 fn put_child(children: &mut [u32], next: &mut [u32], ps: &[u32], r: usize)
-    requires { (r < max_runs) × (length children.old ≤ 2 ^ 20) × Placeable ps.now (next.old, children.old) }
+    requires run { r < max_runs }
+    requires few { length children.old ≤ 2 ^ 20 }
+    requires room { Placeable ps.now (next.old, children.old) }
     ensures { (next.new, children.new) ≡ put_all r (next.old, children.old) ps.now }
 {
-    let mut i = 0;
-    while i < ps.len() {
-        let p = wide(ps[i]);
-        let at = wide(next[p]);
-        children[at] = r as u32;
-        next[p] = next[p] + 1;
-        i += 1;
+    for p in ps {
+        let p = *p as usize;
+        children[next[p] as usize] = r as u32;
+        next[p] += 1;
     }
 }
 
 // Each run's children, in run order; `next` begins as where they start.
+fn place_all(children: &mut [u32], next: &mut [u32], parents: &Jagged)
+    requires sized { length next.old ≡ length parents.now + 1 }
+    requires below { Below parents.now }
+    requires room { length (concat parents.now) ≤ length children.old }
+    requires few { length children.old ≤ 2 ^ 20 }
+    requires summed { Summed (λ r. tally parents.now r (length parents.now)) (length parents.now) next.old }
+    ensures { Kids parents.now (length parents.now) children.new }
+{
+    for r in 0..parents.len() {
+        put_child(children, next, parents.row(r), r);
+    }
+}
+
+// So of n runs whose parents begin at `heads` in `items`.
 pub fn children_of<'a>(
     children: &mut [u32],
     next: &mut [u32],
@@ -87,11 +103,6 @@ pub fn children_of<'a>(
     ensures kids { Kids (grouped heads.now items.now n) n children.new }
     ensures children_len_unchanged { (length children.new ≡ length children.old) × (length next.new ≡ length next.old) }
 {
-    let mut r = 0;
-    while r < n {
-        let s = wide(get(heads, r));
-        let e = wide(get(heads, r + 1));
-        put_child(children, next, &items[s..e], r);
-        r += 1;
-    }
+    let parents = Jagged::new(heads, items, n);
+    place_all(children, next, &parents);
 }

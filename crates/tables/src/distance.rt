@@ -4,35 +4,90 @@ ghost use Rattle.model.specs.Limits.{max_runs};
 ghost use Rattle.tables.specs.Gaps.{gap_at, gaps_from};
 ghost use Rattle.tables.specs.Sizes.{Bounded, Within, share_at, events_from, Inside, Sized};
 
-use crate::words::{get, wide};
+use crate::words::item;
 
 pub fn get_sum(s: &[u64], i: usize) -> u64
     ensures { result ≡ get_or s.now i 0 }
 {
-    if i < s.len() {
-        return s[i];
-    }
-    0
+    item(s, i, 0)
 }
 
 pub fn apart(x: u64, y: u64) -> u64
     ensures { result ≡ (x - y) + (y - x) }
 {
-    if x < y { y - x } else { x - y }
+    x.abs_diff(y)
 }
 
-// The events in just one of the two versions along one chain.
-fn gap<'a>(before: &[u64], begins: &'a [u32], current: &[u32], row: &[u32], c: usize) -> u64
-    requires { Bounded (2 ^ 41) before.now }
-    ensures { (result ≡ gap_at before.now begins.now current.now row.now c) × (result ≤ 2 ^ 41) }
-{
-    let s = wide(get(begins, c));
-    let a = get_sum(before, s + wide(get(current, c)));
-    let b = get_sum(before, s + wide(get(row, c)));
-    apart(a, b)
+// The events of the chains' members: prefix sums of them, where each chain's members begin, and how many chains there are.
+#[derive(Clone, Copy)]
+pub struct Sums<'a> {
+    pub before: &'a [u64],
+    pub begins: &'a [u32],
+    pub chains: usize,
+    ghost few: { chains ≤ max_runs },
+    ghost small: { Bounded (2 ^ 41) before.now },
 }
 
-// The events in just one of the two versions, counted until past `limit`.
+impl<'a> Sums<'a> {
+    // The events before a place of chain c.
+    fn up_to(self, c: usize, place: u32) -> u64
+        ensures value { result ≡ get_or self.entry.before.now (get_or self.entry.begins.now c 0 + place) 0 }
+        ensures small { result ≤ 2 ^ 41 }
+    {
+        item(
+            self.before,
+            item(self.begins, c, 0) as usize + place as usize,
+            0,
+        )
+    }
+
+    // The events in just one of the two versions along one chain.
+    fn gap(self, current: &[u32], row: &[u32], c: usize) -> u64
+        ensures value { result ≡ gap_at self.entry.before.now self.entry.begins.now current.now row.now c }
+        ensures small { result ≤ 2 ^ 41 }
+    {
+        self.up_to(c, item(current, c, 0))
+            .abs_diff(self.up_to(c, item(row, c, 0)))
+    }
+
+    // The events in just one of the two versions, counted until past `limit`.
+    pub fn distance(self, current: &[u32], row: &[u32], limit: u64) -> u64
+        ensures value { Within limit (gaps_from self.entry.before.now self.entry.begins.now current.now row.now 0 self.entry.chains) result }
+        ensures small { result ≤ 2 ^ 50 }
+    {
+        let mut sum: u64 = 0;
+        for c in 0..self.chains {
+            sum += self.gap(current, row, c);
+            if limit < sum {
+                return sum;
+            }
+        }
+        sum
+    }
+
+    // The events of a version along one chain.
+    fn share(self, row: &[u32], c: usize) -> u64
+        ensures value { result ≡ share_at self.entry.before.now self.entry.begins.now row.now c }
+        ensures small { result ≤ 2 ^ 41 }
+    {
+        self.up_to(c, item(row, c, 0))
+            .saturating_sub(self.up_to(c, 0))
+    }
+
+    // The events of a version.
+    pub fn events_of(self, row: &[u32]) -> u64
+        ensures value { result ≡ events_from self.entry.before.now self.entry.begins.now row.now 0 self.entry.chains }
+        ensures small { result ≤ 2 ^ 50 }
+    {
+        let mut sum: u64 = 0;
+        for c in 0..self.chains {
+            sum += self.share(row, c);
+        }
+        sum
+    }
+}
+
+// The distance along n chains.
 pub fn distance<'a>(
     before: &[u64],
     begins: &'a [u32],
@@ -44,62 +99,35 @@ pub fn distance<'a>(
     requires { (n ≤ max_runs) × Bounded (2 ^ 41) before.now }
     ensures { Within limit (gaps_from before.now begins.now current.now row.now 0 n) result × (result ≤ 2 ^ 50) }
 {
-    let mut sum: u64 = 0;
-    let mut c = 0;
-    while c < n {
-        sum += gap(before, begins, current, row, c);
-        if limit < sum {
-            return sum;
-        }
-        c += 1;
-    }
-    sum
+    let sums = Sums {
+        before,
+        begins,
+        chains: n,
+    };
+    sums.distance(current, row, limit)
 }
 
-// The events of a version along one chain.
-fn share<'a>(before: &[u64], begins: &'a [u32], row: &[u32], c: usize) -> u64
-    requires { Bounded (2 ^ 41) before.now }
-    ensures { (result ≡ share_at before.now begins.now row.now c) × (result ≤ 2 ^ 41) }
-{
-    let s = wide(get(begins, c));
-    let a = get_sum(before, s + wide(get(row, c)));
-    let b = get_sum(before, s);
-    if a < b { 0 } else { a - b }
-}
-
-// The events of a version.
+// The events of a version on n chains.
 pub fn events_of<'a>(before: &[u64], begins: &'a [u32], row: &[u32], n: usize) -> u64
     requires { (n ≤ max_runs) × Bounded (2 ^ 41) before.now }
     ensures { (result ≡ events_from before.now begins.now row.now 0 n) × (result ≤ 2 ^ 50) }
 {
-    let mut sum: u64 = 0;
-    let mut c = 0;
-    while c < n {
-        sum += share(before, begins, row, c);
-        c += 1;
-    }
-    sum
+    let sums = Sums {
+        before,
+        begins,
+        chains: n,
+    };
+    sums.events_of(row)
 }
 
-// The events of each run's history.
-pub fn sizes_of<'a>(
-    sizes: &mut [u64],
-    before: &[u64],
-    begins: &'a [u32],
-    starts: &'a [u32],
-    rows: &[u32],
-    n: usize,
-    chains: usize,
-)
-    requires { (n ≤ max_runs) × (chains ≤ max_runs) × (n ≤ length sizes.old) × Bounded (2 ^ 41) before.now × Inside starts.now rows.now n }
-    ensures { (length sizes.new ≡ length sizes.old) × Sized before.now begins.now starts.now rows.now
-        chains n sizes.new }
+// The events of each run's history; run r's row begins at the r-th of `starts`.
+pub fn sizes_of<'a>(sizes: &mut [u64], sums: Sums, starts: &'a [u32], rows: &[u32])
+    requires { Inside starts.now rows.now (length sizes.old) }
+    ensures { Sized sums.entry.before.now sums.entry.begins.now starts.now rows.now sums.entry.chains (length sizes.old) sizes.new }
 {
-    let mut r = 0;
-    while r < n {
-        let s = wide(get(starts, r));
-        let e = wide(get(starts, r + 1));
-        sizes[r] = events_of(before, begins, &rows[s..e], chains);
-        r += 1;
+    for (r, size) in sizes.iter_mut().enumerate() {
+        let s = item(starts, r, 0) as usize;
+        let e = item(starts, r + 1, 0) as usize;
+        *size = sums.events_of(&rows[s..e]);
     }
 }

@@ -3,7 +3,7 @@ ghost use Rattle.std.specs.Prelude.{◌≡◌, ◌+◌, ◌<◌, ◌≤◌, ◌^
 ghost use Rattle.tables.specs.Gather.{put_parent, put_parents, put_group};
 ghost use Rattle.tables.specs.Laid.{grouped, shares, heads_in, items_in, Sound};
 
-use crate::words::{get, wide};
+use crate::jagged::Jagged;
 
 // A parent of the range whose first run is a, less a, stored at `at`; one before the range is dropped.
 fn put_parent(groups: &mut [u32], at: usize, p: u32, a: u32) -> usize
@@ -17,22 +17,24 @@ fn put_parent(groups: &mut [u32], at: usize, p: u32, a: u32) -> usize
     at + 1
 }
 
+// So each of ps, one after another.
 fn put_parents(groups: &mut [u32], at: usize, ps: &[u32], a: u32) -> usize
     requires { at + length ps.now ≤ length groups.old }
     ensures { (result, groups.new) ≡ put_parents a (at, groups.old) ps.now }
 {
     let mut to = at;
-    let mut i = 0;
-    while i < ps.len() {
-        to = put_parent(groups, to, ps[i], a);
-        i += 1;
+    for p in ps {
+        to = put_parent(groups, to, *p, a);
     }
     to
 }
 
 // The group of run j of n.
 fn put_group(groups: &mut [u32], n: usize, at: usize, j: usize, ps: &[u32], a: u32) -> usize
-    requires { (j < n) × (n < at) × (at + length ps.now ≤ length groups.old) × (at + length ps.now ≤ n + 2 ^ 32) }
+    requires run { j < n }
+    requires after_starts { n < at }
+    requires room { at + length ps.now ≤ length groups.old }
+    requires few { at + length ps.now ≤ n + 2 ^ 32 }
     ensures { (result, groups.new) ≡ put_group a n j (at, groups.old) ps.now }
 {
     let to = put_parents(groups, at, ps, a);
@@ -48,14 +50,11 @@ pub fn gather<'a>(groups: &mut [u32], heads: &'a [u32], parents: &'a [u32], a: u
     ensures sound_2 { Sound (heads_in n groups.new) (items_in n groups.new) n }
     ensures groups_len_unchanged { length groups.new ≡ length groups.old }
 {
-    let first = wide(a);
+    let first = a as usize;
+    let all = Jagged::new(heads, parents, first + n);
     groups[0] = 0;
     let mut at = n + 1;
-    let mut j = 0;
-    while j < n {
-        let s = wide(get(heads, first + j));
-        let e = wide(get(heads, first + j + 1));
-        at = put_group(groups, n, at, j, &parents[s..e], a);
-        j += 1;
+    for j in 0..n {
+        at = put_group(groups, n, at, j, all.row(first + j), a);
     }
 }

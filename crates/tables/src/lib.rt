@@ -5,6 +5,7 @@ pub mod children;
 pub mod covers;
 pub mod distance;
 pub mod groups;
+pub mod jagged;
 pub mod members;
 pub mod rows;
 pub mod tabling;

@@ -4,7 +4,7 @@ ghost use Rattle.model.specs.Limits.{max_runs};
 ghost use Rattle.tables.specs.Tables.{size_in};
 ghost use Rattle.tables.specs.Indexed.{Summed, Bounded, BoundedTo, Placed, pos, Scattered};
 
-use crate::words::{clear, get, long, wide};
+use crate::words::item;
 
 // Where the members of each of n chains begin.
 pub fn begins_of(begins: &mut [u32], lens: &[u32], n: usize)
@@ -12,11 +12,9 @@ pub fn begins_of(begins: &mut [u32], lens: &[u32], n: usize)
     ensures { Summed (λ i. get_or lens.now i 0) n begins.new × Bounded (2 ^ 18) begins.new ×
         (length begins.new ≡ length begins.old) }
 {
-    clear(begins);
-    let mut c = 0;
-    while c < n {
-        begins[c + 1] = begins[c] + get(lens, c);
-        c += 1;
+    begins.fill(0);
+    for c in 0..n {
+        begins[c + 1] = begins[c] + item(lens, c, 0);
     }
 }
 
@@ -24,10 +22,8 @@ pub fn begins_of(begins: &mut [u32], lens: &[u32], n: usize)
 fn position<'a>(begins: &'a [u32], chain: &'a [u32], place: &'a [u32], m: usize) -> usize
     ensures { result ≡ pos begins.now chain.now place.now m }
 {
-    let k = wide(get(chain, m));
-    let a = wide(get(begins, k));
-    let b = wide(get(place, m));
-    a + b
+    let k = item(chain, m, 0) as usize;
+    item(begins, k, 0) as usize + item(place, m, 0) as usize
 }
 
 // Each chain's members, in order.
@@ -42,12 +38,10 @@ pub fn members_of<'a>(
     ensures { Placed (pos begins.now chain.now place.now) n members.new × Bounded 511 members.new ×
         (length members.new ≡ length members.old) }
 {
-    clear(members);
-    let mut m = 0;
-    while m < n {
+    members.fill(0);
+    for m in 0..n {
         let at = position(begins, chain, place, m);
         members[at] = m as u32;
-        m += 1;
     }
 }
 
@@ -56,9 +50,7 @@ pub fn size_of(starts: &[u32], m: usize) -> u32
     requires { m < 2 ^ 32 }
     ensures { result ≡ size_in starts.now m }
 {
-    let x = get(starts, m);
-    let y = get(starts, m + 1);
-    if y < x { 0 } else { y - x }
+    item(starts, m + 1, 0).saturating_sub(item(starts, m, 0))
 }
 
 // The events of the first members.
@@ -68,9 +60,7 @@ pub fn sums_of(before: &mut [u64], members: &[u32], starts: &[u32], n: usize)
         (length before.new ≡ length before.old) }
 {
     before[0] = 0;
-    let mut j = 0;
-    while j < n {
-        before[j + 1] = before[j] + long(size_of(starts, wide(get(members, j))));
-        j += 1;
+    for j in 0..n {
+        before[j + 1] = before[j] + u64::from(size_of(starts, item(members, j, 0) as usize));
     }
 }

@@ -12,10 +12,11 @@ ghost use Rattle.tables.specs.Covers.{cover_words, Weighable, Weighted};
 ghost use Rattle.tables.specs.Sizes.{Inside, Sized};
 
 use crate::covers::CoverWord;
+use crate::distance::Sums;
 use crate::rows::Area;
-use crate::{children, covers, distance, groups, members, rows, words};
+use crate::{children, covers, distance, groups, members, rows};
 
-// Parents, chains and rows.
+// Parents, chains and rows; none where a row finds no room.
 pub fn lay<'a>(
     heads: &'a [u32],
     parents: &'a [u32],
@@ -25,7 +26,7 @@ pub fn lay<'a>(
     groups: &mut [u32],
     tables: &mut [u32],
     scratch: &mut [u32],
-) -> Area
+) -> Option<Area>
     requires sound { Sound heads.now parents.now (a + n) }
     requires parents_in_bounds { (n + 1 + length parents.now ≤ length groups.old) × (4 * (n + 1) ≤ length tables.old) × (n + 1 ≤ length scratch.old) }
     ensures range_laid { RangeLaid (shares heads.now parents.now a n) n rows.old result rows.new groups.new tables.new }
@@ -36,14 +37,8 @@ pub fn lay<'a>(
 {
     let w = n + 1;
     groups::gather(groups, heads, parents, a, n);
-    rows::lay(
-        rows,
-        tables,
-        &mut scratch[0..w],
-        &groups[0..w],
-        &groups[w..],
-        n,
-    )
+    let (starts, items) = groups.split_at(w);
+    rows::lay(rows, tables, &mut scratch[..w], starts, items, n)
 }
 
 // Where each chain's members begin.
@@ -55,8 +50,9 @@ fn list_begins(n: usize, chains: usize, tables: &mut [u32], scratch: &mut [u32])
     let w = n + 1;
     let c = 3 * w;
     let d = 4 * w;
-    members::begins_of(&mut scratch[0..w], &tables[c..d], chains);
-    words::store(tables, d, &scratch[0..w], w);
+    let e = 5 * w;
+    members::begins_of(&mut scratch[..w], &tables[c..d], chains);
+    tables[d..e].copy_from_slice(&scratch[..w]);
 }
 
 // The members.
@@ -72,14 +68,15 @@ fn list_members(n: usize, tables: &mut [u32], scratch: &mut [u32])
     let c = 3 * w;
     let d = 4 * w;
     let e = 5 * w;
+    let f = 6 * w;
     members::members_of(
-        &mut scratch[0..w],
+        &mut scratch[..w],
         &tables[d..e],
         &tables[w..b],
         &tables[b..c],
         n,
     );
-    words::store(tables, e, &scratch[0..w], w);
+    tables[e..f].copy_from_slice(&scratch[..w]);
 }
 
 // The events of the first members.
@@ -91,7 +88,7 @@ fn sum_events(starts: &[u32], n: usize, tables: &[u32], before: &mut [u64])
     let w = n + 1;
     let e = 5 * w;
     let f = 6 * w;
-    members::sums_of(&mut before[0..w], &tables[e..f], starts, n);
+    members::sums_of(&mut before[..w], &tables[e..f], starts, n);
 }
 
 // Members and their sums.
@@ -131,9 +128,11 @@ pub fn children(
 {
     let w = n + 1;
     let f = 6 * w;
-    children::starts_of(&mut scratch[0..w], &groups[0..w], &groups[w..], n);
-    words::store(tables, f, &scratch[0..w], w);
-    children::children_of(children, &mut scratch[0..w], &groups[0..w], &groups[w..], n);
+    let g = 7 * w;
+    let (starts, items) = groups.split_at(w);
+    children::starts_of(&mut scratch[..w], starts, items, n);
+    tables[f..g].copy_from_slice(&scratch[..w]);
+    children::children_of(children, &mut scratch[..w], starts, items, n);
 }
 
 // Weights.
@@ -153,15 +152,16 @@ pub fn weights(
     let w = n + 1;
     let f = 6 * w;
     let g = 7 * w;
+    let h = 8 * w;
     covers::weights_of(
-        &mut scratch[0..w],
+        &mut scratch[..w],
         covers,
         starts,
         &tables[f..g],
         children,
         n,
     );
-    words::store(tables, g, &scratch[0..w], w);
+    tables[g..h].copy_from_slice(&scratch[..w]);
 }
 
 // The sizes of the runs' histories.
@@ -181,13 +181,10 @@ pub fn sizes(
     let w = n + 1;
     let d = 4 * w;
     let e = 5 * w;
-    distance::sizes_of(
-        sizes,
-        &before[0..w],
-        &tables[d..e],
-        &tables[0..w],
-        rows,
-        n,
+    let sums = Sums {
+        before: &before[..w],
+        begins: &tables[d..e],
         chains,
-    );
+    };
+    distance::sizes_of(&mut sizes[..n], sums, &tables[..w], rows);
 }

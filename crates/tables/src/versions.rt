@@ -3,7 +3,7 @@ ghost use Rattle.std.specs.Prelude.{◌≡◌, ◌+◌, ◌≤◌, ◌<◌, leng
 ghost use Rattle.model.specs.Limits.{max_runs};
 ghost use Rattle.tables.specs.Reached.{started, arrived, Holds, Standing};
 
-use crate::words::{get, wide};
+use crate::words::item;
 
 // The version that holds the first `known` runs.
 pub fn start_version<'a>(
@@ -16,35 +16,21 @@ pub fn start_version<'a>(
     requires { (chains ≤ length current.old) × Standing chain.now place.now chains known }
     ensures { Holds (started chain.now place.now known) chains current.new × (length current.new ≡ length current.old) }
 {
-    clear_first(current, chains);
-    let mut r = 0;
-    while r < known {
-        let k = wide(get(chain, r));
-        current[k] = get(place, r) + 1;
-        r += 1;
+    current[..chains].fill(0);
+    for r in 0..known {
+        let k = item(chain, r, 0) as usize;
+        current[k] = item(place, r, 0) + 1;
     }
 }
 
-fn clear_first(current: &mut [u32], n: usize)
-    requires { n ≤ length current.old }
-    ensures { Holds (λ _. 0) n current.new × (length current.new ≡ length current.old) }
-{
-    let mut c = 0;
-    while c < n {
-        current[c] = 0;
-        c += 1;
-    }
-}
-
+// The first n words become the row's, and 0 past its end.
 fn copy_row(current: &mut [u32], row: &[u32], n: usize)
     requires { n ≤ length current.old }
     ensures { Holds (λ c. get_or row.now c 0) n current.new × (length current.new ≡ length current.old) }
 {
-    let mut c = 0;
-    while c < n {
-        current[c] = get(row, c);
-        c += 1;
-    }
+    let m = row.len().min(n);
+    current[..n].fill(0);
+    current[..m].copy_from_slice(&row[..m]);
 }
 
 // The version after a visit: the run's history, by its row, and the run, by its chain and place.

@@ -1,81 +1,23 @@
-// The calls' answers as the values of a line: the refusal's number or 0, then up to two, 0 where there are none.
-use crate::lines::Said;
-use crate::{lines, words};
-use model::{Containing, EventIndex, EventRunIndex, Refusal, Walked, Written};
+// The calls' answers as they stand in a line: the number of the refusal, or 0, and then the values, 0 where there are none.
+use crate::output::Out;
+use model::{Containing, Refusal};
+use std::io;
 
-// A refused call: its number, and no values.
-fn refused(pattern: u32, r: Refusal) -> Said {
-    lines::three(pattern, words::wide(u32::from(r)), 0, 0)
+// An answer with its values.
+pub fn put<const N: usize>(answer: Result<[u32; N], Refusal>, out: &mut Out) -> io::Result<()> {
+    let (refusal, values) = match answer {
+        Ok(values) => (0, values),
+        Err(r) => (u32::from(r), [0; N]),
+    };
+    out.number(u64::from(refusal))?;
+    out.words(&values)
 }
 
-// One or two values.
-fn given(pattern: u32, first: u32, second: u32) -> Said {
-    lines::three(pattern, 0, words::wide(first), words::wide(second))
-}
-
-// Each kind of answer.
-pub fn outcome(pattern: u32, answer: Result<(), Refusal>) -> Said {
+// Where an event lies: 0 a run, which follows; 1 before the graph; 2 not yet known.
+pub fn side(answer: Containing) -> [u32; 2] {
     match answer {
-        Ok(()) => lines::named(pattern),
-        Err(r) => refused(pattern, r),
+        Containing::Run(r) => [0, r.0],
+        Containing::Before => [1, 0],
+        Containing::Unknown => [2, 0],
     }
-}
-
-pub fn event(pattern: u32, answer: Result<EventIndex, Refusal>) -> Said {
-    match answer {
-        Ok(e) => given(pattern, e.0, 0),
-        Err(r) => refused(pattern, r),
-    }
-}
-
-pub fn events(pattern: u32, answer: Result<(EventIndex, EventIndex), Refusal>) -> Said {
-    match answer {
-        Ok((first, end)) => given(pattern, first.0, end.0),
-        Err(r) => refused(pattern, r),
-    }
-}
-
-pub fn run(pattern: u32, answer: Result<EventRunIndex, Refusal>) -> Said {
-    match answer {
-        Ok(r) => given(pattern, r.0, 0),
-        Err(r) => refused(pattern, r),
-    }
-}
-
-// The side: 0 a run, which follows; 1 before the graph; 2 not yet known.
-pub fn containing(pattern: u32, answer: Result<Containing, Refusal>) -> Said {
-    match answer {
-        Ok(Containing::Run(r)) => given(pattern, 0, r.0),
-        Ok(Containing::Before) => given(pattern, 1, 0),
-        Ok(Containing::Unknown) => given(pattern, 2, 0),
-        Err(r) => refused(pattern, r),
-    }
-}
-
-fn bit(b: bool) -> u32 {
-    if b { 1 } else { 0 }
-}
-
-pub fn truth(pattern: u32, answer: Result<bool, Refusal>) -> Said {
-    match answer {
-        Ok(b) => given(pattern, bit(b), 0),
-        Err(r) => refused(pattern, r),
-    }
-}
-
-// A written list's: the count stands after the refusal, refused or not.
-pub fn written(pattern: u32, w: Written) -> Said {
-    let answer = w.outcome;
-    let mut s = outcome(pattern, answer);
-    s.b = words::wide_count(w.count);
-    s
-}
-
-// A walk's or a replay's: so do its two counts.
-pub fn walked(pattern: u32, w: Walked) -> Said {
-    let answer = w.outcome;
-    let mut s = outcome(pattern, answer);
-    s.b = w.count;
-    s.c = w.moved;
-    s
 }

@@ -5,96 +5,92 @@
 mod answers;
 mod changing;
 mod input;
-mod lines;
 mod looking;
 mod making;
 mod output;
-mod reading;
 mod script;
-mod whole;
-mod words;
 mod writing;
 
-use input::{Input, Source};
-use making::Made;
+use input::Source;
+use model::CausalGraph;
 use output::Out;
-use script::{Call, HEAD, MAX_LIST, MAX_ROWS, MAX_STEPS, Rows, Steps};
+use script::Words;
 use std::io;
+use std::io::Write;
 use std::process::ExitCode;
+use writing::{BLANK, Lists, MAX_ROWS, MAX_STEPS};
 
-// Where the input stands after a call: STOPPED if a write failed.
-fn going(used: usize, r: Input) -> Input {
-    if used == output::LOST {
-        return input::turned(r, input::STOPPED);
-    }
-    r
+// Why no further call is made.
+#[derive(Clone, Copy)]
+pub enum Stop {
+    // The script ended after a whole call.
+    Ended,
+    // The script is cut off, or holds what the program does not take.
+    Bad,
+    // A read or a write failed, and why.
+    Read(io::Error),
+    Write(io::Error),
 }
 
-// Makes the calls until the script ends. A proved loop has to end, and nothing says that a script does: it counts its turns
-// down, from a number that no run uses up.
-fn run(source: &mut Source, call: &mut Call, rows: &mut Rows, steps: &mut Steps, out: &mut Out) {
-    let mut m = Made {
-        graph: graph::fresh::new(),
-        used: 0,
+// Reads the next call, makes it, and puts its line.
+fn turn(
+    source: &mut Source,
+    words: &mut Words,
+    g: &mut CausalGraph,
+    lists: &mut Lists,
+    out: &mut Out,
+) -> Result<(), Stop> {
+    let call = script::read(source, words)?;
+    making::make(g, call, lists, out).map_err(Stop::Write)
+}
+
+// Makes the calls until the script ends. A proved loop has to end, and nothing says that a script does: it has more turns than any
+// run uses up.
+fn run(source: &mut Source, lists: &mut Lists, out: &mut Out) -> Result<(), Stop> {
+    let mut g = graph::fresh::new();
+    let mut words = Words {
+        list: [0; script::MAX_LIST],
+        record: g,
     };
-    let mut r = input::start();
-    let mut turns = u64::MAX;
-    while turns > 0 && r.state == input::READING {
-        r = script::read(source, call, r);
-        if r.state == input::READING {
-            m = making::answer(m, call, rows, steps, out);
-            r = going(m.used, r);
-        }
-        turns -= 1;
+    for _ in 0..u64::MAX {
+        turn(source, &mut words, &mut g, lists, out)?;
     }
-    finish(r.state, out, m.used);
+    Ok(())
 }
 
 // Writes what is not written yet, after the last line of a bad script.
-fn finish(state: usize, out: &mut Out, used: usize) {
-    let mut now = used;
-    if state == input::BAD {
-        now = output::text(out, used, b"bad script\n");
-    }
-    output::flush(out, now);
-}
-
-// The rooms: the rows and the steps are BLANK before a call. A function hands an array out without what it holds, so that no proof looks at its elements.
-fn call_room() -> Call {
-    [0; HEAD + MAX_LIST]
-}
-
-fn row_room() -> Rows {
-    [writing::BLANK; MAX_ROWS]
-}
-
-fn step_room() -> Steps {
-    [writing::BLANK; MAX_STEPS]
-}
-
-// Tells which call failed and why, if one did; whether none did.
-fn went_well(rt: &impl Eprint, call: &str, failed: Option<io::Error>) -> bool {
-    match failed {
-        None => true,
-        Some(why) => {
-            let _ = eprintln!(rt; "trace: {call}: {why}");
-            false
+fn finish(ended: Result<(), Stop>, out: &mut Out) -> io::Result<()> {
+    match ended {
+        Err(Stop::Bad) => {
+            out.write_all(b"bad script\n")?;
+            out.flush()
         }
+        // Nothing more is written after a failed write.
+        Err(Stop::Write(why)) => Err(why),
+        Ok(()) | Err(Stop::Ended | Stop::Read(_)) => out.flush(),
     }
+}
+
+// Tells which call failed, and why.
+fn tell(rt: &impl Eprint, call: &str, why: io::Error) -> ExitCode {
+    let _ = eprintln!(rt; "trace: {call}: {why}");
+    ExitCode::FAILURE
 }
 
 fn main(rt: HostRuntime) -> ExitCode {
-    let mut source = input::from_stdin(rt.stdin());
-    let mut call = call_room();
-    let mut rows = row_room();
-    let mut steps = step_room();
-    let mut out = output::to_stdout(rt.stdout());
-    run(&mut source, &mut call, &mut rows, &mut steps, &mut out);
-    let read = went_well(&rt, "read", source.failed);
-    let written = went_well(&rt, "write", out.failed);
-    if read && written {
-        ExitCode::SUCCESS
-    } else {
-        ExitCode::FAILURE
+    let mut source = Source::new(rt.stdin());
+    let mut lists = Lists {
+        rows: [BLANK; MAX_ROWS],
+        steps: [BLANK; MAX_STEPS],
+    };
+    let mut out = Out::new(rt.stdout());
+    let ended = run(&mut source, &mut lists, &mut out);
+    let mut status = ExitCode::SUCCESS;
+    if let Err(Stop::Read(why)) = ended {
+        status = tell(&rt, "read", why);
     }
+    if let Err(why) = finish(ended, &mut out) {
+        status = tell(&rt, "write", why);
+    }
+    status
 }

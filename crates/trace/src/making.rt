@@ -1,92 +1,63 @@
-// One call of the script: its operation and arguments, and the words that follow them.
-use crate::changing::Called;
-use crate::lines::Said;
+// One call of the script on the current graph, and its line.
 use crate::output::Out;
-use crate::script::{Call, Head, Rows, Steps};
-use crate::{changing, lines, looking, output, reading, script, whole, writing};
+use crate::script::Call;
+use crate::writing::Lists;
+use crate::{changing, looking, writing};
 use model::CausalGraph;
+use std::io;
+use std::io::Write;
 
-// The current graph, and how many bytes of the output buffer are used.
-#[derive(Clone, Copy)]
-pub struct Made {
-    pub graph: CausalGraph,
-    pub used: usize,
+// Makes a call, and puts its line.
+pub fn make(g: &mut CausalGraph, call: Call, lists: &mut Lists, out: &mut Out) -> io::Result<()> {
+    put(g, call, lists, out)?;
+    out.write_all(b"\n")
 }
 
-// The calls that write no list.
-fn plain(g: CausalGraph, h: Head, call: &Call) -> Called {
-    let end = script::end(h);
-    let all = &call[..];
-    let list = &all[script::HEAD..end];
-    let operation = h.operation;
-    match operation {
-        0..=4 | 14 => changing::change(g, operation, h.first, list),
-        _ => changing::with(g, looking::look(g, operation, h.first, list)),
-    }
-}
-
-// The calls that write a list.
-fn lists(g: CausalGraph, h: Head, call: &Call, rows: &mut Rows, steps: &mut Steps) -> Said {
-    let end = script::end(h);
-    let all = &call[..];
-    writing::write(g, h, &all[script::HEAD..end], rows, steps)
-}
-
-// Makes a call.
-fn make(g: CausalGraph, h: Head, call: &Call, rows: &mut Rows, steps: &mut Steps) -> Called {
-    let operation = h.operation;
-    match operation {
-        5..=9 | 20 => changing::with(g, lists(g, h, call, rows, steps)),
-        _ => plain(g, h, call),
-    }
-}
-
-// The list of a line that has one: the rows or the steps, by their column. After it the list is BLANK again.
-fn listed(list: &mut [u32], h: Head, column: usize, out: &mut Out, used: usize) -> usize {
-    if script::entry(h.operation, column) == script::NOWHERE {
-        return used;
-    }
-    let n = writing::filled(list, script::room(h, column));
-    let now = output::list(out, used, list, n);
-    writing::clear(list, n);
-    now
-}
-
-// The steps of the step reader over the words that follow.
-fn read(h: Head, call: &Call, out: &mut Out, used: usize) -> usize {
-    let end = script::end(h);
-    let all = &call[..];
-    reading::steps(&all[script::HEAD..end], out, used)
-}
-
-// What follows the values in the lines of a run, the graph and the step reader.
-fn rest(g: CausalGraph, pattern: u32, h: Head, call: &Call, out: &mut Out, used: usize) -> usize {
-    match pattern {
-        10 => looking::parents(g, h.first, out, used),
-        13 => whole::lists(g, out, used),
-        15 => read(h, call, out, used),
-        _ => used,
-    }
-}
-
-// Puts a call's name, values and lists.
-fn put(s: Said, h: Head, rows: &mut Rows, steps: &mut Steps, out: &mut Out, used: usize) -> usize {
-    let told = lines::line(out, used, s);
-    let listing = listed(rows, h, script::ROWS, out, told);
-    listed(steps, h, script::STEPS, out, listing)
-}
-
-// Makes the call that was read, and puts its line.
-pub fn answer(m: Made, call: &Call, rows: &mut Rows, steps: &mut Steps, out: &mut Out) -> Made {
-    let h = script::head_of(call);
-    let g = m.graph;
-    let c = make(g, h, call, rows, steps);
-    let graph = c.graph;
-    let said = c.said;
-    let told = put(said, h, rows, steps, out, m.used);
-    let all = rest(graph, said.pattern, h, call, out, told);
-    Made {
-        graph: graph,
-        used: output::byte(out, all, b'\n'),
+// All of the line but its end.
+fn put(g: &mut CausalGraph, call: Call, lists: &mut Lists, out: &mut Out) -> io::Result<()> {
+    match call {
+        Call::New => changing::new(g, out),
+        Call::After { events, frontier } => changing::after(g, events, frontier, out),
+        Call::Push { len, parents } => changing::push(g, len, parents, out),
+        Call::Start(at) => changing::start(g, at, out),
+        Call::Take => changing::take(g, out),
+        Call::Raw(record) => changing::raw(g, record, out),
+        Call::Cut { from, room } => writing::cut(g, from, room.of(&mut lists.steps), out),
+        Call::Walk {
+            first_run,
+            end_run,
+            known,
+            first,
+            rows,
+            steps,
+        } => writing::walk(
+            g,
+            first_run,
+            end_run,
+            known,
+            first,
+            rows.of(&mut lists.rows),
+            steps.of(&mut lists.steps),
+            out,
+        ),
+        Call::Replay { rows, steps } => writing::replay(
+            g,
+            rows.of(&mut lists.rows),
+            steps.of(&mut lists.steps),
+            out,
+        ),
+        Call::Archive(room) => writing::archive(g, room.of(&mut lists.steps), out),
+        Call::Concurrent { run, room } => writing::concurrent(
+            g,
+            run,
+            room.of(&mut lists.steps),
+            out,
+        ),
+        Call::Wanted { ranges, room } => writing::wanted(g, ranges, room.of(&mut lists.steps), out),
+        Call::Run(run) => looking::run(g, run, out),
+        Call::Event(event) => looking::event(g, event, out),
+        Call::Extends(parents) => looking::extends(g, parents, out),
+        Call::Graph => looking::graph(g, out),
+        Call::Reader(list) => looking::reader(list, out),
     }
 }

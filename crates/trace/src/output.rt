@@ -1,95 +1,80 @@
-// Standard output, by way of a buffer: `used` of its bytes are still to be written. Each function puts something after
-// them and answers how many there are then; LOST if a write failed.
-use crate::input::{BYTES, Bytes};
-use crate::{input, words};
-use itoa::Buffer;
-use std::io;
-use std::io::Stdout;
+// Standard output, by way of a buffer.
+ghost use Rattle.std.specs.Prelude.{◌≡◌, ◌≤◌, OnOk};
+ghost use Rattle.trace.specs.declared.output.TheConstants.{BYTES};
 
-// Standard output and the buffer, and why a write failed, if one did.
+use std::io;
+use std::io::{Stdout, Write};
+
+// The buffer's size.
+const BYTES: usize = 65536;
+
+// Standard output and the buffer, whose first `used` bytes are still to be written.
 #[derive(Drop)]
 pub struct Out {
-    pub stdout: Stdout,
-    pub bytes: Bytes,
-    pub failed: Option<io::Error>,
+    stdout: Stdout,
+    bytes: [u8; BYTES],
+    used: usize,
+    ghost within: { used ≤ BYTES },
 }
 
-// Nothing is written yet.
-pub fn to_stdout(stdout: Stdout) -> Out {
-    Out {
-        stdout: stdout,
-        bytes: input::room(),
-        failed: None,
+impl Write for Out {
+    fn write(&mut self, text: &[u8]) -> io::Result<usize> {
+        self.write_all(text)?;
+        Ok(text.len())
+    }
+
+    // Puts bytes into the buffer. Where it is full, it is written first.
+    fn write_all(&mut self, text: &[u8]) -> io::Result<()> {
+        for byte in text {
+            if self.used == BYTES {
+                self.empty()?;
+            }
+            self.bytes[self.used] = *byte;
+            self.used += 1;
+        }
+        Ok(())
+    }
+
+    fn flush(&mut self) -> io::Result<()> {
+        self.empty()
     }
 }
 
-// In place of the number of used bytes: a write failed, and nothing is put or written any more.
-pub const LOST: usize = usize::MAX;
-
-// Writes the buffer's used bytes; whether all were written. Why a write failed is kept.
-pub fn flush(out: &mut Out, used: usize) -> bool {
-    if BYTES < used {
-        return false;
-    }
-    match out.stdout.write_all(&out.bytes[..used]) {
-        Ok(()) => true,
-        Err(why) => {
-            out.failed = Some(why);
-            false
+impl Out {
+    // Nothing is written yet.
+    pub fn new(stdout: Stdout) -> Out {
+        Out {
+            stdout,
+            bytes: [0; BYTES],
+            used: 0,
         }
     }
-}
 
-// A byte. Where the buffer is full, it is written first.
-pub fn byte(out: &mut Out, used: usize, b: u8) -> usize {
-    if used < BYTES {
-        out.bytes[used] = b;
-        return used + 1;
+    // Writes what is still to be written.
+    fn empty(&mut self) -> io::Result<()>
+        ensures { OnOk result (self.new.used ≡ 0) }
+    {
+        self.stdout.write_all(&self.bytes[..self.used])?;
+        self.used = 0;
+        Ok(())
     }
-    if !flush(out, used) {
-        return LOST;
+
+    // A space and a number in decimal.
+    pub fn number(&mut self, n: u64) -> io::Result<()> {
+        write!(self, " {n}")
     }
-    out.bytes[0] = b;
-    1
-}
 
-// Bytes in turn.
-pub fn text(out: &mut Out, used: usize, s: &[u8]) -> usize {
-    let mut now = used;
-    let mut i = 0;
-    while i < s.len() {
-        now = byte(out, now, s[i]);
-        i += 1;
+    // A list's words, a space before each.
+    pub fn words(&mut self, list: &[u32]) -> io::Result<()> {
+        for word in list {
+            self.number(u64::from(*word))?;
+        }
+        Ok(())
     }
-    now
-}
 
-// A space and a number in decimal.
-pub fn number(out: &mut Out, used: usize, n: u64) -> usize {
-    let now = byte(out, used, b' ');
-    let mut digits = Buffer::new();
-    text(out, now, digits.format(n).as_bytes())
-}
-
-// A space and a mark.
-pub fn mark(out: &mut Out, used: usize, b: u8) -> usize {
-    let now = byte(out, used, b' ');
-    byte(out, now, b)
-}
-
-// The words of a list from place `from` up to, not including, `to`, a space before each.
-pub fn part(out: &mut Out, used: usize, list: &[u32], from: usize, to: usize) -> usize {
-    let mut now = used;
-    let mut i = from;
-    while i < to {
-        now = number(out, now, words::wide(words::get(list, i)));
-        i += 1;
+    // A colon and a list's words.
+    pub fn list(&mut self, list: &[u32]) -> io::Result<()> {
+        self.write_all(b" :")?;
+        self.words(list)
     }
-    now
-}
-
-// A colon and the first `n` words of a list.
-pub fn list(out: &mut Out, used: usize, items: &[u32], n: usize) -> usize {
-    let now = mark(out, used, b':');
-    part(out, now, items, 0, n)
 }

@@ -1,88 +1,148 @@
-// The calls that write into a lent list, all of whose words are BLANK before. The line has the list up to its last word that is no
-// longer BLANK; then those words are made BLANK again.
-use crate::lines::Said;
-use crate::script::Head;
-use crate::words::least;
-use crate::{answers, script};
-use model::{CausalGraph, EventRunIndex};
+// The calls that write into lent lists, all of whose words are BLANK before: each puts its line. The line has the list up to its last
+// word that is no longer BLANK; then those words are made BLANK again.
+ghost use Rattle.std.specs.Prelude.{◌≤◌};
 
-pub const BLANK: u32 = 4294967295;
+use crate::output::Out;
+use crate::{Stop, answers};
+use model::{CausalGraph, EventRunIndex, MAX_RUNS, MAX_STARTS, Walked, Written};
+use std::io;
+use std::io::Write;
 
-// Makes the first `n` words of a list BLANK.
-pub fn clear(list: &mut [u32], n: usize) {
-    let to = least(n, list.len());
-    let mut i = 0;
-    while i < to {
-        list[i] = BLANK;
-        i += 1;
-    }
+// What stands where nothing is written.
+pub const BLANK: u32 = u32::MAX;
+
+// The rows of any range, a word more for each run, and the room of the steps or of another list that a call writes.
+pub const MAX_ROWS: usize = MAX_RUNS * MAX_STARTS / 2;
+
+pub const MAX_STEPS: usize = 524288;
+
+// The lists that the program lends to calls.
+#[derive(Drop)]
+pub struct Lists {
+    pub rows: [u32; MAX_ROWS],
+    pub steps: [u32; MAX_STEPS],
 }
 
-// How many of the first `room` words of a list stand before the BLANK ones at their end.
-pub fn filled(list: &[u32], room: usize) -> usize {
-    let mut n = least(room, list.len());
-    while 0 < n {
-        if list[n - 1] != BLANK {
-            return n;
+// How many words of a list of `MOST` a call is lent.
+#[derive(Clone, Copy)]
+pub struct Room<const MOST: usize> {
+    words: usize,
+    ghost within: { words ≤ MOST },
+}
+
+// A room of more words than the list has is a bad script.
+impl<const MOST: usize> TryFrom<u32> for Room<MOST> {
+    type Error = Stop;
+
+    fn try_from(words: u32) -> Result<Self, Stop> {
+        let words = words as usize;
+        if words <= MOST {
+            Ok(Room { words })
+        } else {
+            Err(Stop::Bad)
         }
-        n -= 1;
-    }
-    0
-}
-
-// Each call answers what its line says.
-fn cut(g: CausalGraph, from: u32, list: &mut [u32]) -> Said {
-    answers::written(
-        5,
-        graph::cut::split_at_critical_versions_from(g, EventRunIndex(from), list),
-    )
-}
-
-fn archive(g: CausalGraph, list: &mut [u32]) -> Said {
-    answers::written(8, versions::archive::archive_points(g, list))
-}
-
-fn concurrent(g: CausalGraph, run: u32, list: &mut [u32]) -> Said {
-    answers::written(
-        9,
-        versions::concurrent::concurrent_runs(g, EventRunIndex(run), list),
-    )
-}
-
-fn wanted(g: CausalGraph, ranges: &[u32], list: &mut [u32]) -> Said {
-    answers::written(20, versions::wanted::wanted_parents(g, ranges, list))
-}
-
-fn walk(g: CausalGraph, h: Head, rows: &mut [u32], steps: &mut [u32]) -> Said {
-    let a = h.words;
-    let first = EventRunIndex(a[1]);
-    let end = EventRunIndex(a[2]);
-    answers::walked(
-        6,
-        walk::walking::walk(g, first, end, a[3], a[4], rows, steps),
-    )
-}
-
-fn replay(g: CausalGraph, rows: &mut [u32], steps: &mut [u32]) -> Said {
-    answers::walked(7, walk::replaying::replay(g, rows, steps))
-}
-
-// Makes the call of an operation, its arguments and the words that follow them.
-fn make(g: CausalGraph, h: Head, list: &[u32], rows: &mut [u32], steps: &mut [u32]) -> Said {
-    let operation = h.operation;
-    match operation {
-        5 => cut(g, h.first, steps),
-        6 => walk(g, h, rows, steps),
-        7 => replay(g, rows, steps),
-        8 => archive(g, steps),
-        9 => concurrent(g, h.first, steps),
-        _ => wanted(g, list, steps),
     }
 }
 
-// The same, on lists that have the room that the call names.
-pub fn write(g: CausalGraph, h: Head, list: &[u32], rows: &mut [u32], steps: &mut [u32]) -> Said {
-    let n = least(script::room(h, script::ROWS), rows.len());
-    let m = least(script::room(h, script::STEPS), steps.len());
-    make(g, h, list, &mut rows[0..n], &mut steps[0..m])
+impl<const MOST: usize> Room<MOST> {
+    // The part of the list that the call is lent.
+    pub fn of(self, list: &mut [u32; MOST]) -> &mut [u32] {
+        &mut list[..self.words]
+    }
+}
+
+// What a call wrote into a list, which is made BLANK again.
+fn list(list: &mut [u32], out: &mut Out) -> io::Result<()> {
+    let n = list
+        .iter()
+        .rposition(|word| *word != BLANK)
+        .map_or(0, |last| last + 1);
+    let part = &mut list[..n];
+    out.list(part)?;
+    part.fill(BLANK);
+    Ok(())
+}
+
+// A written list's line: the count stands after the refusal, refused or not.
+fn written(name: &str, w: Written, words: &mut [u32], out: &mut Out) -> io::Result<()> {
+    out.write_all(name.as_bytes())?;
+    answers::put(w.outcome.map(|()| []), out)?;
+    out.number(w.count as u64)?;
+    list(words, out)
+}
+
+// A walk's or a replay's: so do its two counts.
+fn walked(
+    name: &str,
+    w: Walked,
+    rows: &mut [u32],
+    steps: &mut [u32],
+    out: &mut Out,
+) -> io::Result<()> {
+    out.write_all(name.as_bytes())?;
+    answers::put(w.outcome.map(|()| []), out)?;
+    out.number(w.count)?;
+    out.number(w.moved)?;
+    list(rows, out)?;
+    list(steps, out)
+}
+
+// The cut from a run on.
+pub fn cut(
+    g: &CausalGraph,
+    from: EventRunIndex,
+    words: &mut [u32],
+    out: &mut Out,
+) -> io::Result<()> {
+    let w = graph::cut::split_at_critical_versions_from(*g, from, words);
+    written("cut", w, words, out)
+}
+
+// The archive points.
+pub fn archive(g: &CausalGraph, words: &mut [u32], out: &mut Out) -> io::Result<()> {
+    let w = versions::archive::archive_points(*g, words);
+    written("archive", w, words, out)
+}
+
+// The concurrency list of a run.
+pub fn concurrent(
+    g: &CausalGraph,
+    run: EventRunIndex,
+    words: &mut [u32],
+    out: &mut Out,
+) -> io::Result<()> {
+    let w = versions::concurrent::concurrent_runs(*g, run, words);
+    written("concurrent", w, words, out)
+}
+
+// The parents that give just the events of the ranges.
+pub fn wanted(g: &CausalGraph, ranges: &[u32], words: &mut [u32], out: &mut Out) -> io::Result<()> {
+    let w = versions::wanted::wanted_parents(*g, ranges, words);
+    written("wanted", w, words, out)
+}
+
+// A walk over a range of runs.
+pub fn walk(
+    g: &CausalGraph,
+    first_run: EventRunIndex,
+    end_run: EventRunIndex,
+    known: u32,
+    first: u32,
+    rows: &mut [u32],
+    steps: &mut [u32],
+    out: &mut Out,
+) -> io::Result<()> {
+    let w = walk::walking::walk(*g, first_run, end_run, known, first, rows, steps);
+    walked("walk", w, rows, steps, out)
+}
+
+// The full replay.
+pub fn replay(
+    g: &CausalGraph,
+    rows: &mut [u32],
+    steps: &mut [u32],
+    out: &mut Out,
+) -> io::Result<()> {
+    let w = walk::replaying::replay(*g, rows, steps);
+    walked("replay", w, rows, steps, out)
 }

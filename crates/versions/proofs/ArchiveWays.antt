@@ -11,12 +11,9 @@ use lib.Seq.{get_or-take, get_or-drop}
 use lib.Dec.{leb, eqb}
 use borrow.Author.Tests.{leb-true, le-leb}
 use Rattle.lists.specs.Lists.{all, filter, count, upto, mem, rising, below}
-use Rattle.lists.specs.Scans.{kept_in}
-use Rattle.lists.specs.declared.Kept.{Kept}
 use Rattle.lists.proofs.Truth.{lt_or_le, bool_iff}
 use Rattle.lists.proofs.Members.{get_d_all, all-from_on, filter_agree, filter_map}
 use Rattle.lists.proofs.Counts.{mem-from, count_same}
-use Rattle.lists.proofs.Keeping.{kept_list, kept-fits}
 use Rattle.lists.proofs.Passing.{passing}
 use Rattle.lists.proofs.Bounds.{below_of}
 use Rattle.lists.proofs.Pads.{get_pad}
@@ -35,10 +32,9 @@ use Rattle.model.proofs.Archiving.{Parted, point_parted}
 use Rattle.graph.specs.declared.cut.Put.{Put}
 use Rattle.graph.specs.Cutting.{blank, put_all, written_of}
 use Rattle.graph.specs.Loops.{marks_of}
-use Rattle.graph.specs.Rows.{row}
 use Rattle.graph.proofs.Views.{facts, runs-view, start-view, starts-pad}
 use Rattle.graph.proofs.Writing.{put-writing}
-use Rattle.graph.proofs.Entries.{parents-below, parents-rise, row-view}
+use Rattle.graph.proofs.Entries.{parents-below, parents-rise}
 use Rattle.graph.proofs.Marking.{is_mark, marks-filter}
 use Rattle.versions.specs.Heads.{childless, heads, last_in, highest_by, highest, first_children, is_head, whole_in, HeadsFit, HeadCounts, SeenLengths}
 use Rattle.versions.proofs.FirstChildren.{head_is}
@@ -57,16 +53,11 @@ module _ (g : CausalGraph) (held : Held g) where
   abbrev n : ℕ
   n = g.run_count
 
-  abbrev rows : ℕ → List ℕ
-  rows = row g.parent_starts g.parents
-
   rise : (r : ℕ) → rising (at pss r) ≡ true
   rise = parents-rise g held
 
-  same : (c : ℕ) → c < n → rows c ≡ at pss c
-  same c lt = row-view g held c lt
-
-  module _ (firsts : List ℕ) (is : firsts ≡ first_children rows n) where
+  -- By the graph's rows
+  module _ (rows : ℕ → List ℕ) (same : (c : ℕ) → c < n → rows c ≡ at pss c) (firsts : List ℕ) (is : firsts ≡ first_children rows n) where
     -- First children tell the heads, and the counts how many there are
     told : (m p : ℕ) → m ≤ n → p < n → is_head firsts m p ≡ childless pss m p
     told m p le lt =
@@ -174,14 +165,11 @@ module _ (g : CausalGraph) (held : Held g) where
   abbrev point_runs : List ℕ
   point_runs = filter (λ r. seen_by_later G (start G r)) (upto (runs G))
 
-  module _ (k : Kept) (kept : k ≡ kept_in point_runs) where
+  module _ (points : List ℕ) (found : points ≡ point_runs) where
     -- What the writer needs of them
-    pub points_fit : k.count ≤ length k.items
-    points_fit = kept-fits k point_runs kept
-
-    pub points-below : below (length g.starts) (take k.count k.items) ≡ true
+    pub points-below : below (length g.starts) points ≡ true
     points-below =
-        rw (kept_list k point_runs kept) (below_of (length g.starts) point_runs (λ r m.
+        rw found (below_of (length g.starts) point_runs (λ r m.
         omega (arith, ((passing (λ r. seen_by_later G (start G r)) (runs G) r).0 m).0, runs-view g held, (facts g held).runs, (facts g held).sized.starts)))
 
     starts-same : (ms : List ℕ) → points_of g.starts ms ≡ map (λ (e : ℕ). e ∷ []) (map (start G) ms)
@@ -191,10 +179,10 @@ module _ (g : CausalGraph) (held : Held g) where
         ap₂ (λ (e : ℕ) (l : List (List ℕ)). (e ∷ []) ∷ l) (ap (λ (l : List ℕ). get_or l m 0) (starts-pad g held) ∙ get_pad 513 G.starts m) (starts-same ms)
 
     -- Their starts are the archive points
-    pub points_are : points_of g.starts (take k.count k.items) ≡ map (λ e. e ∷ []) (archive_points G)
+    pub points_are : points_of g.starts points ≡ map (λ e. e ∷ []) (archive_points G)
     unfolding archive_points
     points_are =
-        starts-same (take k.count k.items) ∙ ap (λ (ms : List ℕ). map (λ (e : ℕ). e ∷ []) (map (start G) ms)) (kept_list k point_runs kept) ∙
+        starts-same points ∙ ap (λ (ms : List ℕ). map (λ (e : ℕ). e ∷ []) (map (start G) ms)) found ∙
         ap (map (λ (e : ℕ). e ∷ [])) (sym (filter_map (seen_by_later G) (start G) (upto (runs G))))
 
 module _ (g : CausalGraph) (lent : List ℕ) where

@@ -5,14 +5,12 @@ use mathlib.Core.List.{List, [], ◌∷◌, map}
 use Prim.Native.Nat.{ℕ, suc, ◌+◌, ◌-◌, ◌<◌, ◌≤◌}
 use native.Mathlib.Numerals.{add-one}
 use native.Mathlib.Omega.{arith}
-use lib.ListN.{length, get_or, set, length-set}
+use lib.ListN.{length, get_or, set}
 use lib.Dec.{eqb}
 use borrow.Author.Tests.{lt-ltb, le-ltb, le-leb, lt-leb}
 use Rattle.lists.specs.Lists.{filter, from, upto}
-use Rattle.lists.specs.Scans.{kept_in}
-use Rattle.lists.specs.declared.Kept.{Kept}
+use Rattle.lists.specs.Areas.{pad}
 use Rattle.lists.proofs.Counts.{filter_same}
-use Rattle.lists.proofs.Keeping.{kept-long}
 use Rattle.lists.proofs.Pads.{get_pad, length-pad}
 use Rattle.model.specs.declared.record.CausalGraph.{CausalGraph}
 use Rattle.model.specs.declared.answers.Refusal.{Refusal}
@@ -22,37 +20,28 @@ use Rattle.model.specs.Graph.{runs}
 use Rattle.model.specs.Record.{view}
 use Rattle.model.specs.Broken.{broken, Held}
 use Rattle.model.specs.Cut.{unwritten}
+use Rattle.model.specs.History.{at}
 use Rattle.model.specs.Beside.{concurrent_run, concurrency_list, concurrency_outcome, concurrency_list_of}
 use Rattle.model.proofs.Stored.{not-broken}
 use Rattle.graph.specs.declared.cut.Put.{Put}
 use Rattle.graph.specs.Cutting.{blank, put_all, written_of}
-use Rattle.graph.specs.Rows.{row}
 use Rattle.versions.specs.Flags.{flag_down, flag_up, free, Flags}
 use Rattle.graph.proofs.Views.{facts, runs-view}
 use Rattle.graph.proofs.Writing.{words_fit}
-use Rattle.graph.proofs.Entries.{parents-below, row-view}
+use Rattle.graph.proofs.Entries.{parents-below}
 use Rattle.versions.proofs.Comparing.{flags_are}
 use Rattle.std.specs.Prelude.{Ok, Err}
 
--- room for each run's flag
-pub kept-room : (k : Kept) (r n : ℕ) → k ≡ kept_in [] → n ≤ 512 → n ≤ length (set k.items r 1)
-kept-room k r n e h = simp length-set (omega (arith, kept-long k [] e (omega arith)))
-
 module _ (g : CausalGraph) (held : Held g) (r : ℕ) where
-  -- Both passes over a record, from flags that are all 0
-  pub passes_flag : r < g.run_count → (k : Kept) → k ≡ kept_in [] →
-      Flags (view g) r
-      (flag_up (row g.parent_starts g.parents) r
-      (flag_down (row g.parent_starts g.parents) (set k.items r 1) (r + 1)) (r + 1) (g.run_count - (r + 1)))
-  unfolding kept_in
-  passes_flag h k e =
+  -- Both passes over the graph's rows, from flags that are all 0
+  pub passes_flag : r < g.run_count → (rows : ℕ → List ℕ) → ((q : ℕ) → q < g.run_count → rows q ≡ at (view g).parents q) →
+      Flags (view g) r (flag_up rows r (flag_down rows (set (pad 512 []) r 1) (r + 1)) (r + 1) (g.run_count - (r + 1)))
+  passes_flag h rows same =
       rw (add-one r)
-      (subst (λ (n : ℕ). Flags (view g) r (flag_up (row g.parent_starts g.parents) r (flag_down (row g.parent_starts g.parents) (set k.items r 1) (suc r)) (suc r) (n - suc r)))
-      (runs-view g held)
-      (flags_are (view g) (parents-below g held) (row g.parent_starts g.parents) (λ q l. row-view g held q (omega (arith, runs-view g held))) r
-      (omega (arith, runs-view g held)) k.items
-      (omega (arith, ap (λ (x : Kept). length x.items) e, length-pad 512 [] (omega arith), (facts g held).runs, runs-view g held))
-      (λ q. ap (λ (x : Kept). get_or x.items q 0) e ∙ get_pad 512 [] q)))
+      (subst (λ (n : ℕ). Flags (view g) r (flag_up rows r (flag_down rows (set (pad 512 []) r 1) (suc r)) (suc r) (n - suc r))) (runs-view g held)
+      (flags_are (view g) (parents-below g held) rows (λ q l. same q (omega (arith, runs-view g held))) r (omega (arith, runs-view g held)) (pad 512 [])
+      (omega (arith, length-pad 512 [] (omega arith), (facts g held).runs, runs-view g held))
+      (λ q. get_pad 512 [] q)))
 
   -- The runs without a flag are the list
   free_list : (flags : List ℕ) → Flags (view g) r flags → free flags g.run_count ≡ concurrency_list (view g) r

@@ -1,53 +1,48 @@
 -- The loops behind the archive points, turn by turn. Assumes nothing.
 use mathlib.Core.Path.{◌≡◌, refl, sym, ap, ◌∙◌}
 use mathlib.Core.Logic.{◌⊎◌, inl, inr}
-use mathlib.Core.Bool.{Bool, true, cond}
+use mathlib.Core.Bool.{Bool, true, false, cond}
 use mathlib.Core.List.{List, [], ◌∷◌}
-use Prim.Native.Nat.{ℕ, suc, ◌+◌, ◌-◌, ◌≤◌, ◌<◌}
+use Prim.Native.Nat.{ℕ, ◌+◌, ◌-◌, ◌≤◌, ◌<◌}
 use native.Mathlib.Numerals.{add-one}
 use native.Mathlib.Omega.{arith}
+use mir.Val.{bool_byte}
+use Rattle.std.proofs.Common.{Some, None, slice_get}
+use Rattle.std.proofs.lemmas.Option.{get_or_from_slice_get, slice_get-get_or}
 use lib.ListN.{length, get_or, drop, set}
-use lib.Seq.{get_or-take, get_or-drop, get_or-set_same, get_or-set_other}
+use lib.Seq.{get_or-set_same, get_or-set_other}
 use Rattle.lists.specs.Lists.{bit, count, below}
-use Rattle.lists.specs.Areas.{part}
-use Rattle.lists.specs.Scans.{kept_in}
-use Rattle.lists.specs.declared.Kept.{Kept}
-use Rattle.lists.proofs.Truth.{eq_or-not, lt_of_ne}
-use Rattle.lists.proofs.Bounds.{below_at}
-use Rattle.lists.proofs.Groups.{length_part}
+use Rattle.lists.proofs.Bounds.{below_of, below_at}
+use Rattle.lists.proofs.Truth.{eq_or-not, lt_of_ne, lt_or_le}
 use Rattle.versions.specs.Heads.{last_in, highest_by, noted, note_all, first_children, is_head, head_count}
-use Rattle.versions.proofs.Passes.{part-first, part_none}
-use Rattle.versions.proofs.ByHeads.{last_mem}
+use Rattle.versions.proofs.Passes.{left-first, left_none, item_below, row_below}
+use Rattle.versions.proofs.FirstChildren.{firsts-length}
 
--- The items of a part, one by one
-module _ (items : List ℕ) (to : ℕ) (fits : to ≤ length items) (i : ℕ) where
+-- The items of a list, one by one
+module _ (xs : List ℕ) (i : ℕ) where
   -- noted
-  pub note-next : (firsts : List ℕ) (c : ℕ) → i < to →
-      note_all (set firsts (get_or items i 0) (noted (get_or firsts (get_or items i 0) 0) c)) c (part (i + 1) to items) ≡ note_all firsts c (part i to items)
+  pub note-next : (firsts : List ℕ) (c : ℕ) → i < length xs →
+      note_all (set firsts (get_or xs i 0) (noted (get_or firsts (get_or xs i 0) 0) c)) c (drop (i + 1) xs) ≡ note_all firsts c (drop i xs)
   unfolding note_all
-  note-next firsts c h = sym (ap (note_all firsts c) (part-first items to fits i h))
+  note-next firsts c h = sym (ap (note_all firsts c) (left-first xs i h))
 
-  pub note-none : (firsts : List ℕ) (c : ℕ) → to ≤ i → firsts ≡ note_all firsts c (part i to items)
+  pub note-none : (firsts : List ℕ) (c : ℕ) → length xs ≤ i → firsts ≡ note_all firsts c (drop i xs)
   unfolding note_all
-  note-none firsts c h = sym (ap (note_all firsts c) (part_none items to fits i h))
+  note-none firsts c h = sym (ap (note_all firsts c) (left_none xs i h))
 
   -- counted
-  pub part_count : (p : ℕ → Bool) → i < to → count p (part i to items) ≡ bit (p (get_or items i 0)) + count p (part (i + 1) to items)
+  pub count-left : (p : ℕ → Bool) → i < length xs → count p (drop i xs) ≡ bit (p (get_or xs i 0)) + count p (drop (i + 1) xs)
   unfolding count
-  part_count p h = ap (count p) (part-first items to fits i h)
+  count-left p h = ap (count p) (left-first xs i h)
 
-  pub part-ends : (p : ℕ → Bool) → to ≤ i → count p (part i to items) ≡ 0
+  pub count_none : (p : ℕ → Bool) → length xs ≤ i → count p (drop i xs) ≡ 0
   unfolding count
-  part-ends p h = ap (count p) (part_none items to fits i h)
+  count_none p h = ap (count p) (left_none xs i h)
 
 -- Run by run
 pub children-next : (rows : ℕ → List ℕ) (c : ℕ) → note_all (first_children rows c) c (rows c) ≡ first_children rows (c + 1)
 unfolding first_children
 children-next rows c = rw (add-one c)
-
-pub children-start : (rows : ℕ → List ℕ) (k : Kept) → k ≡ kept_in [] → k.items ≡ first_children rows 0
-unfolding first_children kept_in
-children-start rows k e = ap (λ (x : Kept). x.items) e
 
 pub count_turn : (firsts : List ℕ) (rows : ℕ → List ℕ) (m : ℕ) → head_count firsts rows m + 1 - count (is_head firsts m) (rows m) ≡ head_count firsts rows (m + 1)
 unfolding head_count
@@ -58,38 +53,54 @@ unfolding head_count
 count-start firsts rows = refl
 
 -- A table filled place by place
-pub filled_next : (f : ℕ → ℕ) (a : List ℕ) (i v : ℕ) → i < length a → ((k : ℕ) → k < i → get_or a k 0 ≡ f k) → v ≡ f i → (k : ℕ) → k < i + 1 → get_or (set a i v) k 0 ≡ f k
+pub filled_next : (f : ℕ → ℕ) (a : List ℕ) (i v : ℕ) → i < length a → ((k : ℕ) → k < i → get_or a k 0 ≡ f k) → v ≡ f i →
+    (k : ℕ) → k < i + 1 → get_or (set a i v) k 0 ≡ f k
 filled_next f a i v h done e k lt = go (eq_or-not k i)
   where
     go : (k ≡ i) ⊎ (k ≡ i → ⊥) → get_or (set a i v) k 0 ≡ f k
     go (inl z) = rw z (get_or-set_same a i v 0 h ∙ e)
     go (inr z) = get_or-set_other a i k v 0 z ∙ done k (lt_of_ne k i (omega arith) z)
 
--- The last item of a part
-module _ (items : List ℕ) (from to : ℕ) (fits : to ≤ length items) (some : from < to) where
-  part-last : last_in (part from to items) ≡ get_or items (to - 1) 0
-  unfolding last_in part
-  part-last =
-      let n : length (part from to items) ≡ to - from = omega (arith, length_part from to items (omega arith) fits) in
-      let e : from + (to - from - 1) ≡ to - 1 = omega arith in
-      ap (λ (k : ℕ). get_or (part from to items) (k - 1) 0) n ∙ get_or-take (to - from) (drop from items) (to - from - 1) 0 (omega arith) ∙
-      get_or-drop from items (to - from - 1) 0 ∙ ap (λ (k : ℕ). get_or items k 0) e
+-- A test's truth as a number
+pub byte_bit : (b : Bool) → (bool_byte b ≡ bit b) × (bit b ≤ 1)
+byte_bit true = (refl, omega arith)
+byte_bit false = (refl, omega arith)
 
-  pub last-below : (n : ℕ) → below n (part from to items) ≡ true → get_or items (to - 1) 0 < n
-  last-below n b = rw part-last at (go (part from to items) (part-first items to fits from some) b)
-    where
-      go : (ps : List ℕ) → ps ≡ get_or items from 0 ∷ part (from + 1) to items → below n ps ≡ true → last_in ps < n
-      go ps e b = below_at n ps b (last_in ps) (rw e (last_mem (get_or items from 0) (part (from + 1) to items)))
+-- The last parent, if there is one
+pub last_some : (ps : List ℕ) (p : ℕ) → Some p ≡ slice_get ps (length ps - 1) → (last_in ps ≡ p) × (0 < length ps)
+unfolding last_in
+last_some [] p e = cc
+last_some (q ∷ ps) p e = (get_or_from_slice_get (q ∷ ps) (length (q ∷ ps) - 1) p 0 (sym e), omega arith)
 
-  -- The last run that may start at a point, by that item
-  pub highest-is : (whole : ℕ → List ℕ → Bool) →
-      highest_by whole (part from to items) ≡ cond (whole (get_or items (to - 1) 0 + 1) (part from to items)) (get_or items (to - 1) 0 + 1) (get_or items (to - 1) 0)
-  unfolding highest_by
-  highest-is whole = rw (add-one (get_or items (to - 1) 0)) (rw (← part-last) (go (part from to items) (part-first items to fits from some)))
-    where
-      go : (ps : List ℕ) → ps ≡ get_or items from 0 ∷ part (from + 1) to items → highest_by whole ps ≡ cond (whole (suc (last_in ps)) ps) (suc (last_in ps)) (last_in ps)
-      go ps e = rw e
+pub last_none : (ps : List ℕ) → None ≡ slice_get ps (length ps - 1) → length ps ≡ 0
+last_none ps e = go (lt_or_le 0 (length ps))
+  where
+    go : (0 < length ps) ⊎ (length ps ≤ 0) → length ps ≡ 0
+    go (inl lt) = let f : slice_get ps (length ps - 1) ≡ Some (get_or ps (length ps - 1) 0) = slice_get-get_or ps (length ps - 1) 0 (omega arith) in cc
+    go (inr le) = omega arith
 
-pub highest-none : (whole : ℕ → List ℕ → Bool) (items : List ℕ) (from to : ℕ) → to ≤ length items → to ≤ from → 0 ≡ highest_by whole (part from to items)
+pub last-below : (ps : List ℕ) (n : ℕ) → below n ps ≡ true → 0 < length ps → last_in ps < n
+unfolding last_in
+last-below ps n b h = item_below ps (length ps - 1) n b (omega arith)
+
+-- The last run that may start at a point, by that parent
+pub highest-is : (whole : ℕ → List ℕ → Bool) (ps : List ℕ) → 0 < length ps → highest_by whole ps ≡ cond (whole (last_in ps + 1) ps) (last_in ps + 1) (last_in ps)
 unfolding highest_by
-highest-none whole items from to fits h = sym (ap (highest_by whole) (part_none items to fits from h))
+highest-is whole [] h = absurd (omega arith)
+highest-is whole (p ∷ ps) h = rw (add-one (last_in (p ∷ ps)))
+
+pub highest-none : (whole : ℕ → List ℕ → Bool) (ps : List ℕ) → length ps ≡ 0 → 0 ≡ highest_by whole ps
+unfolding highest_by
+highest-none whole [] h = refl
+highest-none whole (p ∷ ps) h = absurd (omega arith)
+
+-- What the loops over a run's parents, and over runs, go by
+pub ruleset noting = (item_below, note-next, note-none)
+
+pub ruleset counting = (item_below, byte_bit, count-left, count_none)
+
+pub ruleset children = (row_below, firsts-length, children-next)
+
+pub ruleset heads_on = (row_below, count_turn, filled_next)
+
+pub ruleset last_parent = (last_some, last_none, last-below, highest-is, highest-none, below_of, below_at)

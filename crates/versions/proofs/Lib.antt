@@ -1,6 +1,8 @@
 -- The laws behind the versions' code.
 -- The concurrency list
 pub mod Flagging
+-- The rows of a graph
+pub mod GraphRows
 pub mod Comparing
 pub mod Passes
 pub mod ConcurrentWays

@@ -1,87 +1,58 @@
 -- The loops of the passes that flag runs, turn by turn. Assumes nothing.
 use mathlib.Core.Path.{◌≡◌, refl, sym, ap, ◌∙◌}
-use mathlib.Core.Bool.{Bool, true, false, not, cond, ◌||◌}
+use mathlib.Core.Bool.{Bool, true, false, cond, ◌||◌}
 use mathlib.Core.List.{List, [], ◌∷◌, map}
 use Prim.Native.Nat.{ℕ, zero, suc, ◌+◌, ◌-◌, ◌<◌, ◌≤◌}
 use native.Mathlib.Nat.{sub-zero}
 use native.Mathlib.Numerals.{add-one}
 use native.Mathlib.Omega.{arith}
-use lib.ListN.{length, get_or, set, get_or-eq_default}
-use lib.Seq.{drop-cons}
+use lib.ListN.{length, get_or, set, take, drop, length-take}
+use lib.Seq.{drop-cons, get_or-take}
+use Rattle.std.proofs.lemmas.List.{drop_all}
+use Rattle.std.proofs.lemmas.List.Recursion.{is_count_by}
+use Rattle.std.specs.List.{list_any, count_by}
 use lib.Dec.{ltb, eqb}
-use borrow.Author.Tests.{le-leb, lt-leb, ltb-true, eq-eqb, ne_eqb}
-use Rattle.lists.specs.Lists.{bit, any, all, filter, from, upto, below}
-use Rattle.lists.specs.Areas.{part}
-use Rattle.lists.proofs.Truth.{and_left, and_right}
+use borrow.Author.Tests.{ltb-true}
+use Rattle.lists.specs.Lists.{bit, any, filter, count, from, upto, below}
+use Rattle.lists.proofs.Members.{all_get_d, filter_agree}
+use Rattle.lists.proofs.Counts.{mem-from}
 use Rattle.lists.proofs.Bounds.{below_of, below_at}
 use Rattle.graph.specs.declared.cut.Put.{Put}
 use Rattle.graph.specs.Cutting.{put, put_all}
 use Rattle.graph.specs.Rows.{row, Rows}
-use Rattle.versions.specs.Flags.{flag_all, flag_parents, flag_down, flagged, flag_child, flag_up, free}
+use Rattle.versions.specs.Flags.{flag_all, flag_parents, flag_down, flag_child, flag_up, free}
 
--- A part of a list, item by item
-module _ (items : List ℕ) (to : ℕ) (fits : to ≤ length items) (i : ℕ) where
-  pub part-first : i < to → part i to items ≡ get_or items i 0 ∷ part (i + 1) to items
-  unfolding part
-  part-first h = let e : to - i ≡ suc (to - suc i) = omega arith in rw (add-one i, e, drop-cons items i 0 (omega arith))
+-- A list, item by item
+module _ (xs : List ℕ) (i : ℕ) where
+  pub left-first : i < length xs → drop i xs ≡ get_or xs i 0 ∷ drop (i + 1) xs
+  left-first h = rw (add-one i, drop-cons xs i 0 h)
 
-  pub part_none : to ≤ i → part i to items ≡ []
-  unfolding part
-  part_none h = let e : to - i ≡ 0 = omega arith in rw e
+  pub left_none : length xs ≤ i → drop i xs ≡ []
+  left_none h = drop_all i xs h
 
-  pub part_here : (n : ℕ) → i < to → below n (part i to items) ≡ true → get_or items i 0 < n
-  unfolding below all
-  part_here n h e = ltb-true (get_or items i 0) n (and_left (ltb (get_or items i 0) n) (below n (part (i + 1) to items)) (sym (ap (below n) (part-first h)) ∙ e))
+  pub item_below : (n : ℕ) → below n xs ≡ true → i < length xs → get_or xs i 0 < n
+  unfolding below
+  item_below n e h = ltb-true (get_or xs i 0) n (all_get_d (λ x. ltb x n) xs i e h)
 
-  pub part-later : (n : ℕ) → i < to → below n (part i to items) ≡ true → below n (part (i + 1) to items) ≡ true
-  unfolding below all
-  part-later n h e = and_right (ltb (get_or items i 0) n) (below n (part (i + 1) to items)) (sym (ap (below n) (part-first h)) ∙ e)
-
-  pub flag_next : (flags : List ℕ) → i < to → flag_all (set flags (get_or items i 0) 1) (part (i + 1) to items) ≡ flag_all flags (part i to items)
+  pub flag_next : (flags : List ℕ) → i < length xs → flag_all (set flags (get_or xs i 0) 1) (drop (i + 1) xs) ≡ flag_all flags (drop i xs)
   unfolding flag_all
-  flag_next flags h = sym (ap (flag_all flags) (part-first h))
+  flag_next flags h = sym (ap (flag_all flags) (left-first h))
 
-  pub flag_none : (flags : List ℕ) → to ≤ i → flags ≡ flag_all flags (part i to items)
+  pub flag_none : (flags : List ℕ) → length xs ≤ i → flags ≡ flag_all flags (drop i xs)
   unfolding flag_all
-  flag_none flags h = sym (ap (flag_all flags) (part_none h))
+  flag_none flags h = sym (ap (flag_all flags) (left_none h))
 
-  pub any_next : (p : ℕ → Bool) → i < to → any p (part i to items) ≡ p (get_or items i 0) || any p (part (i + 1) to items)
-  unfolding any
-  any_next p h = ap (any p) (part-first h)
-
-  pub any_none : (p : ℕ → Bool) → to ≤ i → any p (part i to items) ≡ false
-  unfolding any
-  any_none p h = ap (any p) (part_none h)
+-- Whether a test passes somewhere, in std's word
+pub any_is : (p : ℕ → Bool) (xs : List ℕ) → any p xs ≡ list_any p xs
+unfolding any
+any_is p [] = refl
+any_is p (x ∷ xs) = ap (λ (t : Bool). p x || t) (any_is p xs)
 
 -- A row's numbers are runs
-pub row_below : (starts items : List ℕ) (n m r : ℕ) → Rows starts items n → r < n → n ≤ m →
-    below m (part (get_or starts r 0) (get_or starts (r + 1) 0) items) ≡ true
-unfolding row
-row_below starts items n m r rows h le = below_of m _ (λ x k. omega (arith, below_at r (part (get_or starts r 0) (get_or starts (r + 1) 0) items) (rows.low r h) x k))
-
--- Whether a number is flagged
-pub flagged-low : (flags : List ℕ) (r p : ℕ) → p < r → false ≡ flagged flags r p
-unfolding flagged
-flagged-low flags r p h = rw (lt-leb r p h)
-
-pub flagged-out : (flags : List ℕ) (r p : ℕ) → r ≤ p → length flags ≤ p → false ≡ flagged flags r p
-unfolding flagged
-flagged-out flags r p h o = rw (le-leb r p h, get_or-eq_default flags 0 o)
-
-pub flagged-is : (flags : List ℕ) (r p : ℕ) → r ≤ p → not (eqb (get_or flags p 0) 0) ≡ flagged flags r p
-unfolding flagged
-flagged-is flags r p h = rw (le-leb r p h)
+pub row_below : (starts items : List ℕ) (n m r : ℕ) → Rows starts items n → r < n → r ≤ m → below m (row starts items r) ≡ true
+row_below starts items n m r rows h le = below_of m (row starts items r) (λ x k. omega (arith, below_at r (row starts items r) (rows.low r h) x k))
 
 module _ (rows : ℕ → List ℕ) where
-  -- A run that is flagged, and one that is not
-  pub parents-none : (flags : List ℕ) (c : ℕ) → get_or flags c 0 ≡ 0 → flags ≡ flag_parents rows flags c
-  unfolding flag_parents
-  parents-none flags c e = rw (eq-eqb (get_or flags c 0) 0 e)
-
-  pub parents-all : (flags : List ℕ) (c : ℕ) → (get_or flags c 0 ≡ 0 → ⊥) → flag_all flags (rows c) ≡ flag_parents rows flags c
-  unfolding flag_parents
-  parents-all flags c n = rw (ne_eqb (get_or flags c 0) 0 n)
-
   -- The way down
   pub down_next : (flags : List ℕ) (c : ℕ) → 0 < c → flag_down rows (flag_parents rows flags (c - 1)) (c - 1) ≡ flag_down rows flags c
   unfolding flag_down
@@ -119,12 +90,40 @@ unfolding free_from filter from
 free-none flags q n h = let e : n - q ≡ 0 = omega arith in rw e
 
 -- counted
-pub count_next : (flags : List ℕ) (q n : ℕ) → q < n → bit (eqb (get_or flags q 0) 0) + length (free_from flags (q + 1) n) ≡ length (free_from flags q n)
-count_next flags q n h = go (eqb (get_or flags q 0) 0) ∙ sym (ap length (free-next flags q n h))
+count_is : (p : ℕ → Bool) (xs : List ℕ) → count p xs ≡ count_by p xs
+unfolding count
+count_is p xs = is_count_by (count p) p refl (λ x ys. go (p x) ys) xs
   where
-    go : (t : Bool) → bit t + length (free_from flags (q + 1) n) ≡ length (cond t (q ∷ free_from flags (q + 1) n) (free_from flags (q + 1) n))
-    go true = omega arith
-    go false = omega arith
+    go : (t : Bool) (ys : List ℕ) → bit t + count p ys ≡ cond t (1 + count p ys) (count p ys)
+    go true ys = refl
+    go false ys = omega arith
+
+count_left : (flags : List ℕ) (k q : ℕ) → k + q ≡ length flags → count (λ f. eqb f 0) (drop q flags) ≡ length (free_from flags q (length flags))
+unfolding count
+count_left flags zero q e = rw (left_none flags q (omega arith), free-none flags q (length flags) (omega arith))
+count_left flags (suc k) q e =
+    let lt : q < length flags = omega arith in
+    rw (left-first flags q lt, free-next flags q (length flags) lt) (go (eqb (get_or flags q 0) 0) (count_left flags k (q + 1) (omega arith)))
+  where
+    go : (t : Bool) → count (λ f. eqb f 0) (drop (q + 1) flags) ≡ length (free_from flags (q + 1) (length flags)) →
+        bit t + count (λ f. eqb f 0) (drop (q + 1) flags) ≡ length (cond t (q ∷ free_from flags (q + 1) (length flags)) (free_from flags (q + 1) (length flags)))
+    go true h = omega arith
+    go false h = omega arith
+
+count_free : (flags : List ℕ) → count_by (λ f. eqb f 0) flags ≡ length (free flags (length flags))
+count_free flags = sym (count_is (λ f. eqb f 0) flags) ∙ count_left flags (length flags) 0 (omega arith) ∙ ap length (free-start flags (length flags))
+
+-- of as many flags as there are runs
+module _ (flags : List ℕ) (n : ℕ) (fits : n ≤ length flags) where
+  pub free_part : free (take n flags) (length (take n flags)) ≡ free flags n
+  unfolding free upto
+  free_part =
+      let long : length (take n flags) ≡ n = omega (arith, length-take n flags) in
+      rw long (filter_agree (λ q. eqb (get_or (take n flags) q 0) 0) (λ q. eqb (get_or flags q 0) 0) (from 0 n) (λ q m.
+      ap (λ (f : ℕ). eqb f 0) (get_or-take n flags q 0 (omega (arith, (mem-from q 0 n m).1)))))
+
+  pub free_counted : count_by (λ f. eqb f 0) (take n flags) ≡ length (free flags n)
+  free_counted = count_free (take n flags) ∙ ap length free_part
 
 -- and written
 pub free-put : (flags : List ℕ) (q n : ℕ) (w : Put × List ℕ) → q < n →
@@ -140,3 +139,8 @@ free-put flags q n w h = go (eqb (get_or flags q 0) 0) ∙ sym (ap (λ (l : List
 pub free-written : (flags : List ℕ) (q n : ℕ) (w : Put × List ℕ) → n ≤ q → w ≡ put_all 1 w (map (λ p. p ∷ []) (free_from flags q n))
 unfolding put_all
 free-written flags q n w h = sym (ap (λ (l : List ℕ). put_all 1 w (map (λ p. p ∷ []) l)) (free-none flags q n h))
+
+-- What the loops that flag runs, and that write those without a flag, go by
+pub ruleset flagging = (item_below, flag_next, flag_none)
+
+pub ruleset freeing = (free-put, free-written, free-start)

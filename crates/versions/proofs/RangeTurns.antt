@@ -1,26 +1,23 @@
--- The loops behind the wanted parents, turn by turn, and the ways out of the tests. Assumes nothing.
+-- The loops behind the wanted parents, turn by turn, and whether words are ranges. Assumes nothing.
 use mathlib.Core.Path.{◌≡◌, refl, sym, ap, ◌∙◌}
 use mathlib.Core.Logic.{◌⊎◌, inl, inr}
 use mathlib.Core.Bool.{Bool, true, false, cond}
 use mathlib.Core.List.{List, [], ◌∷◌, ◌++◌, map}
-use Prim.Native.Nat.{ℕ, zero, suc, ◌+◌, ◌-◌, ◌%◌, ◌≤◌, ◌<◌, min}
+use Prim.Native.Nat.{ℕ, zero, suc, ◌+◌, ◌-◌, ◌≤◌, ◌<◌}
 use native.Mathlib.Numerals.{add-one}
 use native.Mathlib.Omega.{arith}
-use lib.ListN.{length, get_or, take, length-append, get_or-eq_default}
-use lib.Seq.{take-length}
-use lib.Dec.{leb, eqb}
-use borrow.Author.Tests.{le-leb, lt-leb, eq-eqb, ne_eqb}
-use Rattle.lists.specs.declared.Kept.{Kept}
+use lib.ListN.{length, get_or, take, drop, length-append}
+use lib.Seq.{get_or-take, get_or-drop}
+use lib.Dec.{eqb}
 use Rattle.lists.specs.Lists.{all, filter, from, upto, rising}
-use Rattle.lists.specs.Scans.{kept_in, kept, add_if}
 use Rattle.lists.proofs.Truth.{lt_or_le, false_true, not_so, and_false, and_true}
 use Rattle.lists.proofs.Members.{all-at, all_both}
 use Rattle.lists.proofs.Counts.{upto-mem, upto_snoc}
-use Rattle.lists.proofs.Keeping.{add_if_kept, filter_snoc}
+use Rattle.lists.proofs.Keeping.{filter_snoc}
 use Rattle.model.specs.Wanted.{ranges}
 use Rattle.versions.specs.Flags.{flag_all}
-use Rattle.versions.specs.Ranges.{is_odd, place_of, words_within, clear_at, end_at, clear_in, end_in, flag_marked, is_top, tops, Starts}
-use Rattle.versions.proofs.RangeWords.{paired_even, word_le, le_word, place_most, place_mono}
+use Rattle.versions.specs.Ranges.{is_odd, place_of, clear_at, end_at, clear_in, end_in, flag_marked, is_top, tops, Starts}
+use Rattle.versions.proofs.RangeWords.{ranges_even, paired_even, word_le, le_word, place_most, place_mono}
 
 -- The words' place, one word on
 module _ (ws : List ℕ) (rises : rising ws ≡ true) (e k : ℕ) where
@@ -34,8 +31,14 @@ module _ (ws : List ℕ) (rises : rising ws ≡ true) (e k : ℕ) where
   pub place_on : k < length ws → get_or ws k 0 ≤ e → k + 1 ≤ place_of ws e
   place_on lt h = omega (arith, le_word ws rises k e lt h)
 
-  pub place_end : k ≤ place_of ws e → length ws ≤ k → k ≡ place_of ws e
+  pub place_end : k ≤ place_of ws e → length ws ≤ k → length ws ≡ place_of ws e
   place_end h q = omega (arith, place_most ws rises e)
+
+-- The start after the n-th, as the loop over neighbours has it
+pub next_start : (starts : List ℕ) (n : ℕ) → n < length starts - 1 → get_or (take (length starts - 1) (drop 1 starts)) n 0 ≡ get_or starts (n + 1) 0
+next_start starts n lt =
+    let e : 1 + n ≡ n + 1 = omega arith in
+    get_or-take (length starts - 1) (drop 1 starts) n 0 lt ∙ get_or-drop 1 starts n 0 ∙ ap (λ (k : ℕ). get_or starts k 0) e
 
 -- From one run's start to the next
 pub place-next : (ws : List ℕ) → rising ws ≡ true → (starts : List ℕ) (n r k : ℕ) → Starts starts n → r < n → k ≡ place_of ws (get_or starts r 0) →
@@ -53,53 +56,15 @@ module _ (starts ws : List ℕ) (r k : ℕ) where
   unfolding end_in
   end_turn v e f = f ∙ rw (e, add-one r)
 
--- The ways out of the tests of words
+-- Whether words are ranges
 module _ (ws : List ℕ) where
   pub ranges_odd : is_odd (length ws) ≡ true → false ≡ ranges ws
   unfolding ranges
   ranges_odd h = sym (rw (paired_even ws, h) (and_false (rising ws)))
 
-  pub ranges-is : is_odd (length ws) ≡ false → (b : Bool) → b ≡ rising (take (length ws) ws) → b ≡ ranges ws
+  pub ranges-is : is_odd (length ws) ≡ false → (b : Bool) → b ≡ rising ws → b ≡ ranges ws
   unfolding ranges
-  ranges-is h b e = e ∙ rw (take-length, paired_even ws, h) (sym (and_true (rising ws)))
-
-  module _ (first end : ℕ) where
-    pub within_none : length ws ≡ 0 → true ≡ words_within first end ws
-    unfolding words_within
-    within_none h = rw (eq-eqb (length ws) 0 h)
-
-    pub within_low : (length ws ≡ 0 → ⊥) → get_or ws 0 0 < first → false ≡ words_within first end ws
-    unfolding words_within
-    within_low h k = rw (ne_eqb (length ws) 0 h, lt-leb first (get_or ws 0 0) k)
-
-    pub within-is : (length ws ≡ 0 → ⊥) → first ≤ get_or ws 0 0 → leb (get_or ws (length ws - 1) 0) end ≡ words_within first end ws
-    unfolding words_within
-    within-is h k = rw (ne_eqb (length ws) 0 h, le-leb first (get_or ws 0 0) k)
-
-  module _ (k end : ℕ) where
-    pub clear_end : length ws ≤ k + k % 2 → true ≡ clear_at ws k end
-    unfolding clear_at
-    clear_end h = rw (le-leb (length ws) (k + k % 2) h)
-
-    pub clear_is : k + k % 2 < length ws → leb end (get_or ws (k + k % 2) 0) ≡ clear_at ws k end
-    unfolding clear_at
-    clear_is h = rw (lt-leb (length ws) (k + k % 2) h)
-
-    pub end_even : is_odd k ≡ false → 0 ≡ end_at ws k end
-    unfolding end_at
-    end_even h = rw h
-
-    pub end_past : length ws ≤ k → 0 ≡ end_at ws k end
-    unfolding end_at
-    end_past h = rw (get_or-eq_default ws 0 h) (go (is_odd k))
-      where
-        go : (t : Bool) → 0 ≡ cond t (min 0 end) 0
-        go true = omega arith
-        go false = refl
-
-    pub end_is : is_odd k ≡ true → (v : ℕ) → v ≡ min (get_or ws k 0) end → v ≡ end_at ws k end
-    unfolding end_at
-    end_is h v e = rw h e
+  ranges-is h b e = e ∙ rw (paired_even ws, h) (sym (and_true (rising ws)))
 
 -- A test of the numbers below a bound, one by one
 module _ (p : ℕ → Bool) where
@@ -116,10 +81,6 @@ module _ (p : ℕ → Bool) where
 
 -- Flags, run by run
 module _ (rows : ℕ → List ℕ) (ends : List ℕ) where
-  pub flags_start : (k : Kept) → k ≡ kept_in [] → k.items ≡ flag_marked rows ends 0
-  unfolding flag_marked kept_in
-  flags_start k e = ap (λ (x : Kept). x.items) e
-
   pub flags_next : (r : ℕ) → cond (eqb (get_or ends r 0) 0) (flag_marked rows ends r) (flag_all (flag_marked rows ends r) (rows r)) ≡ flag_marked rows ends (r + 1)
   unfolding flag_marked
   flags_next r = rw (add-one r)
@@ -150,11 +111,20 @@ module _ (flags ends : List ℕ) where
       go true h = simp length-append (omega arith)
       go false h = omega arith
 
-  pub tops_start : (k : Kept) → k ≡ kept_in [] → kept k.items 0 ≡ kept_in (tops flags ends 0)
-  unfolding kept_in tops upto from filter
-  tops_start k e = ap (λ (x : Kept). kept x.items 0) e
+  pub tops_start : [] ≡ tops flags ends 0
+  unfolding tops upto from filter
+  tops_start = refl
 
-  pub tops_turn : (r : ℕ) (k : Kept) (t : Bool) (v : ℕ) → r < 512 → t ≡ is_top flags ends r → v ≡ get_or ends r 0 - 1 → k ≡ kept_in (tops flags ends r) →
-      add_if t k v ≡ kept_in (tops flags ends (r + 1))
+  pub tops_turn : (r : ℕ) (found : List ℕ) (t : Bool) (v : ℕ) → t ≡ is_top flags ends r → v ≡ get_or ends r 0 - 1 → found ≡ tops flags ends r →
+      cond t (found ++ v ∷ []) found ≡ tops flags ends (r + 1)
   unfolding last_of
-  tops_turn r k t v lt e f q = rw (q, e, f, add-one r, tops_next r) (add_if_kept (is_top flags ends r) (tops flags ends r) (get_or ends r 0 - 1) (omega (arith, tops-few r)))
+  tops_turn r found t v e f q = rw (q, e, f, add-one r, tops_next r)
+
+-- What the loops over words and over runs go by
+pub ruleset placing = (ranges_even, place_here, place_on, place_end)
+
+pub ruleset pairing = (ranges_odd, ranges-is)
+
+pub ruleset testing = (all_start, all-next, all_stop)
+
+pub ruleset topping = (tops_start, tops-few, tops_turn)

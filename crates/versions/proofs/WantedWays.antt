@@ -1,16 +1,17 @@
 -- Each way out of the wanted parents is what their definition says. Assumes nothing.
 use mathlib.Core.Path.{◌≡◌, refl, sym, ap, ◌∙◌}
-use mathlib.Core.Bool.{true, false}
+use mathlib.Core.Bool.{true, false, not, ◌&&◌, ◌||◌}
 use mathlib.Core.List.{List, [], ◌∷◌, map}
-use Prim.Native.Nat.{ℕ, suc, ◌≤◌, ◌<◌}
+use Prim.Native.Nat.{ℕ, suc, ◌+◌, ◌-◌, ◌≤◌, ◌<◌}
 use native.Mathlib.Omega.{arith}
-use lib.ListN.{length, get_or, take}
+use lib.ListN.{length, get_or, take, length-take}
+use lib.Seq.{get_or-take}
+use lib.Dec.{eqb}
 use borrow.Author.Tests.{lt-ltb, le-ltb}
-use Rattle.lists.specs.Lists.{all, upto}
-use Rattle.lists.specs.Scans.{kept_in}
-use Rattle.lists.specs.declared.Kept.{Kept}
+use Rattle.lists.specs.Lists.{all, upto, mem}
 use Rattle.lists.proofs.Truth.{false_true, not_so}
-use Rattle.lists.proofs.Keeping.{kept_list, kept-count}
+use Rattle.lists.proofs.Members.{all_same, filter_agree}
+use Rattle.lists.proofs.Counts.{mem-from}
 use Rattle.model.specs.declared.record.CausalGraph.{CausalGraph}
 use Rattle.model.specs.declared.answers.Refusal.{Refusal}
 use Rattle.model.specs.declared.answers.Refusal.TheVariants.{Broken, NotRising, UnknownEvent, NoSuchParents, ListTooShort}
@@ -27,27 +28,55 @@ use Rattle.model.proofs.Stored.{not-broken}
 use Rattle.model.proofs.FormedReads.{start_mono}
 use Rattle.graph.specs.declared.cut.Put.{Put}
 use Rattle.graph.specs.Cutting.{blank, put_all, written_of}
-use Rattle.graph.specs.Rows.{row}
 use Rattle.graph.proofs.Views.{facts, runs-view, start-view, first-view, len-view}
 use Rattle.graph.proofs.Writing.{words_fit}
-use Rattle.graph.proofs.Entries.{row-view}
-use Rattle.versions.specs.Ranges.{words_within, clear_in, Ends, flag_marked, marked_whole, tops, Starts}
+use Rattle.versions.specs.Ranges.{words_within, clear_in, Ends, flag_marked, marked_whole, is_top, tops, Starts}
 use Rattle.versions.proofs.RangeWords.{held-within}
 use Rattle.versions.proofs.MarkedRuns.{closed_clear, closed-runs, tops_are}
 use Rattle.std.specs.Prelude.{Ok, Err}
 
--- The starts of a record's runs
-pub starts_of : (g : CausalGraph) → Held g → Starts g.starts g.run_count
-starts_of g held = record {
-  few = (facts g held).runs;
-  fits = omega (arith, (facts g held).runs, (facts g held).sized.starts);
-  climb = λ r lt. omega (
-    arith,
-    start-view g held r (omega arith),
-    start-view g held (suc r) lt,
-    start_mono (view g) held.formed r (suc r) (omega arith) (omega (arith, runs-view g held)),
-  );
-}
+-- The starts of a record's runs, and its length
+abbrev pub starts_in : CausalGraph → List ℕ
+starts_in g = take (g.run_count + 1) g.starts
+
+module _ (g : CausalGraph) (held : Held g) where
+  pub starts_long : length (starts_in g) ≡ g.run_count + 1
+  starts_long = omega (arith, length-take (g.run_count + 1) g.starts, (facts g held).runs, (facts g held).sized.starts)
+
+  pub starts_at : (r : ℕ) → r ≤ g.run_count → get_or (starts_in g) r 0 ≡ start (view g) r
+  starts_at r le = get_or-take (g.run_count + 1) g.starts r 0 (omega arith) ∙ sym (start-view g held r le)
+
+  pub starts_of : Starts (starts_in g) (length (starts_in g) - 1)
+  starts_of =
+      let n : length (starts_in g) - 1 ≡ g.run_count = omega (arith, starts_long) in
+      rw n (record {
+        few = (facts g held).runs;
+        fits = omega (arith, starts_long);
+        climb = λ r lt. omega (
+          arith,
+          starts_at r (omega arith),
+          starts_at (suc r) lt,
+          start_mono (view g) held.formed r (suc r) (omega arith) (omega (arith, runs-view g held)),
+        );
+      })
+
+-- What is read of flags, of n runs, is the same of other flags that agree below n
+module _ (flags fs ends starts : List ℕ) (n : ℕ) (agree : (r : ℕ) → r < n → get_or flags r 0 ≡ get_or fs r 0) where
+  below-n : (r : ℕ) → mem r (upto n) ≡ true → get_or flags r 0 ≡ get_or fs r 0
+  unfolding upto
+  below-n r m = agree r (omega (arith, (mem-from r 0 n m).1))
+
+  whole-same : all (marked_whole flags ends starts) (upto n) ≡ all (marked_whole fs ends starts) (upto n)
+  unfolding marked_whole
+  whole-same =
+      all_same (marked_whole flags ends starts) (marked_whole fs ends starts) (upto n) (λ r m.
+      ap (λ (f : ℕ). eqb f 0 || eqb (get_or ends r 0) (get_or starts (suc r) 0)) (below-n r m))
+
+  tops_same : tops flags ends n ≡ tops fs ends n
+  unfolding tops is_top
+  tops_same =
+      ap (map (λ r. get_or ends r 0 - 1)) (filter_agree (is_top flags ends) (is_top fs ends) (upto n) (λ r m.
+      ap (λ (f : ℕ). not (eqb (get_or ends r 0) 0) && eqb f 0) (below-n r m)))
 
 module _ (g : CausalGraph) (ws lent : List ℕ) where
   -- Refused
@@ -85,68 +114,82 @@ module _ (g : CausalGraph) (ws lent : List ℕ) where
         unfolding wanted_outcome first_of
         no_parents e = wanted_refused NoSuchParents (rw (not-broken g held, words, marked, e))
 
-        same : (r : ℕ) → r ≤ runs G → get_or g.starts r 0 ≡ start G r
-        same r le = sym (start-view g held r (omega (arith, runs-view g held)))
+        abbrev starts : List ℕ
+        starts = starts_in g
+
+        same : (r : ℕ) → r ≤ runs G → get_or starts r 0 ≡ start G r
+        same r le = starts_at g held r (omega (arith, runs-view g held))
+
+        runs_are : length starts - 1 ≡ runs G
+        runs_are = omega (arith, starts_long g held, runs-view g held)
 
         -- 17, a range begins inside a run
-        pub wanted_inside : all (clear_in g.starts ws) (upto n) ≡ false →
+        pub wanted_inside : all (clear_in starts ws) (upto (length starts - 1)) ≡ false →
             (record { count = 0; outcome = Err NoSuchParents }, lent) ≡ wanted_parents_of g ws lent
         wanted_inside e = no_parents (not_so (closed (held_events G) (events_in ws)) (λ k.
-            false_true (sym e ∙ ap (λ (m : ℕ). all (clear_in g.starts ws) (upto m)) (sym (runs-view g held)) ∙ closed_clear G held.formed g.starts same ws words marked k)))
+            false_true (sym e ∙ ap (λ (m : ℕ). all (clear_in starts ws) (upto m)) runs_are ∙ closed_clear G held.formed starts same ws words marked k)))
 
-        module _ (clear : all (clear_in g.starts ws) (upto n) ≡ true) (ends : List ℕ) (filled : Ends g.starts ws n ends)
-            (flags : List ℕ) (flagged : flags ≡ flag_marked (row g.parent_starts g.parents) ends n) where
-          rows : ℕ → List ℕ
-          rows = row g.parent_starts g.parents
+        -- The ends and the flags of as many runs as there are, out of longer lists
+        module _ (clear : all (clear_in starts ws) (upto (length starts - 1)) ≡ true)
+            (all_ends : List ℕ) (filled : Ends starts ws (length starts - 1) all_ends) (long : n ≤ length all_ends)
+            (rows : ℕ → List ℕ) (each : (r : ℕ) → r < n → rows r ≡ at G.parents r)
+            (all_flags : List ℕ) (flagged : all_flags ≡ flag_marked rows (take n all_ends) (length (take n all_ends))) where
+          abbrev ends : List ℕ
+          ends = take n all_ends
+
+          abbrev flags : List ℕ
+          flags = take n all_flags
 
           agree : (r : ℕ) → r < runs G → rows r ≡ at G.parents r
-          unfolding rows
-          agree r lt = row-view g held r (omega (arith, runs-view g held))
+          agree r lt = each r (omega (arith, runs-view g held))
 
-          clear_all : all (clear_in g.starts ws) (upto (runs G)) ≡ true
-          clear_all = rw (runs-view g held) clear
+          clear_all : all (clear_in starts ws) (upto (runs G)) ≡ true
+          clear_all = rw runs_are at clear
 
           few : runs G ≤ 512
           few = omega (arith, (facts g held).runs, runs-view g held)
 
-          filled_all : Ends g.starts ws (runs G) ends
-          filled_all r lt = filled r (omega (arith, runs-view g held))
+          filled_all : Ends starts ws (runs G) ends
+          filled_all r lt = get_or-take n all_ends r 0 (omega (arith, runs-view g held)) ∙ filled r (omega (arith, runs_are))
 
-          whole_is : closed (held_events G) (events_in ws) ≡ all (marked_whole flags ends g.starts) (upto n)
-          unfolding rows
+          long_ends : length ends ≡ runs G
+          long_ends = omega (arith, length-take n all_ends, runs-view g held)
+
+          told : (r : ℕ) → r < runs G → get_or flags r 0 ≡ get_or (flag_marked rows ends (runs G)) r 0
+          told r lt = get_or-take n all_flags r 0 (omega (arith, runs-view g held)) ∙ ap (λ (fs : List ℕ). get_or fs r 0) (flagged ∙ ap (flag_marked rows ends) long_ends)
+
+          whole_is : closed (held_events G) (events_in ws) ≡ all (marked_whole flags ends starts) (upto (length ends))
           whole_is =
-              closed-runs G held.formed g.starts same ws words marked clear_all few rows agree ends filled_all ∙
-              ap (λ (m : ℕ). all (marked_whole (flag_marked rows ends m) ends g.starts) (upto m)) (runs-view g held) ∙
-              ap (λ (fs : List ℕ). all (marked_whole fs ends g.starts) (upto n)) (sym flagged)
+              closed-runs G held.formed starts same ws words marked clear_all few rows agree ends filled_all ∙
+              sym (whole-same flags (flag_marked rows ends (runs G)) ends starts (runs G) told) ∙
+              ap (λ (m : ℕ). all (marked_whole flags ends starts) (upto m)) (sym long_ends)
 
           -- 17, a parent run of a run with marked events is not marked whole
-          pub wanted_parted : all (marked_whole flags ends g.starts) (upto n) ≡ false →
+          pub wanted_parted : all (marked_whole flags ends starts) (upto (length ends)) ≡ false →
               (record { count = 0; outcome = Err NoSuchParents }, lent) ≡ wanted_parents_of g ws lent
           wanted_parted e = no_parents (whole_is ∙ e)
 
-          module _ (whole : all (marked_whole flags ends g.starts) (upto n) ≡ true) (k : Kept) (found : k ≡ kept_in (tops flags ends n)) where
-            are : tops flags ends n ≡ wanted_parents G ws
-            unfolding rows
+          module _ (whole : all (marked_whole flags ends starts) (upto (length ends)) ≡ true) (tops_found : List ℕ) (found : tops_found ≡ tops flags ends (length ends)) where
+            are : tops flags ends (length ends) ≡ wanted_parents G ws
             are =
-                ap (λ (fs : List ℕ). tops fs ends n) flagged ∙ ap (λ (m : ℕ). tops (flag_marked rows ends m) ends m) (sym (runs-view g held)) ∙
-                tops_are G held.formed g.starts same ws words marked clear_all few rows agree ends filled_all (whole_is ∙ whole)
+                ap (tops flags ends) long_ends ∙ tops_same flags (flag_marked rows ends (runs G)) ends starts (runs G) told ∙
+                tops_are G held.formed starts same ws words marked clear_all few rows agree ends filled_all (whole_is ∙ whole)
 
-            count-is : k.count ≡ length (wanted_parents G ws)
-            count-is = kept-count k (tops flags ends n) found ∙ ap length are
+            count-is : length tops_found ≡ length (wanted_parents G ws)
+            count-is = ap length (found ∙ are)
 
-            pub wanted_short : length lent < k.count → (record { count = 0; outcome = Err ListTooShort }, lent) ≡ wanted_parents_of g ws lent
+            pub wanted_short : length lent < length tops_found → (record { count = 0; outcome = Err ListTooShort }, lent) ≡ wanted_parents_of g ws lent
             unfolding wanted_outcome first_of
             wanted_short lt =
                 wanted_refused ListTooShort
                 (rw (not-broken g held, words, marked, whole_is, whole, lt-ltb (length lent) (length (wanted_parents G ws)) (omega (arith, count-is))))
 
             -- Done
-            pub wanted_done : k.count ≤ length lent → (p : Put) (l : List ℕ) →
-                (p, l) ≡ put_all 1 (blank, lent) (map (λ x. x ∷ []) (take k.count k.items)) → (written_of p, l) ≡ wanted_parents_of g ws lent
+            pub wanted_done : length tops_found ≤ length lent → (p : Put) (l : List ℕ) →
+                (p, l) ≡ put_all 1 (blank, lent) (map (λ x. x ∷ []) tops_found) → (written_of p, l) ≡ wanted_parents_of g ws lent
             unfolding wanted_parents_of wanted_outcome first_of
             wanted_done le p l e =
                 let done : wanted_outcome g ws lent ≡ (Ok tt) =
                 rw (not-broken g held, words, marked, whole_is, whole, le-ltb (length lent) (length (wanted_parents G ws)) (omega (arith, count-is))) in
-                let listed : take k.count k.items ≡ wanted_parents G ws = kept_list k (tops flags ends n) found ∙ are in
-                words_fit (wanted_parents G ws) lent p l (omega (arith, count-is)) (e ∙ ap (λ (xs : List ℕ). put_all 1 (blank, lent) (map (λ x. x ∷ []) xs)) listed) ∙
+                words_fit (wanted_parents G ws) lent p l (omega (arith, count-is)) (e ∙ ap (λ (xs : List ℕ). put_all 1 (blank, lent) (map (λ x. x ∷ []) xs)) (found ∙ are)) ∙
                 rw (done, wanted_parents_of) refl

@@ -1,181 +1,120 @@
 // The runs that are concurrent with a run, into a lent list.
-ghost use Rattle.std.specs.Prelude.{◌≡◌, true, cond, [], ◌∷◌, map, ◌-◌, ◌≤◌, ◌<◌, length, eqb};
-ghost use Rattle.lists.specs.Lists.{bit, any, below};
-ghost use Rattle.lists.specs.Areas.{part};
+ghost use Rattle.std.specs.Prelude.{◌≡◌, ◌==◌, true, cond, [], ◌∷◌, map, ◌-◌, ◌≤◌, ◌<◌, length, count_by, eqb};
+ghost use Rattle.std.specs.List.{list_any};
+ghost use Rattle.lists.specs.Lists.{below};
 ghost use Rattle.model.specs.Limits.{max_runs};
 ghost use Rattle.model.specs.Record.{view};
 ghost use Rattle.model.specs.Broken.{Held};
 ghost use Rattle.model.specs.Beside.{concurrency_list_of};
 ghost use Rattle.graph.specs.Cutting.{blank, put, put_all};
-ghost use Rattle.graph.specs.Rows.{row, Rows};
+ghost use Rattle.versions.specs.Parents.{parents_in, runs_in};
 ghost use Rattle.versions.specs.Flags.{flag_all, flag_parents, flag_down, flagged, flag_child, flag_up, free, Flags};
 
+use crate::rows::ParentRows;
 use crate::words::put_one;
 use graph::cut::Put;
 use model::{CausalGraph, EventRunIndex, MAX_RUNS, Refusal, Written};
 
-// Flags the numbers of a part of a list.
-pub(crate) fn flag_part(flags: &mut [u32], items: &[u32], from: usize, to: usize)
-    requires to_in_bounds { to ≤ length items.now }
-    requires value { below (length flags.old) (part from to items.now) ≡ true }
-    ensures { flags.new ≡ flag_all flags.old (part from to items.now) }
+// Flags some runs.
+#[tactic(auto, using(crate::proofs::Passes::flagging))]
+pub(crate) fn flag_all(flags: &mut [u32], runs: &[u32])
+    requires { below (length flags.old) runs.now ≡ true }
+    ensures { flags.new ≡ flag_all flags.old runs.now }
 {
-    let mut i = from;
-    while i < to {
-        flags[items[i] as usize] = 1;
-        i += 1;
+    for p in runs {
+        flags[*p as usize] = 1;
     }
 }
 
 // The parents of a run are flagged if it is.
-fn flag_parents<'a>(
-    flags: &mut [u32],
-    starts: &'a [u32],
-    items: &'a [u32],
-    n: usize,
-    run: EventRunIndex,
-)
-    requires rows { Rows starts.now items.now n }
-    requires n_in_bounds { n ≤ length flags.old }
-    requires run_lt_n { run.0 < n }
-    ensures { flags.new ≡ flag_parents (row starts.now items.now) flags.old run.0 }
+#[tactic(auto, using(crate::proofs::Passes::row_below), unfolding(crate::specs::Flags::flag_parents))]
+fn flag_parents(flags: &mut [u32; MAX_RUNS], parents: ParentRows, run: EventRunIndex)
+    requires { run.0 < runs_in parents }
+    ensures { flags.new ≡ flag_parents (parents_in parents.entry) flags.old run.0 }
 {
-    let at = run.0 as usize;
-    if flags[at] == 0 {
+    if flags[run.0 as usize] == 0 {
         return;
     }
-    flag_part(flags, items, starts[at] as usize, starts[at + 1] as usize)
+    flag_all(flags, parents.of(run))
 }
 
 // The same of the runs before `end`, from the last down.
-fn flag_down<'a>(
-    flags: &mut [u32],
-    starts: &'a [u32],
-    items: &'a [u32],
-    n: usize,
-    end: EventRunIndex,
-)
-    requires rows { Rows starts.now items.now n }
-    requires n_in_bounds { n ≤ length flags.old }
-    requires end_le_n { end.0 ≤ n }
-    ensures { flags.new ≡ flag_down (row starts.now items.now) flags.old end.0 }
+#[tactic(auto, using(crate::proofs::Passes::down_next, crate::proofs::Passes::down_none))]
+fn flag_down(flags: &mut [u32; MAX_RUNS], parents: ParentRows, end: EventRunIndex)
+    requires { end.0 ≤ runs_in parents }
+    ensures { flags.new ≡ flag_down (parents_in parents.entry) flags.old end.0 }
 {
-    let mut c = end.0;
-    while 0 < c {
-        c -= 1;
-        flag_parents(flags, starts, items, n, EventRunIndex(c));
+    for c in (0..end.0).rev() {
+        flag_parents(flags, parents, EventRunIndex(c));
     }
 }
 
 // Whether a number is at least `run` and flagged.
+#[tactic(auto, using(std::proofs::lemmas::Option::gets), unfolding(crate::specs::Flags::flagged))]
 fn is_flagged(flags: &[u32], run: EventRunIndex, p: EventRunIndex) -> bool
     ensures { result ≡ flagged flags.now run.0 p.0 }
 {
-    if p.0 < run.0 {
-        return false;
-    }
-    let at = p.0 as usize;
-    if flags.len() <= at {
-        return false;
-    }
-    flags[at] != 0
+    run.0 <= p.0 && flags.get(p.0 as usize).copied().unwrap_or(0) != 0
 }
 
-// 1 if such a number stands in a part of a list, 0 if none does.
-fn flag_of(flags: &[u32], run: EventRunIndex, items: &[u32], from: usize, to: usize) -> u32
-    requires { to ≤ length items.now }
-    ensures { result ≡ bit (any (flagged flags.now run.0) (part from to items.now)) }
+// Whether such a number is among some runs.
+fn has_flagged(flags: &[u32], run: EventRunIndex, runs: &[u32]) -> bool
+    ensures { result ≡ list_any (flagged flags.now run.0) runs.now }
 {
-    let mut i = from;
-    while i < to {
-        if is_flagged(flags, run, EventRunIndex(items[i])) {
-            return 1;
-        }
-        i += 1;
-    }
-    0
+    runs.iter()
+        .any(|p| is_flagged(flags, run, EventRunIndex(*p)))
 }
 
 // A run is flagged if it has such a parent.
-fn flag_child<'a>(
-    flags: &mut [u32],
+#[tactic(auto, using(crate::proofs::Passes::any_is, crate::proofs::HeadTurns::byte_bit), unfolding(crate::specs::Flags::flag_child))]
+fn flag_child(
+    flags: &mut [u32; MAX_RUNS],
     run: EventRunIndex,
-    starts: &'a [u32],
-    items: &'a [u32],
-    n: usize,
+    parents: ParentRows,
     q: EventRunIndex,
 )
-    requires rows { Rows starts.now items.now n }
-    requires n_in_bounds { n ≤ length flags.old }
-    requires q_lt_n { q.0 < n }
-    ensures { flags.new ≡ flag_child (row starts.now items.now) run.0 flags.old q.0 }
+    requires { q.0 < runs_in parents }
+    ensures { flags.new ≡ flag_child (parents_in parents.entry) run.0 flags.old q.0 }
 {
-    let at = q.0 as usize;
-    let v = flag_of(
-        flags,
-        run,
-        items,
-        starts[at] as usize,
-        starts[at + 1] as usize,
-    );
-    flags[at] = v;
+    let flag = has_flagged(flags, run, parents.of(q));
+    flags[q.0 as usize] = u32::from(flag);
 }
 
 // The same of the runs from `from` on.
-fn flag_up<'a>(
-    flags: &mut [u32],
+#[tactic(auto, using(crate::proofs::Passes::up_next, crate::proofs::Passes::up_none))]
+fn flag_up(
+    flags: &mut [u32; MAX_RUNS],
     run: EventRunIndex,
-    starts: &'a [u32],
-    items: &'a [u32],
-    n: usize,
+    parents: ParentRows,
     from: EventRunIndex,
 )
-    requires rows { Rows starts.now items.now n }
-    requires n_in_bounds { n ≤ length flags.old }
-    ensures { flags.new ≡ flag_up (row starts.now items.now) run.0 flags.old from.0 (n - from.0) }
+    ensures { flags.new ≡ flag_up (parents_in parents.entry) run.0 flags.old from.0 (runs_in parents.entry - from.0) }
 {
-    let mut q = from.0 as usize;
-    while q < n {
-        flag_child(flags, run, starts, items, n, EventRunIndex(q as u32));
-        q += 1;
+    for q in from.0 as usize..parents.len() {
+        flag_child(flags, run, parents, EventRunIndex(q as u32));
     }
 }
 
 // A flag for each run that is an ancestor of `run`, `run` itself, or a descendant.
 fn flags_of(g: CausalGraph, run: EventRunIndex) -> [u32; MAX_RUNS]
     requires held { Held g }
-    requires run_bound { run.0 < g.run_count }
+    requires run_there { run.0 < g.run_count }
     ensures { Flags (view g) run.0 result }
 {
-    let at = run.0 as usize;
+    let parents = ParentRows::of_graph(&g);
     let next = EventRunIndex(run.0 + 1);
-    let none = lists::nothing();
-    let mut f = none.items;
-    f[at] = 1;
-    flag_down(&mut f, &g.parent_starts, &g.parents, g.run_count, next);
-    flag_up(&mut f, run, &g.parent_starts, &g.parents, g.run_count, next);
-    f
+    let mut flags = [0; MAX_RUNS];
+    flags[run.0 as usize] = 1;
+    flag_down(&mut flags, parents, next);
+    flag_up(&mut flags, run, parents, next);
+    flags
 }
 
-// 1 if a flag is 0, else 0.
-fn one_if_free(flag: u32) -> usize
-    ensures { (result ≡ bit (eqb flag 0)) × (result ≤ 1) }
+// How many runs have no flag.
+fn count_free(flags: &[u32]) -> usize
+    ensures { result ≡ count_by (λ f. f == 0) flags.now }
 {
-    if flag == 0 { 1 } else { 0 }
-}
-
-// How many of n runs have no flag.
-fn count_free(flags: &[u32], n: usize) -> usize
-    requires { n ≤ length flags.now }
-    ensures { result ≡ length (free flags.now n) }
-{
-    let mut k = 0;
-    let mut q = 0;
-    while q < n {
-        k += one_if_free(flags[q]);
-        q += 1;
-    }
-    k
+    flags.iter().filter(|f| **f == 0).count()
 }
 
 // Writes a run if it has no flag.
@@ -188,23 +127,22 @@ fn put_free(list: &mut [u32], p: Put, run: EventRunIndex, flag: u32) -> Put
     p
 }
 
-// Those of n runs that have no flag, a word each.
-fn put_all_free(flags: &[u32], n: usize, list: &mut [u32]) -> Put
-    requires n_in_bounds { n ≤ length flags.now }
-    requires n_le_max_runs { n ≤ max_runs }
+// The runs that have no flag, a word each.
+#[tactic(auto, using(crate::proofs::Passes::freeing))]
+fn put_all_free(flags: &[u32], list: &mut [u32]) -> Put
+    requires { length flags.now ≤ max_runs }
     ensures { (result, list.new) ≡ put_all 1 (blank, list.old)
-        (map (λ q. q ∷ []) (free flags.now n)) }
+        (map (λ q. q ∷ []) (free flags.now (length flags.now))) }
 {
     let mut p = Put { count: 0, short: 0 };
-    let mut q = 0;
-    while q < n {
-        p = put_free(list, p, EventRunIndex(q as u32), flags[q]);
-        q += 1;
+    for (q, flag) in flags.iter().enumerate() {
+        p = put_free(list, p, EventRunIndex(q as u32), *flag);
     }
     p
 }
 
 // `concurrent_runs` on a graph that is known not to be broken.
+#[tactic(auto, using(graph::proofs::Views::facts))]
 fn concurrent_held(g: CausalGraph, run: EventRunIndex, list: &mut [u32]) -> Written
     requires { Held g }
     ensures { (result, list.new) ≡ concurrency_list_of g run.0 list.old }
@@ -217,18 +155,19 @@ fn concurrent_held(g: CausalGraph, run: EventRunIndex, list: &mut [u32]) -> Writ
         };
     }
     let flags = flags_of(g, run);
-    let k = count_free(&flags, n);
-    if list.len() < k {
+    let flags = &flags[..n];
+    if list.len() < count_free(flags) {
         return Written {
             count: 0,
             outcome: Err(Refusal::ListTooShort),
         };
     }
-    let p = put_all_free(&flags, n, list);
+    let p = put_all_free(flags, list);
     graph::cut::written(p)
 }
 
 // The runs that are neither ancestor nor descendant of `run`, nor `run` itself, into `list`, rising.
+#[tactic(auto, using(model::proofs::Stored::held_of, crate::proofs::ConcurrentWays::concurrent_broken))]
 pub fn concurrent_runs(g: CausalGraph, run: EventRunIndex, list: &mut [u32]) -> Written
     ensures { (result, list.new) ≡ concurrency_list_of g run.0 list.old }
 {

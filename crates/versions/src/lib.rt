@@ -7,5 +7,6 @@
 pub mod archive;
 pub mod concurrent;
 mod ranges;
+mod rows;
 pub mod wanted;
 mod words;

@@ -1,118 +1,109 @@
-// What the words of ranges mark, a first and an end in turn, rising: run by run, in linear time. An event is marked exactly if those at most
-// it are odd in number, and the next word is then its range's end. Each pass goes forward over the runs and the words together.
-ghost use Rattle.std.specs.Prelude.{◌≡◌, true, ◌≤◌};
-ghost use Rattle.lists.specs.Lists.{all, upto, rising};
+// What ranges of events mark, run by run, in linear time. An event is marked exactly if the words at most it are odd in number, and the next
+// word is then its range's end. Each pass goes forward over the runs and the words together.
+ghost use Rattle.std.specs.Prelude.{◌≡◌, true, false, ◌-◌, ◌≤◌, length};
+ghost use Rattle.std.specs.Option.{MatchOption};
+ghost use Rattle.lists.specs.Lists.{all, upto};
 ghost use Rattle.model.specs.Wanted;
-ghost use Rattle.versions.specs.Ranges.{is_odd, place_of, words_within, clear_at, end_at, clear_in, Ends, Starts};
+ghost use Rattle.versions.specs.Ranges.{place_of, words_within, clear_at, end_at, clear_in, Ends, Starts};
 
 use model::{EventIndex, MAX_RUNS};
 
-// Whether a number is odd.
-fn is_odd(k: usize) -> bool
-    ensures { result ≡ is_odd k }
-{
-    k % 2 == 1
+// Ranges of events, as words: a first and its end in turn, rising.
+#[derive(Clone, Copy)]
+pub(crate) struct EventRanges<'a> {
+    pub(crate) words: &'a [u32],
+    pub(crate) ghost paired: { Wanted.ranges words.now ≡ true },
 }
 
-// Whether words rise, each first with its end.
-pub(crate) fn are_ranges(words: &[u32]) -> bool
-    ensures { result ≡ Wanted.ranges words.now }
-{
-    if is_odd(words.len()) {
-        return false;
-    }
-    lists::is_rising(words, words.len())
-}
-
-// Whether no word is below `first` or above `end`, of words that rise.
-pub(crate) fn are_within(words: &[u32], first: EventIndex, end: EventIndex) -> bool
-    ensures { result ≡ words_within first.0 end.0 words.now }
-{
-    let n = words.len();
-    if n == 0 {
-        return true;
-    }
-    if words[0] < first.0 {
-        return false;
-    }
-    words[n - 1] <= end.0
-}
-
-// How many of some rising words are at most an event, where `from` of them are.
-fn place(words: &[u32], from: usize, e: EventIndex) -> usize
-    requires words_value { rising words.now ≡ true }
-    requires from_bound { from ≤ place_of words.now e.0 }
-    ensures { result ≡ place_of words.now e.0 }
-{
-    let mut k = from;
-    while k < words.len() {
-        if e.0 < words[k] {
-            return k;
+impl<'a> EventRanges<'a> {
+    // Words as ranges, if they are such.
+    #[tactic(auto, using(crate::proofs::RangeTurns::pairing), unfolding(crate::specs::Ranges::is_odd))]
+    pub(crate) fn of_words(words: &'a [u32]) -> Option<EventRanges<'a>>
+        ensures { MatchOption result (Wanted.ranges words.now ≡ false) (λ r. r.words.now ≡ words.now) }
+    {
+        if words.len() % 2 == 1 {
+            return None;
         }
-        k += 1;
-    }
-    k
-}
-
-// Whether no range begins at place k or behind it and before `end`.
-fn is_clear(words: &[u32], k: usize, end: EventIndex) -> bool
-    ensures { result ≡ clear_at words.now k end.0 }
-{
-    if words.len() <= k {
-        return true;
-    }
-    let next = k + k % 2;
-    if words.len() <= next {
-        return true;
-    }
-    end.0 <= words[next]
-}
-
-// Whether no range begins inside one of n runs.
-pub(crate) fn all_clear(starts: &[u32], n: usize, words: &[u32]) -> bool
-    requires words_value { rising words.now ≡ true }
-    requires starts { Starts starts.now n }
-    ensures { result ≡ all (clear_in starts.now words.now) (upto n) }
-{
-    let mut k = 0;
-    let mut r = 0;
-    while r < n {
-        k = place(words, k, EventIndex(starts[r]));
-        if !is_clear(words, k, EventIndex(starts[r + 1])) {
-            return false;
+        if !lists::is_rising(words) {
+            return None;
         }
-        r += 1;
+        Some(EventRanges { words })
     }
-    true
-}
 
-// The end of what is marked from an event up to `end`, where k words are at most that event; 0 if it is not marked.
-fn end_at(words: &[u32], k: usize, end: EventIndex) -> u32
-    ensures { result ≡ end_at words.now k end.0 }
-{
-    if !is_odd(k) {
-        return 0;
+    // Whether no word is below `first` or above `end`.
+    #[tactic(auto, using(std::proofs::lemmas::Option::gets), unfolding(crate::specs::Ranges::words_within))]
+    pub(crate) fn are_within(self, first: EventIndex, end: EventIndex) -> bool
+        ensures { result ≡ words_within first.0 end.0 self.entry.words.now }
+    {
+        match (self.words.first(), self.words.last()) {
+            (Some(low), Some(high)) => first.0 <= *low && *high <= end.0,
+            _ => true,
+        }
     }
-    if words.len() <= k {
-        return 0;
-    }
-    lists::smaller(words[k], end.0)
-}
 
-// The end of what is marked of each of n runs; 0 if its first event is not.
-pub(crate) fn marked_ends(starts: &[u32], n: usize, words: &[u32]) -> [u32; MAX_RUNS]
-    requires words_value { rising words.now ≡ true }
-    requires starts { Starts starts.now n }
-    ensures { Ends starts.now words.now n result }
-{
-    let none = lists::nothing();
-    let mut ends = none.items;
-    let mut k = 0;
-    let mut r = 0;
-    while r < n {
-        k = place(words, k, EventIndex(starts[r]));
-        ends[r] = end_at(words, k, EventIndex(starts[r + 1]));
-        r += 1;
+    // How many of the words are at most an event, where `from` of them are.
+    #[tactic(auto, using(crate::proofs::RangeTurns::placing))]
+    fn place(self, from: usize, e: EventIndex) -> usize
+        requires { from ≤ place_of self.words.now e.0 }
+        ensures { result ≡ place_of self.entry.words.now e.0 }
+    {
+        for k in from..self.words.len() {
+            if e.0 < self.words[k] {
+                return k;
+            }
+        }
+        self.words.len()
     }
-    ends
+
+    // Whether no range begins at place k or behind it and before `end`.
+    #[tactic(auto, unfolding(crate::specs::Ranges::clear_at))]
+    fn is_clear(self, k: usize, end: EventIndex) -> bool
+        ensures { result ≡ clear_at self.entry.words.now k end.0 }
+    {
+        if self.words.len() <= k {
+            return true;
+        }
+        let next = k + k % 2;
+        self.words.len() <= next || end.0 <= self.words[next]
+    }
+
+    // Whether no range begins inside a run, by where each run starts, and last where the last one ends.
+    pub(crate) fn all_clear(self, starts: &[u32]) -> bool
+        requires { Starts starts.now (length starts.now - 1) }
+        ensures { result ≡ all (clear_in starts.now self.entry.words.now) (upto (length starts.now - 1)) }
+    {
+        let mut k = 0;
+        for (start, next) in starts.iter().zip(&starts[1..]) {
+            k = self.place(k, EventIndex(*start));
+            if !self.is_clear(k, EventIndex(*next)) {
+                return false;
+            }
+        }
+        true
+    }
+
+    // The end of what is marked from an event up to `end`, where k words are at most that event; 0 if it is not marked.
+    #[tactic(auto, using(std::proofs::lemmas::Option::gets), unfolding(crate::specs::Ranges::end_at, crate::specs::Ranges::is_odd))]
+    fn end_at(self, k: usize, end: EventIndex) -> u32
+        ensures { result ≡ end_at self.entry.words.now k end.0 }
+    {
+        if k % 2 == 0 {
+            return 0;
+        }
+        end.0.min(self.words.get(k).copied().unwrap_or(0))
+    }
+
+    // The end of what is marked of each run; 0 if its first event is not.
+    pub(crate) fn marked_ends(self, starts: &[u32]) -> [u32; MAX_RUNS]
+        requires { Starts starts.now (length starts.now - 1) }
+        ensures { Ends starts.now self.entry.words.now (length starts.now - 1) result }
+    {
+        let mut ends = [0; MAX_RUNS];
+        let mut k = 0;
+        for r in 0..starts.len() - 1 {
+            k = self.place(k, EventIndex(starts[r]));
+            ends[r] = self.end_at(k, EventIndex(starts[r + 1]));
+        }
+        ends
+    }
 }

@@ -1,55 +1,43 @@
 // The parents that give a wanted version, into a lent list, in linear time. A version's events are a run's first events, up to an end, or
 // none of the run; and where a run has some of them, its parent runs have all of theirs. So the marked events are told run by run.
-ghost use Rattle.std.specs.Prelude.{◌≡◌, true, not, cond, ◌&&◌, ◌||◌, ◌-◌, ◌≤◌, ◌<◌, length, eqb};
+ghost use Rattle.std.specs.Prelude.{◌≡◌, true, not, cond, ◌&&◌, ◌||◌, ◌+◌, ◌≤◌, length, eqb};
 ghost use Rattle.lists.specs.Lists.{all, upto, below};
-ghost use Rattle.lists.specs.Areas.{part};
-ghost use Rattle.lists.specs.Scans.{kept_in};
 ghost use Rattle.model.specs.Limits.{max_runs};
 ghost use Rattle.model.specs.Graph.{all_held};
 ghost use Rattle.model.specs.Record.{view};
 ghost use Rattle.model.specs.Broken.{Held};
-ghost use Rattle.model.specs.Wanted;
 ghost use Rattle.model.specs.Wanted.{events_in, wanted_parents_of};
-ghost use Rattle.graph.specs.Rows.{row, Rows};
+ghost use Rattle.versions.specs.Parents.{parents_in, runs_in};
 ghost use Rattle.versions.specs.Flags.{flag_all};
 ghost use Rattle.versions.specs.Ranges.{flag_marked, marked_whole, tops};
 
-use crate::concurrent::flag_part;
-use crate::ranges::{all_clear, are_ranges, are_within, marked_ends};
+use crate::concurrent::flag_all;
+use crate::ranges::EventRanges;
+use crate::rows::ParentRows;
 use crate::words::put_all;
 use lists::Kept;
-use model::{CausalGraph, EventIndex, MAX_RUNS, Refusal, Written};
+use model::{CausalGraph, EventIndex, EventRunIndex, MAX_RUNS, Refusal, Written};
 
-// Flags the numbers of a part of a list, if `end` is not 0.
-fn flag_if(end: u32, flags: &mut [u32], items: &[u32], from: usize, to: usize)
-    requires to_in_bounds { to ≤ length items.now }
-    requires value { below (length flags.old) (part from to items.now) ≡ true }
-    ensures { flags.new ≡ cond (eqb end 0) flags.old (flag_all flags.old (part from to items.now)) }
+// Flags some runs, if `end` is not 0.
+fn flag_if(end: u32, flags: &mut [u32], runs: &[u32])
+    requires { below (length flags.old) runs.now ≡ true }
+    ensures { flags.new ≡ cond (eqb end 0) flags.old (flag_all flags.old runs.now) }
 {
     if end == 0 {
         return;
     }
-    flag_part(flags, items, from, to)
+    flag_all(flags, runs)
 }
 
-// A flag for each parent of one of n runs of which something is marked.
-fn flag_marked<'a>(ends: &[u32], starts: &'a [u32], items: &'a [u32], n: usize) -> [u32; MAX_RUNS]
-    requires rows { Rows starts.now items.now n }
-    requires n_in_bounds { n ≤ length ends.now }
-    ensures { result ≡ flag_marked (row starts.now items.now) ends.now n }
+// A flag for each parent of a run of which something is marked.
+#[tactic(auto, using(crate::proofs::Passes::row_below))]
+fn flag_marked(ends: &[u32], parents: ParentRows) -> [u32; MAX_RUNS]
+    requires { runs_in parents ≡ length ends.now }
+    ensures { result ≡ flag_marked (parents_in parents.entry) ends.now (length ends.now) }
 {
-    let none = lists::nothing();
-    let mut flags = none.items;
-    let mut r = 0;
-    while r < n {
-        flag_if(
-            ends[r],
-            &mut flags,
-            items,
-            starts[r] as usize,
-            starts[r + 1] as usize,
-        );
-        r += 1;
+    let mut flags = [0; MAX_RUNS];
+    for (r, end) in ends.iter().enumerate() {
+        flag_if(*end, &mut flags, parents.of(EventRunIndex(r as u32)));
     }
     flags
 }
@@ -58,25 +46,20 @@ fn flag_marked<'a>(ends: &[u32], starts: &'a [u32], items: &'a [u32], n: usize) 
 fn is_whole(flag: u32, end: u32, next: u32) -> bool
     ensures { result ≡ eqb flag 0 || eqb end next }
 {
-    if flag == 0 {
-        return true;
-    }
-    end == next
+    flag == 0 || end == next
 }
 
-// Whether all of each flagged run is marked, of n runs.
-fn all_whole(flags: &[u32], ends: &[u32], starts: &[u32], n: usize) -> bool
-    requires n_in_bounds { n ≤ length flags.now }
-    requires n_in_bounds_2 { n ≤ length ends.now }
-    requires n_in_bounds_3 { n < length starts.now }
-    ensures { result ≡ all (marked_whole flags.now ends.now starts.now) (upto n) }
+// Whether all of each flagged run is marked.
+#[tactic(auto, using(crate::proofs::RangeTurns::testing), unfolding(crate::specs::Ranges::marked_whole))]
+fn all_whole(flags: &[u32], ends: &[u32], starts: &[u32]) -> bool
+    requires flags_reach { length flags.now ≡ length ends.now }
+    requires starts_reach { length starts.now ≡ length ends.now + 1 }
+    ensures { result ≡ all (marked_whole flags.now ends.now starts.now) (upto (length ends.now)) }
 {
-    let mut r = 0;
-    while r < n {
-        if !is_whole(flags[r], ends[r], starts[r + 1]) {
+    for (r, end) in ends.iter().enumerate() {
+        if !is_whole(flags[r], *end, starts[r + 1]) {
             return false;
         }
-        r += 1;
     }
     true
 }
@@ -85,75 +68,56 @@ fn all_whole(flags: &[u32], ends: &[u32], starts: &[u32], n: usize) -> bool
 fn is_top(flag: u32, end: u32) -> bool
     ensures { result ≡ not (eqb end 0) && eqb flag 0 }
 {
-    if end == 0 {
-        return false;
-    }
-    flag == 0
+    end != 0 && flag == 0
 }
 
-// The event before an end.
-fn last_before(end: u32) -> u32
-    ensures { result ≡ end - 1 }
+// The last marked events of the runs of which something is marked and that are not flagged.
+#[tactic(auto, using(crate::proofs::RangeTurns::topping), unfolding(crate::specs::Ranges::is_top))]
+fn top_events(flags: &[u32], ends: &[u32]) -> Kept
+    requires few { length ends.now ≤ max_runs }
+    requires flags_reach { length flags.now ≡ length ends.now }
+    ensures { result ≡ tops flags.now ends.now (length ends.now) }
 {
-    if end == 0 { 0 } else { end - 1 }
-}
-
-// The last marked events of those of n runs of which something is marked and that are not flagged.
-fn top_events(flags: &[u32], ends: &[u32], n: usize) -> Kept
-    requires n_le_max_runs { n ≤ max_runs }
-    requires n_in_bounds { n ≤ length flags.now }
-    requires n_in_bounds_2 { n ≤ length ends.now }
-    ensures { result ≡ kept_in (tops flags.now ends.now n) }
-{
-    let none = lists::nothing();
-    let mut items = none.items;
-    let mut c = 0;
-    let mut r = 0;
-    while r < n {
-        c = lists::put_if(
-            is_top(flags[r], ends[r]),
-            &mut items,
-            c,
-            last_before(ends[r]),
-        );
-        r += 1;
+    let mut tops = Kept::new();
+    for (r, end) in ends.iter().enumerate() {
+        tops.push_if(is_top(flags[r], *end), end.saturating_sub(1));
     }
-    Kept {
-        items: items,
-        count: c,
-    }
+    tops
 }
 
 // `wanted_parents` on a graph that is known not to be broken, and ranges of held events.
-fn wanted_held(g: CausalGraph, ranges: &[u32], list: &mut [u32]) -> Written
+#[tactic(auto, using(graph::proofs::Views::facts))]
+fn wanted_held(g: CausalGraph, ranges: EventRanges, list: &mut [u32]) -> Written
     requires held { Held g }
-    requires ranges_value { Wanted.ranges ranges.now ≡ true }
-    requires ranges_value_2 { all_held (view g) (events_in ranges.now) ≡ true }
-    ensures { (result, list.new) ≡ wanted_parents_of g ranges.now list.old }
+    requires events_held { all_held (view g) (events_in ranges.words.now) ≡ true }
+    ensures { (result, list.new) ≡ wanted_parents_of g ranges.entry.words.now list.old }
 {
     let n = g.run_count;
-    if !all_clear(&g.starts, n, ranges) {
+    let starts = &g.starts[..n + 1];
+    if !ranges.all_clear(starts) {
         return Written {
             count: 0,
             outcome: Err(Refusal::NoSuchParents),
         };
     }
-    let ends = marked_ends(&g.starts, n, ranges);
-    let flags = flag_marked(&ends, &g.parent_starts, &g.parents, n);
-    if !all_whole(&flags, &ends, &g.starts, n) {
+    let ends = ranges.marked_ends(starts);
+    let ends = &ends[..n];
+    let flags = flag_marked(ends, ParentRows::of_graph(&g));
+    let flags = &flags[..n];
+    if !all_whole(flags, ends, starts) {
         return Written {
             count: 0,
             outcome: Err(Refusal::NoSuchParents),
         };
     }
-    let found = top_events(&flags, &ends, n);
-    if list.len() < found.count {
+    let found = top_events(flags, ends);
+    if list.len() < found.len() {
         return Written {
             count: 0,
             outcome: Err(Refusal::ListTooShort),
         };
     }
-    let p = put_all(&found.items, found.count, list);
+    let p = put_all(found.as_slice(), list);
     graph::cut::written(p)
 }
 
@@ -168,17 +132,13 @@ pub fn wanted_parents(g: CausalGraph, ranges: &[u32], list: &mut [u32]) -> Writt
             outcome: Err(Refusal::Broken),
         };
     }
-    if !are_ranges(ranges) {
+    let Some(ranges) = EventRanges::of_words(ranges) else {
         return Written {
             count: 0,
             outcome: Err(Refusal::NotRising),
         };
-    }
-    if !are_within(
-        ranges,
-        EventIndex(g.starts[0]),
-        EventIndex(g.starts[g.run_count]),
-    ) {
+    };
+    if !ranges.are_within(EventIndex(g.starts[0]), EventIndex(g.starts[g.run_count])) {
         return Written {
             count: 0,
             outcome: Err(Refusal::UnknownEvent),

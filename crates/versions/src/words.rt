@@ -1,5 +1,5 @@
 // Words written into a lent list, one by one.
-ghost use Rattle.std.specs.Prelude.{◌≡◌, [], ◌∷◌, map, ◌≤◌, length, take};
+ghost use Rattle.std.specs.Prelude.{◌≡◌, [], ◌∷◌, map};
 ghost use Rattle.graph.specs.Cutting.{blank, put, put_all};
 
 use graph::cut::Put;
@@ -22,16 +22,14 @@ pub(crate) fn put_one(list: &mut [u32], p: Put, a: u32) -> Put
     }
 }
 
-// The first n of a list, a word each.
-pub(crate) fn put_all(items: &[u32], n: usize, list: &mut [u32]) -> Put
-    requires { n ≤ length items.now }
-    ensures { (result, list.new) ≡ put_all 1 (blank, list.old) (map (λ x. x ∷ []) (take n items.now)) }
+// The numbers of a list, a word each.
+#[tactic(auto, using(crate::proofs::Points::writing))]
+pub(crate) fn put_all(items: &[u32], list: &mut [u32]) -> Put
+    ensures { (result, list.new) ≡ put_all 1 (blank, list.old) (map (λ x. x ∷ []) items.now) }
 {
     let mut p = Put { count: 0, short: 0 };
-    let mut i = 0;
-    while i < n {
-        p = put_one(list, p, items[i]);
-        i += 1;
+    for x in items {
+        p = put_one(list, p, *x);
     }
     p
 }

@@ -5,7 +5,6 @@ use mathlib.Core.List.{List}
 use Prim.Native.Nat.{ℕ, ◌/◌}
 use lib.ListN.{length, take}
 use lib.Dec.{ltb}
-use Rattle.lists.specs.Lists.{bit}
 use Rattle.lists.specs.Areas.{over}
 use Rattle.lists.proofs.Truth.{false_true}
 use Rattle.model.specs.declared.answers.Refusal.TheVariants.{RowsTooLong, ListTooShort}
@@ -27,14 +26,14 @@ pub written-parts : (g : Graph) (ss : List Step) (area : List ℕ) → let room 
     ((emit (going 0 0, area) (recs g.starts ss)).1 ≡ over (words (take room ss)) area) ×
     ((emit (going 0 0, area) (recs g.starts ss)).0.count ≡ length (take room ss)) ×
     ((emit (going 0 0, area) (recs g.starts ss)).0.moved ≡ moved_in g (take room ss)) ×
-    ((emit (going 0 0, area) (recs g.starts ss)).0.short ≡ bit (ltb room (length ss)))
+    ((emit (going 0 0, area) (recs g.starts ss)).0.short ≡ ltb room (length ss))
 written-parts g ss area =
     let q = written_is g ss area in
     (ap (λ (y : Writing). y.1) q, ap (λ (y : Writing). y.0.count) q, ap (λ (y : Writing). y.0.moved) q, ap (λ (y : Writing). y.0.short) q)
 
 -- Rows were too long
 pub walked-rows : (st : List ℕ) (w : Range) (a known first : ℕ) (out : Out) (rows steps : List ℕ) → rows_too_long w rows ≡ true →
-    walked_in st w a known first out rows steps ≡ (ranged out 1, rows_into w rows, steps)
+    walked_in st w a known first out rows steps ≡ (ranged out true, rows_into w rows, steps)
 unfolding walked_in
 walked-rows st w a known first out rows steps e = go (rows_too_long w rows) e
   where
@@ -42,14 +41,14 @@ walked-rows st w a known first out rows steps e = go (rows_too_long w rows) e
     x = emit (out, steps) (recs st (steps_of w a known first))
 
     go : (t : Bool) → t ≡ true →
-        ◌≡◌ {A = State} (elim t as (λ _. State) [ true ↦ (ranged out 1, rows_into w rows, steps) | false ↦ (ranged x.0 0, rows_into w rows, x.1) ]) (ranged out 1, rows_into w rows, steps)
+        ◌≡◌ {A = State} (elim t as (λ _. State) [ true ↦ (ranged out true, rows_into w rows, steps) | false ↦ (ranged x.0 false, rows_into w rows, x.1) ]) (ranged out true, rows_into w rows, steps)
     go true e = refl
     go false e = false_true e
 
 -- none were
 pub walked-steps : (st : List ℕ) (w : Range) (a known first : ℕ) (out : Out) (rows steps : List ℕ) → rows_too_long w rows ≡ false →
     walked_in st w a known first out rows steps ≡
-    (ranged (emit (out, steps) (recs st (steps_of w a known first))).0 0, rows_into w rows, (emit (out, steps) (recs st (steps_of w a known first))).1)
+    (ranged (emit (out, steps) (recs st (steps_of w a known first))).0 false, rows_into w rows, (emit (out, steps) (recs st (steps_of w a known first))).1)
 unfolding walked_in
 walked-steps st w a known first out rows steps e = go (rows_too_long w rows) e
   where
@@ -57,17 +56,17 @@ walked-steps st w a known first out rows steps e = go (rows_too_long w rows) e
     x = emit (out, steps) (recs st (steps_of w a known first))
 
     go : (t : Bool) → t ≡ false →
-        ◌≡◌ {A = State} (elim t as (λ _. State) [ true ↦ (ranged out 1, rows_into w rows, steps) | false ↦ (ranged x.0 0, rows_into w rows, x.1) ])
-        (ranged x.0 0, rows_into w rows, x.1)
+        ◌≡◌ {A = State} (elim t as (λ _. State) [ true ↦ (ranged out true, rows_into w rows, steps) | false ↦ (ranged x.0 false, rows_into w rows, x.1) ])
+        (ranged x.0 false, rows_into w rows, x.1)
     go true e = false_true (sym e)
     go false e = refl
 
 -- The outcome by what is short
-pub outcome_rows : (o : Out) → outcome_of (ranged o 1) ≡ Err RowsTooLong
+pub outcome_rows : (o : Out) → outcome_of (ranged o true) ≡ Err RowsTooLong
 unfolding outcome_of
 outcome_rows o = refl
 
-pub outcome_list : (o : Out) (t : Bool) → o.short ≡ bit t → outcome_of (ranged o 0) ≡ cond t (Err ListTooShort) (Ok tt)
+pub outcome_list : (o : Out) (t : Bool) → o.short ≡ t → outcome_of (ranged o false) ≡ cond t (Err ListTooShort) (Ok tt)
 unfolding outcome_of
 outcome_list o true e = rw e
 outcome_list o false e = rw e

@@ -228,7 +228,7 @@ module _ (g : CausalGraph) (held : Held g) where
     stand : (i : ℕ) → i < w.count → (get_or cut (3 * i + 1) 0 ≤ get_or cut (3 * i + 2) 0) × (get_or cut (3 * i + 2) 0 ≤ runs (view g))
     stand i lt = stands cut rest i (drop i ranges) 0 (runs (view g)) (words-at i lt) (laid_at i) (omega (arith, count-is, length-drop i ranges))
 
-    pub cut_tiled : Tiled g.starts g.parent_starts g.parents cut w.count
+    pub cut_tiled : Tiled g cut w.count
     cut_tiled = record {
       order = λ i lt. (stand i lt).0;
       arrays = λ i lt. arrays_of g held (get_or cut (3 * i + 2) 0) (omega (arith, (stand i lt).1, runs-view g held));

@@ -23,29 +23,17 @@ last_fits n gs sound some = go n (n - 1) (omega (arith, some)) sound
     go : (n k : ℕ) → n ≡ k + 1 → Sound (heads_in n gs) (items_in n gs) n → get_or (heads_in n gs) n 0 ≤ length gs
     go n k e s = omega (arith, (s.inside k (omega arith)).1, ap (λ (i : ℕ). get_or (heads_in n gs) i 0) e, length-drop (n + 1) gs)
 
-module _ (starts : List ℕ) (n : ℕ) (gs ts cs vs xs : List ℕ) (R : Relatable starts n gs ts cs vs xs) where
+module _ (starts : List ℕ) (n : ℕ) (gs : List ℕ) (R : Relatable starts n gs) where
   abbrev P : List (List ℕ)
   P = grouped (heads_in n gs) (items_in n gs) n
 
   size : length P ≡ n
   size = groups-size (heads_in n gs) (items_in n gs) n R.sound.long
 
-  -- Nothing of this has to do with what the tables hold
-  pub relatable_still : (us ys : List ℕ) → length us ≡ length ts → length ys ≡ length xs → Relatable starts n gs us cs vs ys
-  relatable_still us ys p q = record {
-    sound = R.sound;
-    rise = R.rise;
-    order = R.order;
-    tables = omega (arith, R.tables);
-    children = R.children;
-    covers = R.covers;
-    scratch = omega (arith, R.scratch);
-  }
-
   -- No run, no children
-  pub related_none : n ≡ 0 → Related starts n gs cs ts
+  pub related_none : (cs ts : List ℕ) → n ≡ 0 → Related starts n gs cs ts
   unfolding Weighted
-  related_none e = record {
+  related_none cs ts e = record {
     children = record { climb = λ r lt. absurd (omega (arith, size)); inside = λ r lt. absurd (omega (arith, size)); each = λ r lt. absurd (omega (arith, size)) };
     weights = λ pss listed number below r lt. absurd (omega arith);
   }
@@ -58,9 +46,9 @@ module _ (starts : List ℕ) (n : ℕ) (gs ts cs vs xs : List ℕ) (R : Relatabl
   weighable begins items K = weighable_of starts begins items n P R.sound.few R.order (kids begins items K) size R.sound.below
 
   -- Both are there
-  pub related : (items us ws : List ℕ) → KidsTabled P n (lane 6 (n + 1) us) items → Weighted starts (lane 6 (n + 1) us) items n (lane 7 (n + 1) ws) → Kept 6 (n + 1) us ts → Kept 7 (n + 1) ws us →
+  pub related : (ts items us ws : List ℕ) → KidsTabled P n (lane 6 (n + 1) us) items → Weighted starts (lane 6 (n + 1) us) items n (lane 7 (n + 1) ws) → Kept 6 (n + 1) us ts → Kept 7 (n + 1) ws us →
       Related starts n gs items ws × Kept 6 (n + 1) ws ts
-  related items us ws K W k₁ k₂ =
+  related ts items us ws K W k₁ k₂ =
       let e : lane 6 (n + 1) us ≡ lane 6 (n + 1) ws = sym (k₂.lanes 6 (omega arith)) in (
         record {
           children = subst (λ (l : List ℕ). Children P l items) e (kids (lane 6 (n + 1) us) items K);

@@ -1,9 +1,10 @@
 -- The laws behind a walk.
 -- A range of a graph's runs by the graph's arrays
 pub mod Arrays
+-- Words of the definitions and of the library
+pub mod Library
 -- The choice
 pub mod Weighing
-pub mod OnlyParent
 pub mod Newest
 pub mod Viewing
 pub mod Chosen
@@ -16,6 +17,7 @@ pub mod Waking
 pub mod Telling
 pub mod Removing
 pub mod Starting
+pub mod Keeping
 -- The loop: `first` within the range, and turn by turn
 pub mod Clamping
 pub mod Turning
@@ -23,8 +25,8 @@ pub mod Turning
 pub mod Looping
 pub mod Looped
 pub mod Lending
+pub mod Reading
 pub mod Stepping
-pub mod Beginning
 -- A range prepared
 pub mod Kinship
 pub mod Preparing

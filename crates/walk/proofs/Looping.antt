@@ -4,14 +4,15 @@ use mathlib.Core.Logic.{◌⊎◌, inl, inr}
 use mathlib.Core.Bool.{true, not}
 use mathlib.Core.List.{List, [], ◌∷◌, ◌++◌}
 use mathlib.Core.Option.{Option, none, some}
+use Rattle.std.specs.Prelude as code
 use Prim.Native.Nat.{ℕ, suc, ◌+◌, ◌-◌, ◌*◌, ◌≤◌, ◌<◌, ◌^◌, min, max}
 use native.Mathlib.Nat.{suc-mul}
 use native.Mathlib.Omega.{arith}
-use lib.ListN.{length, get_or, take}
+use lib.ListN.{length, get_or, take, replicate, length-replicate}
 use lib.Seq.{get_or-take}
 use lib.Dec.{eqb}
 use borrow.Author.Tests.{eq-eqb, ne_eqb, eqb-true}
-use Rattle.lists.specs.Lists.{mem, filter, upto, reverse}
+use Rattle.lists.specs.Lists.{mem, same, filter, upto, reverse}
 use Rattle.lists.specs.Areas.{part}
 use Rattle.lists.proofs.Truth.{false_true, or_cases}
 use Rattle.lists.proofs.Each.{All, members, all_map, all_take, all-reverse}
@@ -25,7 +26,7 @@ use Rattle.tables.specs.Laid.{heads_in, items_in, chs}
 use Rattle.tables.specs.Tables.{Reaches, children_of}
 use Rattle.tables.specs.Gaps.{gaps_from}
 use Rattle.tables.specs.Sizes.{row_in}
-use Rattle.tables.specs.Reached.{started, arrived, Holds}
+use Rattle.tables.specs.Reached.{started, arrived, Holds, Standing}
 use Rattle.tables.proofs.Chaining.{chs-few}
 use Rattle.tables.proofs.Fitted.{chains_are}
 use Rattle.tables.proofs.RowsIn.{row-reaches}
@@ -37,13 +38,12 @@ use Rattle.moves.specs.Moves.{recs, visit_of}
 use Rattle.moves.proofs.Written.{emit_then}
 use Rattle.moves.proofs.Defined.{inside, visit-is}
 use Rattle.walk.specs.Ranges.{range_by}
-use Rattle.walk.specs.Choose.{only_c, cost_c, weight_c, Tabled}
-use Rattle.walk.specs.Readiness.{start_all, woken_of, taken_out}
-use Rattle.walk.specs.Turns.{Given, row_starts, chains_in, places_in, begins_in, members_in, weights_in, sums_in, row_for, children_for, Turn}
-use Rattle.walk.specs.Turns.{out_in, best_by, best_in, run_at, Turned, Fit, parents_for, range_for, chains_for, Prepared, Begun}
-use Rattle.walk.proofs.OnlyParent.{only-some, only_none}
+use Rattle.walk.specs.Given.{Given, row_starts, chains_in, places_in, begins_in, members_in, weights_in, sums_in, row_for, children_for, parents_for, range_for, chains_for, Prepared}
+use Rattle.walk.specs.Choose.{index_of, is_only, only_c, cost_c, weight_c}
+use Rattle.walk.specs.Readiness.{start_all, start_waits, woken_of, taken_out}
+use Rattle.walk.specs.Turns.{Turn, best_in, run_at, AllInside, Turned, Fit, Begun}
 use Rattle.walk.proofs.Newest.{newest}
-use Rattle.walk.proofs.Chosen.{found_some, choice_found}
+use Rattle.walk.proofs.Chosen.{found_some, found_low, choice_found}
 use Rattle.walk.proofs.Distinct.{Once, rising-once}
 use Rattle.walk.proofs.Waiting.{left_of, left-start}
 use Rattle.walk.proofs.Telling.{Tells, told_list, told_none, left-told}
@@ -61,10 +61,10 @@ written_none st v = unfold emit in refl
 pub written-append : (st : List ℕ) (v : Writing) (ss ts : List Step) → written st v (ss ++ ts) ≡ written st (written st v ss) ts
 written-append st v ss ts = sym (emit_then st v ss ts)
 
--- The last run visited as a word
-abbrev pub LastIs : Option ℕ → ℕ → Type 0
-LastIs none x = x ≡ 0
-LastIs (some r) x = (x ≡ r + 1) × (r < 512)
+-- The last run visited, as the definitions have it
+abbrev pub last_of : code.Option ℕ → Option ℕ
+last_of code.None = none
+last_of (code.Some r) = some r
 
 -- What holds of all holds of a member
 all-mem : (Q : ℕ → Type 0) (xs : List ℕ) → All Q xs → (x : ℕ) → mem x xs ≡ true → Q x
@@ -97,11 +97,6 @@ module _ (g : Given) (P : Prepared g) where
   unfolding parents_for
   below = P.sound.below
 
-  -- A run's group
-  group : (x : ℕ) → x < g.runs → at pss x ≡ part (get_or (heads_in g.runs g.groups) x 0) (get_or (heads_in g.runs g.groups) (x + 1) 0) (items_in g.runs g.groups)
-  unfolding parents_for at
-  group x lt = group_of (heads_in g.runs g.groups) (items_in g.runs g.groups) g.runs x P.sound.long lt
-
   pub once : (x : ℕ) → Once (at pss x)
   once x = rising-once (at pss x) (P.rise x)
 
@@ -122,6 +117,30 @@ module _ (g : Given) (P : Prepared g) where
   unfolding chains_for
   row_is r lt = subst (Reaches C (at H r)) (sym (P.rows r lt)) (row-reaches pss below r (omega (arith, size)))
 
+  -- and lies in the members
+  pub row_inside : (r : ℕ) → r < g.runs → AllInside g (row_for g r)
+  unfolding chains_for
+  row_inside r lt c cl = inside C (begins_in g) (members_in g) P.listed (at H r) (row_for g r) (row_is r lt) c (omega (arith, P.number))
+
+  -- Chains are few, and a run's chain and place are among theirs
+  pub few-chains : g.chains ≤ 512
+  unfolding chains_for
+  few-chains = omega (arith, P.few, size, P.number, chs-few H (length pss))
+
+  pub chain-low : (r : ℕ) → r < g.runs → get_or (chains_in g) r 0 < g.chains
+  unfolding chains_for
+  chain-low r lt = omega (arith, P.number, chain_fits pss below (chains_in g) (places_in g) (λ m l. P.chain m (omega (arith, size))) (λ m l. P.place m (omega (arith, size))) r (omega (arith, lt, size)))
+
+  pub place-low : (r : ℕ) → r < g.runs → get_or (places_in g) r 0 < 512
+  place-low r lt = omega (arith, P.few, size, place-fits pss below (chains_in g) (places_in g) (λ m l. P.chain m (omega (arith, size))) (λ m l. P.place m (omega (arith, size))) r (omega (arith, lt, size)))
+
+  -- as a walk's start needs it
+  pub standing : Standing (chains_in g) (places_in g) g.chains g.known
+  standing = record {
+    chains = λ r lt. chain-low r (omega (arith, lt, P.known, P.first));
+    places = λ r lt. place-low r (omega (arith, lt, P.known, P.first));
+  }
+
   -- Closed sets meet the chains in prefixes
   prefixed : (s : List ℕ) → Closed pss s → (c : ℕ) → c < length C → (i j : ℕ) → i < j → j < length (at C c) → mem (get_or (at C c) j 0) s ≡ true → mem (get_or (at C c) i 0) s ≡ true
   unfolding chains_for
@@ -134,39 +153,39 @@ module _ (g : Given) (P : Prepared g) where
       pub last : Option ℕ
       pub visited : List ℕ
       pub ready : List ℕ
-      pub walking : Walking Writing (written g.starts) (written_none g.starts) (written-append g.starts) W g.base g.known g.first whole version last visited ready fuel (out_in t.0, t.1)
-      pub reaches : Reaches C version t.2
+      pub walking : Walking Writing (written g.starts) (written_none g.starts) (written-append g.starts) W g.base g.known g.first whole version last visited ready fuel (t.0.out, t.1)
+      pub reaches : Reaches C version t.0.version
       pub closed : Closed pss version
-      pub tells : Tells W g.known g.first visited ready (t.0.ready, t.3, t.4)
+      pub tells : Tells W g.known g.first visited ready t.0.waits
       pub left : t.0.left ≡ left_of W g.known g.first visited
-      pub last-is : LastIs last t.0.last
-      pub room : g.chains ≤ length t.2
-      pub moved : t.0.moved + fuel * 2 ^ 52 ≤ most
+      pub last-is : last ≡ last_of t.0.last
+      pub room : g.chains ≤ length t.0.version
+      pub moved : t.0.out.moved + fuel * 2 ^ 52 ≤ most
 
-    module _ (fuel : ℕ) (t : Turn) (S : Walks fuel t) (some-ready : 0 < t.0.ready) where
+    module _ (fuel : ℕ) (t : Turn) (S : Walks fuel t) (some-ready : 0 < t.0.waits.0) where
       -- A run of the ready list
-      listed : (i : ℕ) → i < t.0.ready → mem (get_or t.4 i 0) S.ready ≡ true
+      listed : (i : ℕ) → i < t.0.waits.0 → mem (get_or t.0.waits.2 i 0) S.ready ≡ true
       listed i lt =
-          let l = told_list W g.known g.first S.visited S.ready (t.0.ready, t.3, t.4) S.tells in
-          let e : get_or t.4 i 0 ≡ get_or S.ready i 0 = sym (get_or-take t.0.ready t.4 i 0 lt) ∙ ap (λ (x : List ℕ). get_or x i 0) l in
+          let l = told_list W g.known g.first S.visited S.ready t.0.waits S.tells in
+          let e : get_or t.0.waits.2 i 0 ≡ get_or S.ready i 0 = sym (get_or-take t.0.waits.0 t.0.waits.2 i 0 lt) ∙ ap (λ (x : List ℕ). get_or x i 0) l in
           subst (λ (x : ℕ). mem x S.ready ≡ true) (sym e) (get_d_mem S.ready i 0 (omega (arith, S.tells.says.number)))
 
       ready-low : (x : ℕ) → mem x S.ready ≡ true → x < g.runs
       ready-low x m = omega (arith, S.walking.going.under x m, ap length parents_are, size)
 
-      run-low : (i : ℕ) → i < t.0.ready → get_or t.4 i 0 < g.runs
-      run-low i lt = ready-low (get_or t.4 i 0) (listed i lt)
+      run-low : (i : ℕ) → i < t.0.waits.0 → get_or t.0.waits.2 i 0 < g.runs
+      run-low i lt = ready-low (get_or t.0.waits.2 i 0) (listed i lt)
 
-      found : (best_in g t).at < t.0.ready
-      unfolding best_in best_by
-      found = (found_some _ _ _ t.4 t.0.ready some-ready).1
+      found : (index_of (best_in g t)) < t.0.waits.0
+      unfolding best_in
+      found = found_low t.0.waits.0 _ (found_some _ _ _ t.0.waits.2 t.0.waits.0 some-ready)
 
       -- of the newest ones
-      newest_low : (x : ℕ) → mem x (newest t.4 t.0.ready) ≡ true → x < g.runs
-      newest_low x m = all-mem (λ y. y < g.runs) (newest t.4 t.0.ready)
-          (all_take (λ y. y < g.runs) 64 (reverse [] (take t.0.ready t.4))
-          (all-reverse (λ y. y < g.runs) [] (take t.0.ready t.4) tt
-          (subst (All (λ y. y < g.runs)) (sym (told_list W g.known g.first S.visited S.ready (t.0.ready, t.3, t.4) S.tells))
+      newest_low : (x : ℕ) → mem x (newest t.0.waits.2 t.0.waits.0) ≡ true → x < g.runs
+      newest_low x m = all-mem (λ y. y < g.runs) (newest t.0.waits.2 t.0.waits.0)
+          (all_take (λ y. y < g.runs) 64 (reverse [] (take t.0.waits.0 t.0.waits.2))
+          (all-reverse (λ y. y < g.runs) [] (take t.0.waits.0 t.0.waits.2) tt
+          (subst (All (λ y. y < g.runs)) (sym (told_list W g.known g.first S.visited S.ready t.0.waits S.tells))
           (all_map (λ y m. ready-low y m) S.ready (members S.ready))))) x m
 
       abbrev r : ℕ
@@ -174,91 +193,49 @@ module _ (g : Given) (P : Prepared g) where
 
       low : r < g.runs
       unfolding run_at
-      low = run-low (best_in g t).at found
-
-      -- What may be asked of a run that is weighed
-      tabled : (i : ℕ) → i < t.0.ready → Tabled (sums_in g) (begins_in g) g.rows (row_starts g) g.chains (heads_in g.runs g.groups) (items_in g.runs g.groups) g.sizes (get_or t.4 i 0)
-      tabled i lt =
-          let q : get_or t.4 i 0 < g.runs = run-low i lt in
-          record {
-            few = omega (arith, P.few);
-            climb = (P.lies (get_or t.4 i 0) q).0;
-            inside = (P.lies (get_or t.4 i 0) q).1;
-            parents = (P.sound.inside (get_or t.4 i 0) q).1;
-            size = P.sizes (get_or t.4 i 0) q;
-          }
-
-      last-low : (o : Option ℕ) → LastIs o t.0.last → t.0.last ≤ 512
-      last-low none e = omega arith
-      last-low (some x) e = omega (arith, e.0, e.1)
-
-      chain-low : get_or (chains_in g) r 0 < g.chains
-      unfolding chains_for
-      chain-low = omega (arith, P.number, chain_fits pss below (chains_in g) (places_in g) (λ m lt. P.chain m (omega (arith, size))) (λ m lt. P.place m (omega (arith, size))) r (omega (arith, low, size)))
-
-      place-low : get_or (places_in g) r 0 < 512
-      place-low = omega (arith, P.few, size, place-fits pss below (chains_in g) (places_in g) (λ m lt. P.chain m (omega (arith, size))) (λ m lt. P.place m (omega (arith, size))) r (omega (arith, low, size)))
+      low = run-low (index_of (best_in g t)) found
 
       -- What a visit needs
       pub fit : most + 2 ^ 52 < 2 ^ 63 → Fit g t
       unfolding chains_for
       fit budget = record {
-        few = omega (arith, P.few);
-        chains = omega (arith, P.few, size, P.number, chs-few H (length pss));
-        base = omega (arith, P.few);
-        tables = P.tables;
-        groups = P.groups;
-        before = P.before;
-        last = last-low S.last S.last-is;
         some = some-ready;
-        ready = omega (arith, S.tells.says.number, S.tells.says.room);
+        room = omega (arith, S.tells.says.number, S.tells.says.room);
+        ready = run-low;
         below = found;
-        sums = P.sums.small;
-        tabled = tabled;
-        moved = omega (arith, S.moved, budget);
-        run = low;
-        members = P.listed.small;
-        from = λ c lt. inside C (begins_in g) (members_in g) P.listed S.version t.2 S.reaches c (omega (arith, P.number));
-        to = λ c lt. inside C (begins_in g) (members_in g) P.listed (at H r) (row_for g r) (row_is r low) c (omega (arith, P.number));
+        inside = λ c lt. inside C (begins_in g) (members_in g) P.listed S.version t.0.version S.reaches c (omega (arith, P.number));
         version = S.room;
-        chain = chain-low;
-        place = place-low;
-        climb = P.children.climb r (omega (arith, low, size));
-        children = P.children.inside r (omega (arith, low, size));
+        moved = omega (arith, S.moved, budget);
       }
 
       -- The run visited is the one that the definitions choose
-      only-is : (o : Option ℕ) → LastIs o t.0.last → (x : ℕ) → x < g.runs →
-          only_c (heads_in g.runs g.groups) (items_in g.runs g.groups) (not (eqb t.0.last 0)) (t.0.last - 1) x ≡ is_last o (at pss x)
-      only-is none e x lt = rw (eq-eqb t.0.last 0 e) (only_none (heads_in g.runs g.groups) (items_in g.runs g.groups) (at pss x) (t.0.last - 1) x)
-      only-is (some l) e x lt =
-          let k : t.0.last - 1 ≡ l = omega (arith, e.0) in
-          rw (ne_eqb t.0.last 0 (λ z. omega (arith, e.0)), k)
-          (only-some (heads_in g.runs g.groups) (items_in g.runs g.groups) (at pss x) l x (sym (group x lt)))
+      only-is : (o : code.Option ℕ) (x : ℕ) → only_c g o x ≡ is_last (last_of o) (at pss x)
+      unfolding only_c is_only is_last
+      only-is code.None x = refl
+      only-is (code.Some l) x = refl
 
-      cost_is : (x : ℕ) → x < g.runs → cost_c (sums_in g) (begins_in g) t.2 g.rows (row_starts g) g.chains x ≡ apart W S.version (at H x)
-      unfolding cost_c chains_for row_for
+      cost_is : (x : ℕ) → x < g.runs → cost_c g t.0.version x ≡ apart W S.version (at H x)
+      unfolding cost_c chains_for
       cost_is x lt =
-          ap (λ (k : ℕ). gaps_from (sums_in g) (begins_in g) t.2 (row_in (row_starts g) g.rows x) 0 k) P.number ∙
-          distance_is pss (λ m. get_or W.sizes m 0) (begins_in g) (sums_in g) P.sums W S.version (at H x) t.2 (row_in (row_starts g) g.rows x) (λ m l. refl) S.closed
+          ap (λ (k : ℕ). gaps_from (sums_in g) (begins_in g) t.0.version (row_for g x) 0 k) P.number ∙
+          distance_is pss (λ m. get_or W.sizes m 0) (begins_in g) (sums_in g) P.sums W S.version (at H x) t.0.version (row_for g x) (λ m l. refl) S.closed
           (history-closed pss below x (omega (arith, size))) S.reaches (row_is x lt)
 
       pub choice-is : choice W S.version S.last S.ready ≡ some r
-      unfolding run_at best_in best_by sums_in begins_in row_starts weights_in
+      unfolding run_at best_in
       choice-is =
-          let l = told_list W g.known g.first S.visited S.ready (t.0.ready, t.3, t.4) S.tells in
+          let l = told_list W g.known g.first S.visited S.ready t.0.waits S.tells in
           ap (choice W S.version S.last) (sym l) ∙
-          choice_found W S.version S.last (only_c (heads_in g.runs g.groups) (items_in g.runs g.groups) (not (eqb t.0.last 0)) (t.0.last - 1))
-          (cost_c (sums_in g) (begins_in g) t.2 g.rows (row_starts g) g.chains) (weight_c (weights_in g)) t.4 t.0.ready (omega (arith, S.tells.says.number, S.tells.says.room)) some-ready
+          choice_found W S.version S.last (only_c g t.0.last) (cost_c g t.0.version) (weight_c g) t.0.waits.2 t.0.waits.0 (omega (arith, S.tells.says.number, S.tells.says.room)) some-ready
           (λ x m. let lt : x < g.runs = newest_low x m in (
-            only-is S.last S.last-is x lt ∙ ap (λ (ps : List (List ℕ)). is_last S.last (at ps x)) (sym parents_are),
+            only-is t.0.last x ∙ (ap (λ (o : Option ℕ). is_last o (at pss x)) (sym S.last-is) ∙ ap (λ (ps : List (List ℕ)). is_last S.last (at ps x)) (sym parents_are)),
             cost_is x lt ∙ ap (λ (hs : List (List ℕ)). apart W S.version (at hs x)) (sym history-is),
             P.weights x lt,
           ))
 
       ready-is : is_ready W g.known g.first S.visited r ≡ true
       ready-is = is-ready Writing (written g.starts) (written_none g.starts) (written-append g.starts) W g.base g.known g.first whole
-          S.version S.last S.visited S.ready fuel (out_in t.0, t.1) S.walking r choice-is
+          S.version S.last S.visited S.ready fuel (t.0.out, t.1) S.walking r choice-is
 
       -- One visit fewer is left
       pub fuel_some : 1 ≤ fuel
@@ -266,11 +243,11 @@ module _ (g : Given) (P : Prepared g) where
         arith,
         S.walking.enough,
         fewer_due Writing (written g.starts) (written_none g.starts) (written-append g.starts) W g.base g.known g.first whole
-            S.version S.last S.visited S.ready fuel (out_in t.0, t.1) S.walking r choice-is,
+            S.version S.last S.visited S.ready fuel (t.0.out, t.1) S.walking r choice-is,
       )
 
-      visit-written : visit_of g.starts g.base (members_in g) (begins_in g) t.2 (row_for g r) g.chains r ≡ recs g.starts (visit W g.base S.version r)
-      visit-written = visit-is C (begins_in g) (members_in g) P.listed W g.starts g.base r g.chains S.version t.2 (row_for g r) (sym chains-is) P.number
+      visit-written : visit_of g.starts g.base (members_in g) (begins_in g) t.0.version (row_for g r) g.chains r ≡ recs g.starts (visit W g.base S.version r)
+      visit-written = visit-is C (begins_in g) (members_in g) P.listed W g.starts g.base r g.chains S.version t.0.version (row_for g r) (sym chains-is) P.number
           (prefixed S.version S.closed) (subst (λ (h : List ℕ). (c : ℕ) → c < length C → (i j : ℕ) → i < j → j < length (at C c) → mem (get_or (at C c) j 0) h ≡ true → mem (get_or (at C c) i 0) h ≡ true) (ap (λ (hs : List (List ℕ)). at hs r) (sym history-is)) (prefixed (at H r) (history-closed pss below r (omega (arith, low, size))))) S.reaches
           (subst (λ (h : List ℕ). Reaches C h (row_for g r)) (ap (λ (hs : List (List ℕ)). at hs r) (sym history-is)) (row_is r low))
 
@@ -282,47 +259,47 @@ module _ (g : Given) (P : Prepared g) where
         last = some r;
         visited = r ∷ S.visited;
         ready = ready_after W g.known g.first S.visited S.ready r;
-        walking = subst (λ (hs : List (List ℕ)). Walking Writing (written g.starts) (written_none g.starts) (written-append g.starts) W g.base g.known g.first whole (at hs r ++ r ∷ []) (some r) (r ∷ S.visited) (ready_after W g.known g.first S.visited S.ready r) (fuel - 1) (out_in u.0, u.1)) history-is
+        walking = subst (λ (hs : List (List ℕ)). Walking Writing (written g.starts) (written_none g.starts) (written-append g.starts) W g.base g.known g.first whole (at hs r ++ r ∷ []) (some r) (r ∷ S.visited) (ready_after W g.known g.first S.visited S.ready r) (fuel - 1) (u.0.out, u.1)) history-is
             (walk_next Writing (written g.starts) (written_none g.starts) (written-append g.starts) W g.base g.known g.first whole
-            S.version S.last S.visited S.ready fuel (out_in t.0, t.1) S.walking r choice-is (out_in u.0, u.1)
-            (T.written ∙ ap (emit (out_in t.0, t.1)) visit-written));
-        reaches = arrive_reaches pss below r (get_or (chains_in g) r 0) (get_or (places_in g) r 0) (row_for g r) u.2 (omega (arith, low, size)) (P.chain r low) (P.place r low) (row_is r low)
-            (subst (λ (k : ℕ). Holds (arrived (row_for g r) (get_or (chains_in g) r 0) (get_or (places_in g) r 0)) k u.2) P.number T.version);
+            S.version S.last S.visited S.ready fuel (t.0.out, t.1) S.walking r choice-is (u.0.out, u.1)
+            (T.written ∙ ap (emit (t.0.out, t.1)) visit-written));
+        reaches = arrive_reaches pss below r (get_or (chains_in g) r 0) (get_or (places_in g) r 0) (row_for g r) u.0.version (omega (arith, low, size)) (P.chain r low) (P.place r low) (row_is r low)
+            (subst (λ (k : ℕ). Holds (arrived (row_for g r) (get_or (chains_in g) r 0) (get_or (places_in g) r 0)) k u.0.version) P.number T.version);
         closed = visited_closed pss below r (omega (arith, low, size));
         tells = subst (Tells W g.known g.first (r ∷ S.visited) (ready_after W g.known g.first S.visited S.ready r)) (sym (T.woken ∙ woken-is))
-            (turn_tells W g.known g.first S.visited S.ready (t.0.ready, t.3, t.4) (best_in g t).at r t.0.left S.walking.going S.tells found run_is ready-is S.left
+            (turn_tells W g.known g.first S.visited S.ready t.0.waits (index_of (best_in g t)) r t.0.left S.walking.going S.tells found run_is ready-is S.left
             (omega (arith, P.first, ap length parents_are, size)));
         left = T.left ∙ left-told W g.known g.first S.visited S.ready r S.walking.going ready-is
-            (t.0.ready - 1, t.3, taken_out t.4 t.0.ready (best_in g t).at) taken t.0.left S.left;
-        last-is = (T.last, omega (arith, low, P.few));
+            (t.0.waits.0 - 1, t.0.waits.1, taken_out t.0.waits.2 t.0.waits.0 (index_of (best_in g t))) taken t.0.left S.left;
+        last-is = sym (ap last_of T.last);
         room = omega (arith, S.room, T.size);
         moved = omega (arith, S.moved, T.moved, fuel_some, one_visit);
       }
         where
-          run_is : get_or t.4 (best_in g t).at 0 ≡ r
+          run_is : get_or t.0.waits.2 (index_of (best_in g t)) 0 ≡ r
           run_is = unfold run_at in refl
 
           one_visit : fuel * 2 ^ 52 ≡ (fuel - 1) * 2 ^ 52 + 2 ^ 52
           one_visit = let e : fuel ≡ suc (fuel - 1) = omega (arith, fuel_some) in ap (λ (k : ℕ). k * 2 ^ 52) e ∙ (suc-mul (fuel - 1) (2 ^ 52) ∙ omega arith)
 
-          taken : Tells W g.known g.first S.visited (filter (λ x. not (eqb x r)) S.ready) (t.0.ready - 1, t.3, taken_out t.4 t.0.ready (best_in g t).at)
-          taken = taken_tells W g.known g.first S.visited S.ready (t.0.ready, t.3, t.4) (best_in g t).at r S.walking.going S.tells found run_is
+          taken : Tells W g.known g.first S.visited (filter (λ x. not (eqb x r)) S.ready) (t.0.waits.0 - 1, t.0.waits.1, taken_out t.0.waits.2 t.0.waits.0 (index_of (best_in g t)))
+          taken = taken_tells W g.known g.first S.visited S.ready t.0.waits (index_of (best_in g t)) r S.walking.going S.tells found run_is
 
           kids : children_for g r ≡ children_of W.parents r
           kids = unfold children_for in (P.children.each r (omega (arith, low, size)) ∙ ap (λ (ps : List (List ℕ)). children_of ps r) (sym parents_are))
 
-          woken-is : woken_of (t.0.ready - 1, t.3, taken_out t.4 t.0.ready (best_in g t).at) (children_for g r) r g.known g.first g.runs t.0.left ≡
-              woken_of (t.0.ready - 1, t.3, taken_out t.4 t.0.ready (best_in g t).at) (children_of W.parents r) r g.known g.first (length W.parents) t.0.left
-          woken-is = ap₂ (λ (ks : List ℕ) (n : ℕ). woken_of (t.0.ready - 1, t.3, taken_out t.4 t.0.ready (best_in g t).at) ks r g.known g.first n t.0.left) kids (sym (ap length parents_are ∙ size))
+          woken-is : woken_of (t.0.waits.0 - 1, t.0.waits.1, taken_out t.0.waits.2 t.0.waits.0 (index_of (best_in g t))) (children_for g r) r g.known g.first g.runs t.0.left ≡
+              woken_of (t.0.waits.0 - 1, t.0.waits.1, taken_out t.0.waits.2 t.0.waits.0 (index_of (best_in g t))) (children_of W.parents r) r g.known g.first (length W.parents) t.0.left
+          woken-is = ap₂ (λ (ks : List ℕ) (n : ℕ). woken_of (t.0.waits.0 - 1, t.0.waits.1, taken_out t.0.waits.2 t.0.waits.0 (index_of (best_in g t))) ks r g.known g.first n t.0.left) kids (sym (ap length parents_are ∙ size))
 
     -- Nothing is ready: all is written
-    pub ended : (fuel : ℕ) (t : Turn) → Walks fuel t → t.0.ready ≤ 0 → (out_in t.0, t.1) ≡ whole
+    pub ended : (fuel : ℕ) (t : Turn) → Walks fuel t → t.0.waits.0 ≤ 0 → (t.0.out, t.1) ≡ whole
     ended fuel t S none-ready = walk_end Writing (written g.starts) (written_none g.starts) (written-append g.starts) W g.base g.known g.first whole
-        S.version S.last S.visited S.ready fuel (out_in t.0, t.1) S.walking
-        (told_none W g.known g.first S.visited S.ready (t.0.ready, t.3, t.4) S.tells none-ready S.version S.last)
+        S.version S.last S.visited S.ready fuel (t.0.out, t.1) S.walking
+        (told_none W g.known g.first S.visited S.ready t.0.waits S.tells none-ready S.version S.last)
 
   -- How it begins
-  pub begun : (t : Turn) → Begun g t → Walks (emit (out_in t.0, t.1) (recs g.starts (steps_of W g.base g.known g.first))) (t.0.moved + g.runs * 2 ^ 52) g.runs t
+  pub begun : (t : Turn) → Begun g t.0 → Walks (emit (t.0.out, t.1) (recs g.starts (steps_of W g.base g.known g.first))) (t.0.out.moved + g.runs * 2 ^ 52) g.runs t
   unfolding chains_for
   begun t B = record {
     version = upto g.known;
@@ -330,21 +307,24 @@ module _ (g : Given) (P : Prepared g) where
     visited = [];
     ready = newly_ready W g.known g.first [] [];
     walking = subst (λ (k : ℕ). Walking Writing (written g.starts) (written_none g.starts) (written-append g.starts) W g.base g.known g.first
-        (emit (out_in t.0, t.1) (recs g.starts (steps_of W g.base g.known g.first))) (upto g.known) none [] (newly_ready W g.known g.first [] []) k (out_in t.0, t.1)) (ap length parents_are ∙ size)
+        (emit (t.0.out, t.1) (recs g.starts (steps_of W g.base g.known g.first))) (upto g.known) none [] (newly_ready W g.known g.first [] []) k (t.0.out, t.1)) (ap length parents_are ∙ size)
         (subst (λ (f : ℕ). Walking Writing (written g.starts) (written_none g.starts) (written-append g.starts) W g.base g.known f
-        (emit (out_in t.0, t.1) (recs g.starts (steps_of W g.base g.known g.first))) (upto g.known) none [] (newly_ready W g.known f [] []) (length W.parents) (out_in t.0, t.1)) clamp
-        (walk_start Writing (written g.starts) (written_none g.starts) (written-append g.starts) W g.base g.known g.first (out_in t.0, t.1)
+        (emit (t.0.out, t.1) (recs g.starts (steps_of W g.base g.known g.first))) (upto g.known) none [] (newly_ready W g.known f [] []) (length W.parents) (t.0.out, t.1)) clamp
+        (walk_start Writing (written g.starts) (written_none g.starts) (written-append g.starts) W g.base g.known g.first (t.0.out, t.1)
         (λ x. subst (λ (ps : List (List ℕ)). Once (at ps x)) (sym parents_are) (once x)) (λ x p m. below x p (rw parents_are at m)) (omega (arith, P.known, P.first, ap length parents_are, size))));
-    reaches = start-reaches pss below (chains_in g) (places_in g) (λ m lt. P.chain m (omega (arith, size))) (λ m lt. P.place m (omega (arith, size))) g.known t.2 (omega (arith, P.known, P.first, size))
-        (subst (λ (k : ℕ). Holds (started (chains_in g) (places_in g) g.known) k t.2) P.number B.version);
+    reaches = start-reaches pss below (chains_in g) (places_in g) (λ m lt. P.chain m (omega (arith, size))) (λ m lt. P.place m (omega (arith, size))) g.known t.0.version (omega (arith, P.known, P.first, size))
+        (subst (λ (k : ℕ). Holds (started (chains_in g) (places_in g) g.known) k t.0.version) P.number B.version);
     closed = first-closed pss below g.known (omega (arith, P.known, P.first, size));
-    tells = subst (Tells W g.known g.first [] (newly_ready W g.known g.first [] [])) (sym (B.wakes ∙ ap (start_all g.known g.first (0, B.waiting₀, B.ready₀) 0) (sym parents_are)))
-        (start_tells W g.known g.first B.waiting₀ B.ready₀ (B.waits ∙ sym (ap length parents_are ∙ size)) (omega (arith, B.readies, ap length parents_are, size)));
+    tells = subst (Tells W g.known g.first [] (newly_ready W g.known g.first [] [])) (sym waits-are)
+        (start_tells W g.known g.first (replicate g.runs 0) (replicate 512 0) (length-replicate {A = ℕ} g.runs 0 ∙ sym (ap length parents_are ∙ size)) (omega (arith, length-replicate {A = ℕ} 512 0, P.few, ap length parents_are, size)));
     left = B.left ∙ sym (left-start W g.known g.first);
-    last-is = B.last;
+    last-is = sym (ap last_of B.last);
     room = B.room;
     moved = omega arith;
   }
     where
       clamp : max g.known (min g.first (length W.parents)) ≡ g.first
       clamp = omega (arith, P.known, P.first, ap length parents_are, size)
+
+      waits-are : t.0.waits ≡ start_all g.known g.first (0, replicate g.runs 0, replicate 512 0) 0 W.parents
+      waits-are = B.waits ∙ (unfold start_waits in (ap (start_all g.known g.first (0, replicate g.runs 0, replicate 512 0) 0) (sym parents_are)))

@@ -2,17 +2,17 @@
 use mathlib.Core.Path.{◌≡◌, sym, ap, ◌∙◌, subst}
 use mathlib.Core.Bool.{true}
 use mathlib.Core.List.{List}
-use Prim.Native.Nat.{ℕ, ◌+◌, ◌*◌, ◌≤◌, ◌<◌}
+use Prim.Native.Nat.{ℕ, ◌+◌, ◌≤◌, ◌<◌}
 use native.Mathlib.Omega.{arith}
 use lib.ListN.{length, get_or, take}
 use Rattle.lists.specs.Lists.{rising}
 use Rattle.model.specs.History.{at, histories}
 use Rattle.model.specs.Range.{sizes_of}
 use Rattle.model.specs.Cover.{weights}
+use Rattle.std.specs.Prelude.{Some}
 use Rattle.tables.specs.declared.rows.Area.{Area}
 use Rattle.tables.specs.Lanes.{lane}
 use Rattle.tables.specs.Laid.{shares, heads_in, items_in, grouped, chs, row_at, chains_of, Laid, RangeLaid}
-use Rattle.tables.specs.Covers.{cover_words}
 use Rattle.tables.specs.Tables.{Listed, Sums, size_in}
 use Rattle.tables.specs.Indexed.{Indexable, IndexOf}
 use Rattle.tables.specs.Sizes.{Inside, row_in}
@@ -23,12 +23,12 @@ use Rattle.tables.proofs.Laning.{lane-length}
 use Rattle.tables.proofs.Weighted.{weight-at}
 use Rattle.walk.specs.Ranges.{range_by, range_in, offsets, Arrays}
 use Rattle.walk.specs.Prepare.{Measurable, Measured, Relatable, Related}
-use Rattle.walk.specs.Turns.{Given, row_starts, chains_in, places_in, begins_in, members_in, child_starts, weights_in, sums_in, row_for, parents_for, range_for, chains_for, Prepared}
+use Rattle.walk.specs.Given.{Given, row_starts, chains_in, places_in, begins_in, members_in, child_starts, weights_in, sums_in, row_for, parents_for, range_for, chains_for, Prepared}
 use Rattle.walk.proofs.Preparing.{own, own-order, own-offsets, own-sizes, shares-rise, sums_same}
 
 -- Rows are laid, all of them
 module _ (starts heads parents : List ℕ) (a n : ℕ) (A : Arrays starts heads parents (a + n)) (area₀ area groups tables₀ : List ℕ) (r : Area)
-    (R : RangeLaid (shares heads parents a n) n area₀ r area groups tables₀) (done : r.short ≡ 0) where
+    (R : RangeLaid (shares heads parents a n) n area₀ (Some r) area groups tables₀) where
   abbrev P : List (List ℕ)
   P = grouped (heads_in n groups) (items_in n groups) n
 
@@ -43,7 +43,7 @@ module _ (starts heads parents : List ℕ) (a n : ℕ) (A : Arrays starts heads 
 
   laid : Laid P n (chains_of r (n + 1) tables₀) area area₀
   unfolding chains_of
-  laid = subst (λ (l : List (List ℕ)). Laid l n (chains_of r (n + 1) tables₀) area area₀) (sym R.groups_are) (R.out.chains done)
+  laid = subst (λ (l : List (List ℕ)). Laid l n (chains_of r (n + 1) tables₀) area area₀) (sym R.groups_are) R.out.told.1
 
   laid_all : Laid P (length P) (chains_of r (length P + 1) tables₀) area area₀
   laid_all = subst (λ (k : ℕ). Laid P k (chains_of r (k + 1) tables₀) area area₀) (sym size) laid
@@ -56,32 +56,18 @@ module _ (starts heads parents : List ℕ) (a n : ℕ) (A : Arrays starts heads 
   lie = λ k lt. row_lies P n (chains_of r (n + 1) tables₀) area area₀ laid k lt
 
   -- What the tables need
-  pub measurable : (before sizes scratch : List ℕ) → length tables₀ ≡ 4104 → length before ≡ 513 → length sizes ≡ 512 → length scratch ≡ 513 →
-      Measurable n r.chains area tables₀ before sizes scratch
-  measurable before sizes scratch t b s c = record {
+  pub measurable : Measurable n r.chains area tables₀
+  measurable = record {
     index = subst (λ (k : ℕ). Indexable k r.chains (lane 3 (k + 1) tables₀) (lane 1 (k + 1) tables₀) (lane 2 (k + 1) tables₀)) size (laid_indexable P r tables₀ area area₀ laid_all few);
     rows = lie;
-    tables = omega (arith, R.sound.few);
-    before = omega (arith, R.sound.few);
-    sizes = omega (arith, R.sound.few);
-    scratch = omega (arith, R.sound.few);
   }
 
-  pub relatable : (children covers scratch : List ℕ) → length groups ≡ 2561 → length tables₀ ≡ 4104 → length children ≡ 2561 → length covers ≡ 512 * cover_words → length scratch ≡ 513 →
-      Relatable S n groups tables₀ children covers scratch
-  relatable children covers scratch g t k v c = record {
-    sound = R.sound;
-    rise = rise;
-    order = own-order starts heads parents a n A;
-    tables = omega (arith, R.sound.few);
-    children = (omega arith, omega arith);
-    covers = omega (arith, R.sound.few);
-    scratch = omega (arith, R.sound.few);
-  }
+  pub relatable : Relatable S n groups
+  relatable = record { sound = R.sound; rise = rise; order = own-order starts heads parents a n A }
 
   -- The tables are there
   module _ (tables before sizes children : List ℕ) (known first : ℕ) (M : Measured S n r.chains area before sizes tables tables₀) (F : Related S n groups children tables)
-      (gs : length groups ≡ 2561) (ts : length tables ≡ 4104) (bs : length before ≡ 513) (low : known ≤ first) (high : first ≤ n) where
+      (ts : length tables ≡ 4104) (low : known ≤ first) (high : first ≤ n) where
     abbrev given : Given
     given = record { starts = starts; rows = area; groups = groups; tables = tables; before = before; sizes = sizes; children = children; base = a; runs = n; chains = r.chains; known = known; first = first }
 
@@ -123,10 +109,6 @@ module _ (starts heads parents : List ℕ) (a n : ℕ) (A : Arrays starts heads 
       few = A.sound.few;
       known = low;
       first = high;
-      tables = omega (arith, R.sound.few);
-      groups = omega (arith, R.sound.few);
-      items = omega arith;
-      before = omega (arith, R.sound.few);
       sound = R.sound;
       rise = rise;
       number = chain-count;

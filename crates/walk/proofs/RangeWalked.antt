@@ -1,22 +1,25 @@
 -- What a range's walk comes to is what the definitions say: rows too long, or steps. Assumes nothing.
-use mathlib.Core.Path.{◌≡◌, refl, sym, ap, ap₂, ◌∙◌}
-use mathlib.Core.Bool.{Bool, true, false}
+use mathlib.Core.Path.{◌≡◌, sym, ap, ap₂, ◌∙◌}
+use mathlib.Core.Bool.{true, false}
 use mathlib.Core.List.{List, []}
 use mathlib.Core.Option.{none}
 use Prim.Native.Nat.{ℕ, ◌+◌, ◌-◌, ◌≤◌, min, max}
 use native.Mathlib.Omega.{arith}
 use lib.ListN.{length}
-use Rattle.lists.specs.Lists.{bit, upto}
+use Rattle.lists.specs.Lists.{upto}
 use Rattle.model.specs.Choice.{Range, newly_ready}
 use Rattle.model.specs.Steps.{Step, visits, steps_of}
 use Rattle.model.specs.Walk.{rows_into, rows_too_long}
+use Rattle.std.specs.Prelude.{Option, Some, None}
+use Rattle.std.proofs.lemmas.Option.{MatchOption-at_none, MatchOption-at_some}
+use borrow.Author.Tests.{lt-ltb, le-ltb}
 use Rattle.tables.specs.declared.rows.Area.{Area}
-use Rattle.tables.specs.Laid.{shares, chains_of, RangeLaid}
+use Rattle.tables.specs.Laid.{shares, RangeLaid}
 use Rattle.tables.proofs.Gathering.{shares-length}
 use Rattle.moves.specs.declared.writing.Out.{Out}
 use Rattle.moves.specs.Emit.{Writing, emit}
 use Rattle.moves.specs.Moves.{recs}
-use Rattle.walk.specs.Ranges.{range_by, range_in, Arrays, Room}
+use Rattle.walk.specs.Ranges.{range_by, range_in, Arrays}
 use Rattle.walk.specs.Walked.{ranged, walked_in}
 use Rattle.walk.proofs.Clamping.{clamp_steps}
 use Rattle.walk.proofs.Answering.{walked-rows, walked-steps}
@@ -25,20 +28,7 @@ use Rattle.walk.proofs.Answering.{walked-rows, walked-steps}
 pub arrays_end : (starts heads parents : List ℕ) (a b n : ℕ) → a ≤ b → n ≡ b - a → Arrays starts heads parents b → Arrays starts heads parents (a + n)
 arrays_end starts heads parents a b n le e A = let q : b ≡ a + n = omega arith in rw q at A
 
--- Areas of the same lengths
-pub room_still : (gs ts bs ss cs vs rs gs' ts' bs' ss' cs' vs' rs' : List ℕ) → Room gs ts bs ss cs vs rs → length gs' ≡ length gs → length ts' ≡ length ts → length bs' ≡ length bs → length ss' ≡ length ss →
-    length cs' ≡ length cs → length vs' ≡ length vs → length rs' ≡ length rs → Room gs' ts' bs' ss' cs' vs' rs'
-room_still gs ts bs ss cs vs rs gs' ts' bs' ss' cs' vs' rs' R g t b s k v r = record {
-  groups = g ∙ R.groups;
-  tables = t ∙ R.tables;
-  before = b ∙ R.before;
-  sizes = s ∙ R.sizes;
-  children = k ∙ R.children;
-  covers = v ∙ R.covers;
-  scratch = r ∙ R.scratch;
-}
-
-module _ (starts heads parents : List ℕ) (a n : ℕ) (area₀ area groups tables : List ℕ) (r : Area) (R : RangeLaid (shares heads parents a n) n area₀ r area groups tables) where
+module _ (starts heads parents : List ℕ) (a n : ℕ) (area₀ area groups tables : List ℕ) (r : Option Area) (R : RangeLaid (shares heads parents a n) n area₀ r area groups tables) where
   abbrev w : Range
   w = range_in starts heads parents a n
 
@@ -46,29 +36,19 @@ module _ (starts heads parents : List ℕ) (a n : ℕ) (area₀ area groups tabl
   unfolding rows_into range_in range_by
   rows_are = sym R.out.area_is
 
-  short_is : r.short ≡ bit (rows_too_long w area₀)
-  unfolding rows_too_long range_in range_by chains_of
-  short_is = R.out.short_is
+  too_long : r ≡ None → rows_too_long w area₀ ≡ true
+  unfolding rows_too_long range_in range_by
+  too_long e = lt-ltb (length area₀) _ (MatchOption-at_none _ _ e R.out.told)
 
-  too_long : (r.short ≡ 0 → ⊥) → rows_too_long w area₀ ≡ true
-  too_long h = go (rows_too_long w area₀) short_is
-    where
-      go : (t : Bool) → r.short ≡ bit t → t ≡ true
-      go true e = refl
-      go false e = absurd (h e)
-
-  all_fit : r.short ≡ 0 → rows_too_long w area₀ ≡ false
-  all_fit h = go (rows_too_long w area₀) short_is
-    where
-      go : (t : Bool) → r.short ≡ bit t → t ≡ false
-      go true e = absurd (omega (arith, e, h))
-      go false e = refl
+  all_fit : (x : Area) → r ≡ Some x → rows_too_long w area₀ ≡ false
+  unfolding rows_too_long range_in range_by
+  all_fit x e = le-ltb (length area₀) _ (MatchOption-at_some _ _ x e R.out.told).0
 
   -- Rows were too long
-  pub range_short : (d known first : ℕ) (out : Out) (steps : List ℕ) → n ≡ d → (r.short ≡ 0 → ⊥) →
-      (ranged out 1, area, steps) ≡ walked_in starts (range_in starts heads parents a d) a known first out area₀ steps
+  pub range_short : (d known first : ℕ) (out : Out) (steps : List ℕ) → n ≡ d → r ≡ None →
+      (ranged out true, area, steps) ≡ walked_in starts (range_in starts heads parents a d) a known first out area₀ steps
   range_short d known first out steps e h =
-      ap (λ (l : List ℕ). (ranged out 1, l, steps)) (sym rows_are) ∙
+      ap (λ (l : List ℕ). (ranged out true, l, steps)) (sym rows_are) ∙
       (sym (walked-rows starts w a known first out area₀ steps (too_long h)) ∙ ap (λ (k : ℕ). walked_in starts (range_in starts heads parents a k) a known first out area₀ steps) e)
 
   size : length w.parents ≡ n
@@ -84,12 +64,12 @@ module _ (starts heads parents : List ℕ) (a n : ℕ) (area₀ area groups tabl
       sym (clamp_steps w known first (omega (arith, size)) a))
 
   -- All are there
-  pub range_walked : (d known first f : ℕ) (v : Range) (out o : Out) (steps steps₂ : List ℕ) → n ≡ d → r.short ≡ 0 → known ≤ n → f ≡ max known (min first n) → v ≡ w →
+  pub range_walked : (d known first f : ℕ) (v : Range) (out o : Out) (steps steps₂ : List ℕ) → n ≡ d → (z : Area) → r ≡ Some z → known ≤ n → f ≡ max known (min first n) → v ≡ w →
       ◌≡◌ {A = Writing} (o, steps₂) (emit (out, steps) (recs starts (steps_of v a known f))) →
-      (ranged o 0, area, steps₂) ≡ walked_in starts (range_in starts heads parents a d) a known first out area₀ steps
-  range_walked d known first f v out o steps steps₂ e done le fe ve written =
+      (ranged o false, area, steps₂) ≡ walked_in starts (range_in starts heads parents a d) a known first out area₀ steps
+  range_walked d known first f v out o steps steps₂ e z done le fe ve written =
       let x : Writing = emit (out, steps) (recs starts (steps_of w a known first)) in
       let same : ◌≡◌ {A = Writing} (o, steps₂) x =
       written ∙ ap (λ (l : List Step). emit (out, steps) (recs starts l)) (ap (λ (u : Range). steps_of u a known f) ve ∙ steps-same known first f le fe) in
-      ap₂ (λ (y : Writing) (l : List ℕ). (ranged y.0 0, l, y.1)) same (sym rows_are) ∙
-      (sym (walked-steps starts w a known first out area₀ steps (all_fit done)) ∙ ap (λ (k : ℕ). walked_in starts (range_in starts heads parents a k) a known first out area₀ steps) e)
+      ap₂ (λ (y : Writing) (l : List ℕ). (ranged y.0 false, l, y.1)) same (sym rows_are) ∙
+      (sym (walked-steps starts w a known first out area₀ steps (all_fit z done)) ∙ ap (λ (k : ℕ). walked_in starts (range_in starts heads parents a k) a known first out area₀ steps) e)

@@ -9,7 +9,7 @@ use lib.ListN.{length, take, length-append}
 use lib.Seq.{take-nil}
 use lib.Dec.{ltb, eqb}
 use borrow.Author.Tests.{lt-ltb, le-ltb, eq-eqb, ne_eqb}
-use Rattle.lists.specs.Lists.{bit, from}
+use Rattle.lists.specs.Lists.{from}
 use Rattle.lists.specs.Areas.{over}
 use Rattle.lists.proofs.Truth.{lt_or_le, eq_or-not}
 use Rattle.model.specs.declared.answers.Refusal.{Refusal}
@@ -20,11 +20,12 @@ use Rattle.model.specs.Choice.{Range, range_of}
 use Rattle.model.specs.Steps.{Step, opened, apply, steps_of, words, moved_in}
 use Rattle.model.specs.Walk.{rows_into, rows_too_long}
 use Rattle.model.specs.Replay.{Replayed, replay_range, replay_ranges}
+use Rattle.moves.specs.declared.writing.Kind.TheVariants.{Open}
 use Rattle.moves.specs.Emit.{Writing, step_of, emit, emit_one, applies}
 use Rattle.moves.specs.Moves.{recs}
 use Rattle.moves.proofs.Closing.{going}
 use Rattle.moves.proofs.Written.{emit_then, open_is, applies_are}
-use Rattle.walk.specs.Walked.{State, ranged, out_of, outcome_of, opening, open_of, replay_on, replay_all}
+use Rattle.walk.specs.Walked.{State, ranged, outcome_of, opening, open_of, replay_on, replay_all}
 use Rattle.walk.proofs.Answering.{written-parts, walked-rows, walked-steps, outcome_rows, outcome_list}
 use Rattle.std.specs.Prelude.{Ok, Err}
 use Rattle.model.specs.Refusals.{Outcome}
@@ -71,52 +72,52 @@ module _ (st : List ℕ) (range : ℕ → ℕ → Range) where
   -- A range by what was refused before and whether Open finds room
   on_form_lem : Bool → Bool → Bool → State → HistoryRange → State
   on_form_lem t u v s c = elim t [
-    | false ↦ s
-    | true ↦ elim u [
-      | false ↦ s
-      | true ↦
-          let x : Writing = open_of (out_of s.0, s.2) c in
-          elim v [ false ↦ (ranged x.0 0, s.1, x.1) | true ↦ opening st range x s.1 c ]
+    | true ↦ s
+    | false ↦ elim u [
+      | true ↦ s
+      | false ↦
+          let x : Writing = open_of (s.0.out, s.2) c in
+          elim v [ true ↦ (ranged x.0 false, s.1, x.1) | false ↦ opening st range x s.1 c ]
     ]
   ]
 
-  on_form : (s : State) (c : HistoryRange) (t u v : Bool) → eqb s.0.rows 0 ≡ t → eqb s.0.short 0 ≡ u → eqb (open_of (out_of s.0, s.2) c).0.short 0 ≡ v →
+  on_form : (s : State) (c : HistoryRange) (t u v : Bool) → s.0.rows_too_long ≡ t → s.0.out.short ≡ u → (open_of (s.0.out, s.2) c).0.short ≡ v →
       replay_on st range s c ≡ on_form_lem t u v s c
   on_form s c t u v p q r = is ∙ λ i. on_form_lem (p i) (q i) (r i) s c
     where
-      is : replay_on st range s c ≡ on_form_lem (eqb s.0.rows 0) (eqb s.0.short 0) (eqb (open_of (out_of s.0, s.2) c).0.short 0) s c
+      is : replay_on st range s c ≡ on_form_lem (s.0.rows_too_long) s.0.out.short (open_of (s.0.out, s.2) c).0.short s c
       is = unfold replay_on on_form_lem in refl
 
   -- Where something was refused nothing more is done
-  pub on_rows : (s : State) (c : HistoryRange) → (s.0.rows ≡ 0 → ⊥) → replay_on st range s c ≡ s
-  on_rows s c n = on_form s c false _ _ (ne_eqb s.0.rows 0 n) refl refl ∙ (unfold on_form_lem in refl)
+  pub on_rows : (s : State) (c : HistoryRange) → (s.0.rows_too_long ≡ true) → replay_on st range s c ≡ s
+  on_rows s c n = on_form s c true _ _ n refl refl ∙ (unfold on_form_lem in refl)
 
-  pub on_short : (s : State) (c : HistoryRange) → s.0.rows ≡ 0 → (s.0.short ≡ 0 → ⊥) → replay_on st range s c ≡ s
-  on_short s c e n = on_form s c true false _ (eq-eqb s.0.rows 0 e) (ne_eqb s.0.short 0 n) refl ∙ (unfold on_form_lem in refl)
+  pub on_short : (s : State) (c : HistoryRange) → s.0.rows_too_long ≡ false → s.0.out.short ≡ true → replay_on st range s c ≡ s
+  on_short s c e n = on_form s c false true _ e n refl ∙ (unfold on_form_lem in refl)
 
-  pub stays-rows : (s : State) (cs : List HistoryRange) → (s.0.rows ≡ 0 → ⊥) → replay_all st range s cs ≡ s
+  pub stays-rows : (s : State) (cs : List HistoryRange) → (s.0.rows_too_long ≡ true) → replay_all st range s cs ≡ s
   unfolding replay_all
   stays-rows s [] n = refl
   stays-rows s (c ∷ cs) n = ap (λ (x : State). replay_all st range x cs) (on_rows s c n) ∙ stays-rows s cs n
 
-  pub stays-short : (s : State) (cs : List HistoryRange) → s.0.rows ≡ 0 → (s.0.short ≡ 0 → ⊥) → replay_all st range s cs ≡ s
+  pub stays-short : (s : State) (cs : List HistoryRange) → s.0.rows_too_long ≡ false → s.0.out.short ≡ true → replay_all st range s cs ≡ s
   unfolding replay_all
   stays-short s [] e n = refl
   stays-short s (c ∷ cs) e n = ap (λ (x : State). replay_all st range x cs) (on_short s c e n) ∙ stays-short s cs e n
 
   -- Open found no room, and it found room
-  pub on_full : (s : State) (c : HistoryRange) → s.0.rows ≡ 0 → s.0.short ≡ 0 → ((open_of (out_of s.0, s.2) c).0.short ≡ 0 → ⊥) →
-      replay_on st range s c ≡ (ranged (open_of (out_of s.0, s.2) c).0 0, s.1, (open_of (out_of s.0, s.2) c).1)
+  pub on_full : (s : State) (c : HistoryRange) → s.0.rows_too_long ≡ false → s.0.out.short ≡ false → (open_of (s.0.out, s.2) c).0.short ≡ true →
+      replay_on st range s c ≡ (ranged (open_of (s.0.out, s.2) c).0 false, s.1, (open_of (s.0.out, s.2) c).1)
   on_full s c e f n =
-      on_form s c true true false (eq-eqb s.0.rows 0 e) (eq-eqb s.0.short 0 f) (ne_eqb (open_of (out_of s.0, s.2) c).0.short 0 n) ∙ (unfold on_form_lem in refl)
+      on_form s c false false true e f n ∙ (unfold on_form_lem in refl)
 
-  pub on_open : (s : State) (c : HistoryRange) → s.0.rows ≡ 0 → s.0.short ≡ 0 → (open_of (out_of s.0, s.2) c).0.short ≡ 0 →
-      replay_on st range s c ≡ opening st range (open_of (out_of s.0, s.2) c) s.1 c
+  pub on_open : (s : State) (c : HistoryRange) → s.0.rows_too_long ≡ false → s.0.out.short ≡ false → (open_of (s.0.out, s.2) c).0.short ≡ false →
+      replay_on st range s c ≡ opening st range (open_of (s.0.out, s.2) c) s.1 c
   on_open s c e f n =
-      on_form s c true true true (eq-eqb s.0.rows 0 e) (eq-eqb s.0.short 0 f) (eq-eqb (open_of (out_of s.0, s.2) c).0.short 0 n) ∙ (unfold on_form_lem in refl)
+      on_form s c false false false e f n ∙ (unfold on_form_lem in refl)
 
 abbrev state_of : Writing → List ℕ → State
-state_of x rows = (ranged x.0 0, rows, x.1)
+state_of x rows = (ranged x.0 false, rows, x.1)
 
 linear_opening : (st : List ℕ) (range : ℕ → ℕ → Range) (x : Writing) (rows : List ℕ) (a b : ℕ) → opening st range x rows (linear a b) ≡ state_of (emit x (applies a (b - a))) rows
 unfolding opening
@@ -147,35 +148,35 @@ module _ (g : Graph) (ws : List ℕ) where
   wrote done = emit (going 0 0, ws) (recs st done)
 
   abbrev state_at : List Step → List ℕ → State
-  state_at done rows = (ranged (wrote done).0 0, rows, (wrote done).1)
+  state_at done rows = (ranged (wrote done).0 false, rows, (wrote done).1)
 
   wrote_on : (done ss : List Step) → emit (wrote done) (recs st ss) ≡ wrote (done ++ ss)
   unfolding wrote
   wrote_on done ss = emit_then st (going 0 0, ws) done ss
 
   wrote-is : (done : List Step) → ((wrote done).1 ≡ over (words (take room done)) ws) × ((wrote done).0.count ≡ length (take room done)) ×
-      ((wrote done).0.moved ≡ moved_in g (take room done)) × ((wrote done).0.short ≡ bit (ltb room (length done)))
+      ((wrote done).0.moved ≡ moved_in g (take room done)) × ((wrote done).0.short ≡ ltb room (length done))
   unfolding wrote
   wrote-is done = written-parts g done ws
 
-  wrote-short : (done : List Step) → (wrote done).0.short ≡ bit (ltb room (length done))
+  wrote-short : (done : List Step) → (wrote done).0.short ≡ ltb room (length done)
   wrote-short done = (wrote-is done).3
 
-  fits : (done : List Step) → length done ≤ room → (wrote done).0.short ≡ 0
-  fits done le = wrote-short done ∙ ap bit (le-ltb room (length done) le)
+  fits : (done : List Step) → length done ≤ room → (wrote done).0.short ≡ false
+  fits done le = wrote-short done ∙ le-ltb room (length done) le
 
-  full : (done : List Step) → room < length done → (wrote done).0.short ≡ 0 → ⊥
-  full done lt e = let z : ◌≡◌ {A = ℕ} 1 0 = sym (wrote-short done ∙ ap bit (lt-ltb room (length done) lt)) ∙ e in omega arith
+  full : (done : List Step) → room < length done → (wrote done).0.short ≡ true
+  full done lt = wrote-short done ∙ lt-ltb room (length done) lt
 
-  open_on : (done : List Step) (c : HistoryRange) (a b : ℕ) (x : Writing) → x ≡ wrote done → open_of x c ≡ emit_one x (step_of 3 a b 0) → open_of x c ≡ wrote (done ++ opened a b ∷ [])
-  open_on done c a b x e q = q ∙ (ap (λ (y : Writing). emit_one y (step_of 3 a b 0)) e ∙ (open_is st (wrote done) a b ∙ wrote_on done (opened a b ∷ [])))
+  open_on : (done : List Step) (c : HistoryRange) (a b : ℕ) (x : Writing) → x ≡ wrote done → open_of x c ≡ emit_one x (step_of Open a b 0) → open_of x c ≡ wrote (done ++ opened a b ∷ [])
+  open_on done c a b x e q = q ∙ (ap (λ (y : Writing). emit_one y (step_of Open a b 0)) e ∙ (open_is st (wrote done) a b ∙ wrote_on done (opened a b ∷ [])))
 
   -- What a replay from there on comes to
   pub record Ends (done : List Step) (r : Replayed) (t : State) : Type 0 where
     pub rows : t.1 ≡ r.2
     pub steps : t.2 ≡ over (words (done ++ r.1)) ws
-    pub count : t.0.count ≡ length (done ++ r.1)
-    pub moved : t.0.moved ≡ moved_in g (done ++ r.1)
+    pub count : t.0.out.count ≡ length (done ++ r.1)
+    pub moved : t.0.out.moved ≡ moved_in g (done ++ r.1)
     pub outcome : outcome_of t.0 ≡ r.0
 
   -- of steps all of which the list had to take, rows in order
@@ -194,7 +195,7 @@ module _ (g : Graph) (ws : List ℕ) where
 
   -- rows were too long after Open
   ends-rows : (done : List Step) (a b : ℕ) (rows : List ℕ) → length done < room →
-      Ends done (Err RowsTooLong, opened a b ∷ [], rows) (ranged (wrote (done ++ opened a b ∷ [])).0 1, rows, (wrote (done ++ opened a b ∷ [])).1)
+      Ends done (Err RowsTooLong, opened a b ∷ [], rows) (ranged (wrote (done ++ opened a b ∷ [])).0 true, rows, (wrote (done ++ opened a b ∷ [])).1)
   ends-rows done a b rows lt =
       let size : length (done ++ opened a b ∷ []) ≤ room = omega (arith, length-append done (opened a b ∷ [])) in
       let q = wrote-is (done ++ opened a b ∷ []) in
@@ -255,35 +256,35 @@ module _ (g : Graph) (ws : List ℕ) where
             (subst (Ends done (more.0, ss ++ more.1, more.2)) (sym there) (ends_more done ss more.0 more.1 more.2 _ (rest fit)))
 
   -- The range's Open, from `done`
-  open_at : (done : List Step) (c : HistoryRange) (a b : ℕ) → open_of (wrote done) c ≡ emit_one (wrote done) (step_of 3 a b 0) →
-      (rows : List ℕ) → open_of (out_of (state_at done rows).0, (state_at done rows).2) c ≡ wrote (done ++ opened a b ∷ [])
+  open_at : (done : List Step) (c : HistoryRange) (a b : ℕ) → open_of (wrote done) c ≡ emit_one (wrote done) (step_of Open a b 0) →
+      (rows : List ℕ) → open_of ((state_at done rows).0.out, (state_at done rows).2) c ≡ wrote (done ++ opened a b ∷ [])
   open_at done c a b q rows = open_on done c a b (wrote done) refl q
 
   -- Open found no room
-  no_room : (done : List Step) (c : HistoryRange) (cs : List HistoryRange) (a b : ℕ) (rows : List ℕ) → open_of (wrote done) c ≡ emit_one (wrote done) (step_of 3 a b 0) →
+  no_room : (done : List Step) (c : HistoryRange) (cs : List HistoryRange) (a b : ℕ) (rows : List ℕ) → open_of (wrote done) c ≡ emit_one (wrote done) (step_of Open a b 0) →
       length done ≡ room → Ends done (replay_ranges g (c ∷ cs) (room - length done) rows) (replay_all st (range_of g) (state_at done rows) (c ∷ cs))
   no_room done c cs a b rows q e =
       let x : Writing = wrote (done ++ opened a b ∷ []) in
       let long : room < length (done ++ opened a b ∷ []) = omega (arith, length-append done (opened a b ∷ [])) in
       let o = open_at done c a b q rows in
       let z : room - length done ≡ 0 = omega arith in
-      let on : replay_on st (range_of g) (state_at done rows) c ≡ (ranged x.0 0, rows, x.1) =
-      on_full st (range_of g) (state_at done rows) c refl (fits done (omega arith)) (λ s. full (done ++ opened a b ∷ []) long (sym (ap (λ (y : Writing). y.0.short) o) ∙ s)) ∙
-      ap (λ (y : Writing). (ranged y.0 0, rows, y.1)) o in
-      let there : replay_all st (range_of g) (state_at done rows) (c ∷ cs) ≡ (ranged x.0 0, rows, x.1) =
-      all-next (state_at done rows) c cs ∙ (ap (λ (y : State). replay_all st (range_of g) y cs) on ∙ stays-short st (range_of g) (ranged x.0 0, rows, x.1) cs refl (full (done ++ opened a b ∷ []) long)) in
+      let on : replay_on st (range_of g) (state_at done rows) c ≡ (ranged x.0 false, rows, x.1) =
+      on_full st (range_of g) (state_at done rows) c refl (fits done (omega arith)) (ap (λ (y : Writing). y.0.short) o ∙ full (done ++ opened a b ∷ []) long) ∙
+      ap (λ (y : Writing). (ranged y.0 false, rows, y.1)) o in
+      let there : replay_all st (range_of g) (state_at done rows) (c ∷ cs) ≡ (ranged x.0 false, rows, x.1) =
+      all-next (state_at done rows) c cs ∙ (ap (λ (y : State). replay_all st (range_of g) y cs) on ∙ stays-short st (range_of g) (ranged x.0 false, rows, x.1) cs refl (full (done ++ opened a b ∷ []) long)) in
       let r : replay_ranges g (c ∷ cs) (room - length done) rows ≡ (Err ListTooShort, [], rows) = ranges_full g c cs (room - length done) rows z in
       let none : take (room - length done) (opened a b ∷ []) ≡ [] = rw z in
       subst (λ (y : Replayed). Ends done y (replay_all st (range_of g) (state_at done rows) (c ∷ cs))) (sym r)
       (subst (Ends done (Err ListTooShort, [], rows)) (sym there)
-      (subst (λ (l : List Step). Ends done (Err ListTooShort, l, rows) (ranged x.0 0, rows, x.1)) none
+      (subst (λ (l : List Step). Ends done (Err ListTooShort, l, rows) (ranged x.0 false, rows, x.1)) none
       (ends_with done (opened a b ∷ []) rows (Err ListTooShort) (omega arith) (ap (λ t. cond t (Err ListTooShort) (Ok tt)) (lt-ltb room (length (done ++ opened a b ∷ [])) long)))))
     where
       all-next : (s : State) (c : HistoryRange) (cs : List HistoryRange) → replay_all st (range_of g) s (c ∷ cs) ≡ replay_all st (range_of g) (replay_on st (range_of g) s c) cs
       all-next s c cs = unfold replay_all in refl
 
   -- Open found room: what follows it
-  opened_on : (done : List Step) (c : HistoryRange) (a b : ℕ) (rows : List ℕ) → open_of (wrote done) c ≡ emit_one (wrote done) (step_of 3 a b 0) → length done < room →
+  opened_on : (done : List Step) (c : HistoryRange) (a b : ℕ) (rows : List ℕ) → open_of (wrote done) c ≡ emit_one (wrote done) (step_of Open a b 0) → length done < room →
       replay_on st (range_of g) (state_at done rows) c ≡ opening st (range_of g) (wrote (done ++ opened a b ∷ [])) rows c
   opened_on done c a b rows q lt =
       let size : length (done ++ opened a b ∷ []) ≤ room = omega (arith, length-append done (opened a b ∷ [])) in
@@ -306,10 +307,10 @@ module _ (g : Graph) (ws : List ℕ) where
   walked_on done a b rows lt e =
       opened_on done (concurrent a b) a b rows (unfold open_of in refl) lt ∙ (unfold opening in
       (walked-steps st (range_of g a b) a 0 0 (wrote (done ++ opened a b ∷ [])).0 rows (wrote (done ++ opened a b ∷ [])).1 e ∙
-      ap (λ (x : Writing). (ranged x.0 0, rows_into (range_of g a b) rows, x.1)) (wrote_after done (opened a b) (steps_of (range_of g a b) a 0 0))))
+      ap (λ (x : Writing). (ranged x.0 false, rows_into (range_of g a b) rows, x.1)) (wrote_after done (opened a b) (steps_of (range_of g a b) a 0 0))))
 
   rows_on : (done : List Step) (a b : ℕ) (rows : List ℕ) → length done < room → rows_too_long (range_of g a b) rows ≡ true →
-      replay_on st (range_of g) (state_at done rows) (concurrent a b) ≡ (ranged (wrote (done ++ opened a b ∷ [])).0 1, rows_into (range_of g a b) rows, (wrote (done ++ opened a b ∷ [])).1)
+      replay_on st (range_of g) (state_at done rows) (concurrent a b) ≡ (ranged (wrote (done ++ opened a b ∷ [])).0 true, rows_into (range_of g a b) rows, (wrote (done ++ opened a b ∷ [])).1)
   rows_on done a b rows lt e =
       opened_on done (concurrent a b) a b rows (unfold open_of in refl) lt ∙ (unfold opening in
       (walked-rows st (range_of g a b) a 0 0 (wrote (done ++ opened a b ∷ [])).0 rows (wrote (done ++ opened a b ∷ [])).1 e))
@@ -338,10 +339,9 @@ module _ (g : Graph) (ws : List ℕ) where
       Ends done (replay_ranges g (concurrent a b ∷ cs) (room - length done) rows) (replay_all st (range_of g) (state_at done rows) (concurrent a b ∷ cs))
   range_rows done a b cs rows lt e =
       let x : Writing = wrote (done ++ opened a b ∷ []) in
-      let t : State = (ranged x.0 1, rows_into (range_of g a b) rows, x.1) in
-      let one : ◌≡◌ {A = ℕ} 1 0 → ⊥ = λ z. omega arith in
+      let t : State = (ranged x.0 true, rows_into (range_of g a b) rows, x.1) in
       let there : replay_all st (range_of g) (state_at done rows) (concurrent a b ∷ cs) ≡ t =
-      all-next (concurrent a b) ∙ (ap (λ (y : State). replay_all st (range_of g) y cs) (rows_on done a b rows lt e) ∙ stays-rows st (range_of g) t cs one) in
+      all-next (concurrent a b) ∙ (ap (λ (y : State). replay_all st (range_of g) y cs) (rows_on done a b rows lt e) ∙ stays-rows st (range_of g) t cs refl) in
       let is = concurrent_is a b rows true e in
       let size : length (replay_range g (concurrent a b) rows).1 ≡ 1 = ap (λ (y : Replayed). length y.1) is in
       let r : replay_ranges g (concurrent a b ∷ cs) (room - length done) rows ≡ (Err RowsTooLong, opened a b ∷ [], rows_into (range_of g a b) rows) =
@@ -397,9 +397,9 @@ module _ (g : Graph) (ws : List ℕ) where
 
   -- A whole replay
   pub replay_ends : (cs : List HistoryRange) (rows : List ℕ) →
-      Ends [] (replay_ranges g cs room rows) (replay_all st (range_of g) (ranged (going 0 0) 0, rows, ws) cs)
+      Ends [] (replay_ranges g cs room rows) (replay_all st (range_of g) (ranged (going 0 0) false, rows, ws) cs)
   replay_ends cs rows =
       let z : room - 0 ≡ room = omega arith in
-      let s : state_at [] rows ≡ (ranged (going 0 0) 0, rows, ws) = unfold wrote emit in refl in
+      let s : state_at [] rows ≡ (ranged (going 0 0) false, rows, ws) = unfold wrote emit in refl in
       subst (λ (x : State). Ends [] (replay_ranges g cs room rows) (replay_all st (range_of g) x cs)) s
       (subst (λ (k : ℕ). Ends [] (replay_ranges g cs k rows) (replay_all st (range_of g) (state_at [] rows) cs)) z (ranges_end cs [] rows (omega arith)))

@@ -16,7 +16,7 @@ use Rattle.walk.proofs.Distinct.{Once, taken_out_lem}
 use Rattle.walk.proofs.Waiting.{Going, left_of}
 use Rattle.walk.proofs.Telling.{Tells, visit_tells}
 
--- The shift, one place at a time: j items moved down by one from `at` on
+-- The shift: j items moved down by one from `at` on
 module _ (l : List ℕ) (at : ℕ) where
   abbrev tail : List ℕ
   tail = drop (at + 1) l
@@ -26,26 +26,6 @@ module _ (l : List ℕ) (at : ℕ) where
 
   head_length : (j : ℕ) → at + j + 1 ≤ length l → length (take at l ++ take j tail) ≡ at + j
   head_length j h = length_paste_head l at tail j (omega arith) (rw length-drop (omega arith))
-
-  shift_get_d : (j : ℕ) → at + j + 1 ≤ length l → get_or (shifted j) (at + j + 1) 0 ≡ get_or tail j 0
-  shift_get_d j h =
-      let p : List ℕ = take at l ++ take j tail in
-      let e : at + j + 1 ≡ length p + 1 = omega (arith, head_length j h) in
-      ap (λ (k : ℕ). get_or (shifted j) k 0) e ∙ get_or-append-add p (drop (at + j) l) 1 0 ∙ get_or-drop (at + j) l 1 0 ∙
-      ap (λ (k : ℕ). get_or l k 0) (omega arith) ∙ sym (get_or-drop (at + 1) l j 0)
-
-  shift_suc : (j : ℕ) → at + j + 1 < length l → set (shifted j) (at + j) (get_or (shifted j) (at + j + 1) 0) ≡ shifted (suc j)
-  shift_suc j h = rw (shift_get_d j (omega arith)) (paste-suc l at tail j 0 (omega arith) (rw length-drop (omega arith)))
-
-  pub shift_start : l ≡ shifted (at - at)
-  shift_start = let e : at - at ≡ 0 = omega arith in rw e (paste-zero l at tail)
-
-  pub shift_next : (i : ℕ) (r : List ℕ) → at ≤ i → i + 1 < length l → r ≡ shifted (i - at) → set r i (get_or r (i + 1) 0) ≡ shifted (i + 1 - at)
-  shift_next i r h k e =
-      let f : i ≡ at + (i - at) = omega arith in
-      let g : i + 1 - at ≡ suc (i - at) = omega arith in
-      ap (λ (s : List ℕ). set s i (get_or s (i + 1) 0)) e ∙
-      ap (λ (m : ℕ). set (shifted (i - at)) m (get_or (shifted (i - at)) (m + 1) 0)) f ∙ shift_suc (i - at) (omega arith) ∙ ap shifted (sym g)
 
   pub shift_end : (n : ℕ) → at < n → shifted (n - 1 - at) ≡ taken_out l n at
   unfolding taken_out

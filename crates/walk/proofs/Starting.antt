@@ -73,8 +73,8 @@ pub lent_group : (starts items : List ℕ) (n r s e : ℕ) → n < length starts
 unfolding part
 lent_group starts items n r s e l h p q = ap₂ (λ (a b : ℕ). take (b - a) (drop a items)) p q ∙ sym (group_of starts items n r l h)
 
--- Lengths are kept
-start_keep : (known first : ℕ) (s : Wakes) (r : ℕ) (ps : List ℕ) →
+-- Lengths are kept, and at most one run more is ready
+pub start_keep : (known first : ℕ) (s : Wakes) (r : ℕ) (ps : List ℕ) →
     (length (start_of known first s r ps).1 ≡ length s.1) × (length (start_of known first s r ps).2 ≡ length s.2)
 unfolding start_of
 start_keep known first s r ps = go (waits_at known first ps r) (eqb (waits_at known first ps r) 0 && leb known r)
@@ -83,6 +83,14 @@ start_keep known first s r ps = go (waits_at known first ps r) (eqb (waits_at kn
         (length u.1 ≡ length s.1) × (length u.2 ≡ length s.2)
     go k true = (length-set s.1 r k, length-set s.2 s.0 r)
     go k false = (length-set s.1 r k, refl)
+
+pub start_few : (known first : ℕ) (s : Wakes) (r : ℕ) (ps : List ℕ) → (start_of known first s r ps).0 ≤ s.0 + 1
+unfolding start_of
+start_few known first s r ps = go (waits_at known first ps r) (eqb (waits_at known first ps r) 0 && leb known r)
+  where
+    go : (k : ℕ) (t : Bool) → let u : Wakes = cond t (s.0 + 1, set s.1 r k, set s.2 s.0 r) (s.0, set s.1 r k, s.2) in u.0 ≤ s.0 + 1
+    go k true = omega arith
+    go k false = omega arith
 
 pub start_keeps : (known first : ℕ) (pss : List (List ℕ)) (s : Wakes) (r : ℕ) →
     (length (start_all known first s r pss).1 ≡ length s.1) × (length (start_all known first s r pss).2 ≡ length s.2)

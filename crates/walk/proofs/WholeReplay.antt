@@ -5,7 +5,6 @@ use mathlib.Core.List.{List, [], ◌∷◌}
 use Prim.Native.Nat.{ℕ, ◌-◌, ◌/◌, ◌≤◌}
 use native.Mathlib.Omega.{arith}
 use lib.ListN.{length}
-use lib.Dec.{eqb}
 use Rattle.model.specs.declared.record.CausalGraph.{CausalGraph}
 use Rattle.model.specs.declared.answers.Walked.{Walked}
 use Rattle.model.specs.declared.answers.Refusal.TheVariants.{Broken}
@@ -22,8 +21,8 @@ use Rattle.model.proofs.RoomsReplay.{Laid, cut_laid}
 use Rattle.graph.proofs.Views.{runs-view}
 use Rattle.moves.specs.Emit.{Writing}
 use Rattle.walk.specs.declared.walking.Ranged.{Ranged}
-use Rattle.walk.specs.Walked.{State, ranged, out_of, unwritten, walked_in, walked_of, result_of, opening, open_of, replay_on, replay_all}
-use Rattle.walk.specs.CutRecords.{runs_of}
+use Rattle.walk.specs.Walked.{State, ranged, unwritten, walked_in, walked_of, result_of, opening, open_of, replay_on, replay_all}
+use Rattle.walk.specs.Ranges.{range_at}
 use Rattle.walk.proofs.Arrays.{starts-same, range_view}
 use Rattle.walk.proofs.Answering.{result_eq}
 use Rattle.walk.proofs.Ranging.{replay_ends}
@@ -36,18 +35,18 @@ on_same : (st st' : List ℕ) (range range' : ℕ → ℕ → Range) (s : State)
     ((x : Writing) (rows : List ℕ) → opening st range x rows c ≡ opening st' range' x rows c) → replay_on st range s c ≡ replay_on st' range' s c
 unfolding replay_on
 on_same st st' range range' s c h =
-    let x : Writing = open_of (out_of s.0, s.2) c in
-    ap (λ (t : State). elim (eqb s.0.rows 0) as (λ _. State) [
-      | false ↦ s
-      | true ↦ elim (eqb s.0.short 0) as (λ _. State) [
-        | false ↦ s
-        | true ↦ elim (eqb x.0.short 0) as (λ _. State) [ false ↦ (ranged x.0 0, s.1, x.1) | true ↦ t ]
+    let x : Writing = open_of (s.0.out, s.2) c in
+    ap (λ (t : State). elim s.0.rows_too_long as (λ _. State) [
+      | true ↦ s
+      | false ↦ elim s.0.out.short as (λ _. State) [
+        | true ↦ s
+        | false ↦ elim x.0.short as (λ _. State) [ true ↦ (ranged x.0 false, s.1, x.1) | false ↦ t ]
       ]
     ]) (h x s.1)
 
 module _ (g : CausalGraph) (held : Held g) where
   abbrev by_arrays : ℕ → ℕ → Range
-  by_arrays = runs_of g.starts g.parent_starts g.parents
+  by_arrays = range_at g
 
   abbrev st : List ℕ
   st = (view g).starts
@@ -58,7 +57,7 @@ module _ (g : CausalGraph) (held : Held g) where
 
   walk_same : (a b : ℕ) → a ≤ b → b ≤ g.run_count → (x : Writing) (rows : List ℕ) →
       opening g.starts by_arrays x rows (concurrent a b) ≡ opening st (range_of (view g)) x rows (concurrent a b)
-  unfolding opening runs_of
+  unfolding opening range_at
   walk_same a b le few x rows =
       ap (λ (w : Range). walked_in g.starts w a 0 0 x.0 rows x.1) (range_view g held a b le few (b - a) refl) ∙
       walked_same g.starts st (starts-same g held) (range_of (view g) a b) a 0 0 x.0 rows x.1
@@ -77,16 +76,16 @@ module _ (g : CausalGraph) (held : Held g) where
 
   -- Full replay of a held record
   pub replay_whole : (rows steps : List ℕ) (cs : List HistoryRange) → cs ≡ cut_from (view g) 0 → (r : Ranged) (rows' steps' : List ℕ) →
-      (r, rows', steps') ≡ replay_all g.starts by_arrays (ranged unwritten 0, rows, steps) cs → (w : Walked) → w ≡ walked_of r →
+      (r, rows', steps') ≡ replay_all g.starts by_arrays (ranged unwritten false, rows, steps) cs → (w : Walked) → w ≡ walked_of r →
       (w, rows', steps') ≡ replay_of g rows steps
   replay_whole rows steps cs q r rows' steps' e w p =
       answer_of r rows' steps' w p t
-      (e ∙ (ap (replay_all g.starts by_arrays (ranged unwritten 0, rows, steps)) q ∙
-      all_same (cut_from (view g) 0) 0 (ranged unwritten 0, rows, steps) (cut_laid (view g) 0))) ∙
+      (e ∙ (ap (replay_all g.starts by_arrays (ranged unwritten false, rows, steps)) q ∙
+      all_same (cut_from (view g) 0) 0 (ranged unwritten false, rows, steps) (cut_laid (view g) 0))) ∙
       (result-is ∙ sym (replay_is g rows steps (not-broken g held)))
     where
       t : State
-      t = replay_all st (range_of (view g)) (ranged unwritten 0, rows, steps) (cut_from (view g) 0)
+      t = replay_all st (range_of (view g)) (ranged unwritten false, rows, steps) (cut_from (view g) 0)
 
       x : Replayed
       x = replay_ranges (view g) (cut_from (view g) 0) (length steps / 3) rows

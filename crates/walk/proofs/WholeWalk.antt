@@ -5,8 +5,8 @@ use mathlib.Core.List.{List, [], ◌∷◌}
 use Prim.Native.Nat.{ℕ, ◌-◌, ◌≤◌}
 use native.Mathlib.Omega.{arith}
 use lib.ListN.{get_or}
-use lib.Dec.{ltb, eqb}
-use borrow.Author.Tests.{ltb-false, eq-eqb, ne_eqb}
+use lib.Dec.{ltb}
+use borrow.Author.Tests.{ltb-false}
 use Rattle.lists.proofs.Truth.{or-first, or-last}
 use Rattle.model.specs.declared.record.CausalGraph.{CausalGraph}
 use Rattle.model.specs.declared.answers.Walked.{Walked}
@@ -26,7 +26,7 @@ use Rattle.moves.specs.declared.writing.Out.{Out}
 use Rattle.moves.specs.Emit.{Rec, emit}
 use Rattle.moves.proofs.Written.{recs-same}
 use Rattle.walk.specs.declared.walking.Ranged.{Ranged}
-use Rattle.walk.specs.Ranges.{range_in}
+use Rattle.walk.specs.Ranges.{range_at}
 use Rattle.walk.specs.Walked.{State, ranged, unwritten, walked_in, outcome_of, walked_of, result_of}
 use Rattle.walk.proofs.Arrays.{starts-same, range_view}
 use Rattle.walk.proofs.Answering.{walk_result}
@@ -39,28 +39,28 @@ pub walked_same : (st st' : List ℕ) → ((i : ℕ) → get_or st i 0 ≡ get_o
 unfolding walked_in
 walked_same st st' h w a known first out rows steps =
     ap (λ (l : List Rec). elim (rows_too_long w rows) as (λ _. State) [
-      | true ↦ (ranged out 1, rows_into w rows, steps)
-      | false ↦ (ranged (emit (out, steps) l).0 0, rows_into w rows, (emit (out, steps) l).1)
+      | true ↦ (ranged out true, rows_into w rows, steps)
+      | false ↦ (ranged (emit (out, steps) l).0 false, rows_into w rows, (emit (out, steps) l).1)
     ]) (recs-same st st' h (steps_of w a known first))
 
 -- The answer by what was refused
-outcome_form : Bool → Bool → Outcome
-outcome_form t u = elim t [ true ↦ elim u [ true ↦ Ok tt | false ↦ Err ListTooShort ] | false ↦ Err RowsTooLong ]
+told_form : Out → Bool → Bool → Walked
+told_form o t u = record { count = o.count; moved = o.moved; outcome = elim t [ true ↦ Err RowsTooLong | false ↦ elim u [ true ↦ Err ListTooShort | false ↦ (Ok tt) ] ] }
 
-told : (r : Ranged) (t u : Bool) → eqb r.rows 0 ≡ t → eqb r.short 0 ≡ u → record { count = r.count; moved = r.moved; outcome = outcome_form t u } ≡ walked_of r
-told r t u p q = unfold walked_of outcome_of outcome_form in (ap₂ (λ (t u : Bool). record { count = r.count; moved = r.moved; outcome = outcome_form t u }) (sym p) (sym q))
+told : (r : Ranged) (t u : Bool) → r.rows_too_long ≡ t → r.out.short ≡ u → told_form r.out t u ≡ walked_of r
+told r t u p q = unfold walked_of outcome_of told_form in (ap₂ (λ (t u : Bool). told_form r.out t u) (sym p) (sym q))
 
-pub told-rows : (r : Ranged) → (r.rows ≡ 0 → ⊥) → record { count = r.count; moved = r.moved; outcome = Err RowsTooLong } ≡ walked_of r
-unfolding outcome_form
-told-rows r n = told r false (eqb r.short 0) (ne_eqb r.rows 0 n) refl
+pub told-rows : (r : Ranged) → r.rows_too_long ≡ true → record { count = r.out.count; moved = r.out.moved; outcome = Err RowsTooLong } ≡ walked_of r
+unfolding told_form
+told-rows r e = told r true r.out.short e refl
 
-pub told-short : (r : Ranged) → r.rows ≡ 0 → (r.short ≡ 0 → ⊥) → record { count = r.count; moved = r.moved; outcome = Err ListTooShort } ≡ walked_of r
-unfolding outcome_form
-told-short r e n = told r true false (eq-eqb r.rows 0 e) (ne_eqb r.short 0 n)
+pub told-short : (r : Ranged) → r.rows_too_long ≡ false → r.out.short ≡ true → record { count = r.out.count; moved = r.out.moved; outcome = Err ListTooShort } ≡ walked_of r
+unfolding told_form
+told-short r e n = told r false true e n
 
-pub told-done : (r : Ranged) → r.rows ≡ 0 → r.short ≡ 0 → record { count = r.count; moved = r.moved; outcome = Ok tt } ≡ walked_of r
-unfolding outcome_form
-told-done r e f = told r true true (eq-eqb r.rows 0 e) (eq-eqb r.short 0 f)
+pub told-done : (r : Ranged) → r.rows_too_long ≡ false → r.out.short ≡ false → record { count = r.out.count; moved = r.out.moved; outcome = Ok tt } ≡ walked_of r
+unfolding told_form
+told-done r e f = told r false false e f
 
 -- The answer and what is left in the lists, by what is written
 pub answer_of : (r : Ranged) (rows steps : List ℕ) (w : Walked) → w ≡ walked_of r → (s : State) → (r, rows, steps) ≡ s → ◌≡◌ {A = WalkResult} (w, rows, steps) (result_of s)
@@ -71,8 +71,9 @@ answer_of r rows steps w q s e = ap (λ (x : Walked). (x, rows, steps)) q ∙ (i
 
 module _ (g : CausalGraph) (a b known first : ℕ) (rows steps : List ℕ) where
   pub walk_whole : Held g → a ≤ b → b ≤ g.run_count → (r : Ranged) (rows' steps' : List ℕ) →
-      (r, rows', steps') ≡ walked_in g.starts (range_in g.starts g.parent_starts g.parents a (b - a)) a known first unwritten rows steps →
+      (r, rows', steps') ≡ walked_in g.starts (range_at g a b) a known first unwritten rows steps →
       (w : Walked) → w ≡ walked_of r → (w, rows', steps') ≡ walk_range (view g) a b known first rows steps
+  unfolding range_at
   walk_whole held le few r rows' steps' e w q =
       answer_of r rows' steps' w q (walked_in (view g).starts (range_of (view g) a b) a known first unwritten rows steps)
       (e ∙ (ap (λ (x : Range). walked_in g.starts x a known first unwritten rows steps) (range_view g held a b le few (b - a) refl) ∙

@@ -1,7 +1,8 @@
 -- What the walk's code computes.
 pub mod Ranges
-pub mod Choose
+pub mod Given
 pub mod Readiness
+pub mod Choose
 pub mod Turns
 pub mod Prepare
 pub mod Walked

@@ -9,14 +9,10 @@ use Rattle.tables.specs.Indexed.{Indexable, IndexOf}
 use Rattle.tables.specs.Covers.{cover_words, Weighted}
 use Rattle.tables.specs.Sizes.{Inside, Sized}
 
--- Chains whose members can be listed, rows that lie in their area, and room
-pub record Measurable (n chains : ℕ) (rs ts bs ss xs : List ℕ) : Type 0 where
+-- Chains whose members can be listed, and rows that lie in their area
+pub record Measurable (n chains : ℕ) (rs ts : List ℕ) : Type 0 where
   pub index : Indexable n chains (lane 3 (n + 1) ts) (lane 1 (n + 1) ts) (lane 2 (n + 1) ts)
   pub rows : Inside (lane 0 (n + 1) ts) rs n
-  pub tables : 8 * (n + 1) ≤ length ts
-  pub before : n + 1 ≤ length bs
-  pub sizes : n ≤ length ss
-  pub scratch : n + 1 ≤ length xs
 
 -- Members, sums and sizes; the tables were ts₀
 pub record Measured (starts : List ℕ) (n chains : ℕ) (rs bs ss ts ts₀ : List ℕ) : Type 0 where
@@ -24,15 +20,11 @@ pub record Measured (starts : List ℕ) (n chains : ℕ) (rs bs ss ts ts₀ : Li
   pub sizes : Sized (take (n + 1) bs) (lane 4 (n + 1) ts) (lane 0 (n + 1) ts) rs chains n ss
   pub kept : Kept 4 (n + 1) ts ts₀
 
--- Starts that never fall, parents that rise, and room
-pub record Relatable (starts : List ℕ) (n : ℕ) (gs ts cs vs xs : List ℕ) : Type 0 where
+-- Starts that never fall, and parents that rise
+pub record Relatable (starts : List ℕ) (n : ℕ) (gs : List ℕ) : Type 0 where
   pub sound : Sound (heads_in n gs) (items_in n gs) n
   pub rise : (x : ℕ) → rising (at (grouped (heads_in n gs) (items_in n gs) n) x) ≡ true
   pub order : (r : ℕ) → r < n → get_or starts r 0 ≤ get_or starts (r + 1) 0
-  pub tables : 8 * (n + 1) ≤ length ts
-  pub children : (length gs ≤ length cs) × (length cs ≤ 2 ^ 20)
-  pub covers : n * cover_words ≤ length vs
-  pub scratch : n + 1 ≤ length xs
 
 -- Children and weights
 pub record Related (starts : List ℕ) (n : ℕ) (gs cs ts : List ℕ) : Type 0 where

@@ -2,13 +2,13 @@
 use Rattle.std.specs.Prelude.{◌≡◌, true, List, [], map, ℕ, suc, ◌+◌, ◌-◌, ◌*◌, ◌≤◌, ◌<◌, length, get_or, take, drop}
 use Rattle.lists.specs.Lists.{rising}
 use Rattle.lists.specs.Areas.{part}
-use Rattle.model.specs.Limits.{max_entries, max_runs, max_starts}
+use Rattle.model.specs.declared.record.CausalGraph.{CausalGraph}
+use Rattle.model.specs.Limits.{max_entries}
 use Rattle.model.specs.History.{histories}
 use Rattle.model.specs.Range.{sizes_of, chains_from, rows_from}
 use Rattle.model.specs.Cover.{weights}
 use Rattle.model.specs.Choice.{Range}
 use Rattle.tables.specs.Laid.{shares, Sound}
-use Rattle.tables.specs.Covers.{cover_words}
 
 -- By where its runs start, as offsets within it, and by their parents
 unfoldable pub range_by : List ℕ → List (List ℕ) → Range
@@ -32,12 +32,9 @@ pub record Arrays (starts heads parents : List ℕ) (n : ℕ) : Type 0 where
   pub long : n < length starts
   pub few : length parents ≤ max_entries
 
--- Work areas that are large enough for any range
-pub record Room (gs ts bs ss cs vs rs : List ℕ) : Type 0 where
-  pub groups : length gs ≡ max_starts + max_entries
-  pub tables : length ts ≡ 8 * max_starts
-  pub before : length bs ≡ max_starts
-  pub sizes : length ss ≡ max_runs
-  pub children : length cs ≡ max_starts + max_entries
-  pub covers : length vs ≡ max_runs * cover_words
-  pub scratch : length rs ≡ max_starts
+-- The arrays of a graph's first n runs, and its runs from a up to b, by them
+abbrev pub ArraysOf : CausalGraph → ℕ → Type 0
+ArraysOf g n = Arrays g.starts g.parent_starts g.parents n
+
+unfoldable pub range_at : CausalGraph → ℕ → ℕ → Range
+range_at g a b = range_in g.starts g.parent_starts g.parents a (b - a)

@@ -1,7 +1,9 @@
 -- What each run of a range waits for, and the ready list, as code keeps them: started, after a visit, and with a run taken out.
 -- Assumes nothing.
-use Rattle.std.specs.Prelude.{cond, ◌&&◌, ◌||◌, List, [], ◌∷◌, ◌++◌, ℕ, suc, ◌+◌, ◌-◌, length, get_or, take, drop, set, leb, ltb, eqb}
+use Rattle.std.specs.Prelude.{cond, ◌&&◌, ◌||◌, List, [], ◌∷◌, ◌++◌, ℕ, suc, ◌+◌, ◌-◌, length, get_or, take, drop, set, replicate, leb, ltb, eqb}
 use Rattle.lists.specs.Lists.{bit, count, from}
+use Rattle.model.specs.Limits.{max_runs}
+use Rattle.walk.specs.Given.{Given, parents_for}
 
 -- How many are ready, what each run waits for, the ready list
 abbrev pub Wakes : Type 0
@@ -21,6 +23,14 @@ start_of known first s r parents =
 unfoldable pub start_all : ℕ → ℕ → Wakes → ℕ → List (List ℕ) → Wakes
 start_all known first s r [] = s
 start_all known first s r (ps ∷ pss) = start_all known first (start_of known first s r ps) (suc r) pss
+
+-- Nothing in the lists of a range of so many runs
+abbrev pub none_waits : ℕ → Wakes
+none_waits runs = (0, replicate runs 0, replicate max_runs 0)
+
+-- All runs of a range started
+unfoldable pub start_waits : Given → Wakes
+start_waits g = start_all g.known g.first (none_waits g.runs) 0 (parents_for g)
 
 -- One less to wait for; at none, the run is ready
 unfoldable pub wake_of : Wakes → ℕ → Wakes

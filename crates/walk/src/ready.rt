@@ -1,21 +1,14 @@
 // What runs wait for, and the ready list: a visit takes one from each child, and those at none are ready.
-ghost use Rattle.std.specs.Prelude.{◌≡◌, ◌&&◌, ◌+◌, ◌-◌, ◌<◌, ◌≤◌, ◌^◌, length, leb, ltb};
+ghost use Rattle.std.specs.Prelude.{◌≡◌, ◌&&◌, ◌-◌, ◌<◌, ◌≤◌, ◌^◌, length, get_or, leb, ltb, eqb};
 ghost use Rattle.lists.specs.Lists.{bit, count, from};
-ghost use Rattle.tables.specs.Laid.{grouped, Sound};
-ghost use Rattle.walk.specs.Readiness.{start_of, start_all, wake_of, wake_all, woken_of, left_after, taken_out};
+ghost use Rattle.model.specs.Limits.{max_runs};
+ghost use Rattle.walk.specs.Given.{children_for};
+ghost use Rattle.walk.specs.Readiness.{none_waits, start_of, start_waits, wake_of, wake_all, woken_of, left_after, taken_out};
 
-use tables::words::{get, wide};
-
-// 1 for a parent that is not known.
-fn unknown(p: u32, known: u32) -> u32
-    ensures value { result ≡ bit (leb known p) }
-    ensures upper_bound { result ≤ 1 }
-{
-    if known <= p {
-        return 1;
-    }
-    0
-}
+use crate::given::Given;
+use model::MAX_RUNS;
+use std::marker::Model;
+use tables::words::wide;
 
 // How many of a run's parents are not known.
 fn count_unknown(parents: &[u32], known: u32) -> u32
@@ -23,13 +16,7 @@ fn count_unknown(parents: &[u32], known: u32) -> u32
     ensures value { result ≡ count (λ p. leb known p) parents.now }
     ensures upper_bound { result ≤ 2 ^ 31 }
 {
-    let mut w: u32 = 0;
-    let mut i = 0;
-    while i < parents.len() {
-        w += unknown(parents[i], known);
-        i += 1;
-    }
-    w
+    parents.iter().filter(|p| known <= **p).count() as u32
 }
 
 // 1 for a run that waits until the runs before `first` are visited.
@@ -37,162 +24,154 @@ fn held_back(r: u32, known: u32, first: u32) -> u32
     ensures value { result ≡ bit (ltb known first && leb first r) }
     ensures upper_bound { result ≤ 1 }
 {
-    if first <= known {
-        return 0;
-    }
-    if r < first {
-        return 0;
-    }
-    1
+    u32::from(known < first && first <= r)
 }
 
-// What run r waits for at the start; at none, it is ready unless it is known.
-fn start_run(
-    waiting: &mut [u32],
-    ready: &mut [u32],
-    got: usize,
-    r: u32,
-    parents: &[u32],
-    known: u32,
-    first: u32,
-) -> usize
-    requires { (r < length waiting.old) × (got < length ready.old) × (length parents.now ≤ 2 ^ 31) }
-    ensures ready_after { (result, waiting.new, ready.new) ≡ start_of known first (got, waiting.old, ready.old) r parents.now }
-    ensures upper_bound { result ≤ got + 1 }
-{
-    let w = count_unknown(parents, known) + held_back(r, known, first);
-    let c = r as usize;
-    waiting[c] = w;
-    if w != 0 {
-        return got;
-    }
-    if r < known {
-        return got;
-    }
-    ready[got] = r;
-    got + 1
+// What each of a range's runs waits for, and the ready runs, of which there are `count`.
+#[derive(Drop)]
+pub(crate) struct Waits {
+    pub(crate) runs: usize,
+    pub(crate) waiting: [u32; MAX_RUNS],
+    pub(crate) ready: [u32; MAX_RUNS],
+    pub(crate) count: usize,
 }
 
-// The same for all runs.
-pub(crate) fn start_all<'a>(
-    waiting: &mut [u32],
-    ready: &mut [u32],
-    heads: &'a [u32],
-    items: &'a [u32],
-    n: usize,
-    known: u32,
-    first: u32,
-) -> usize
-    requires { Sound heads.now items.now n × (length items.now ≤ 2 ^ 31) × (n ≤ length waiting.old) × (n ≤ length ready.old) }
-    ensures { (result, waiting.new, ready.new) ≡ start_all known first (0, waiting.old, ready.old) 0 (grouped heads.now items.now n) }
-{
-    let mut got = 0;
-    let mut r = 0;
-    while r < n {
-        let s = wide(get(heads, r));
-        let e = wide(get(heads, r + 1));
-        got = start_run(waiting, ready, got, r as u32, &items[s..e], known, first);
-        r += 1;
-    }
-    got
+impl Model for Waits {
+    ghost use Rattle.std.specs.Prelude.{◌≤◌, take};
+    ghost use Rattle.model.specs.Limits.{max_runs};
+    ghost use Rattle.walk.specs.Readiness.{Wakes};
+
+    ghost Value = { Wakes };
+
+    ghost view = { λ a. (a.count, take a.runs a.waiting, a.ready) };
+
+    ghost invariant = { λ a. a.runs ≤ max_runs };
 }
 
-// One less to wait for; at none, the run is ready.
-fn wake(waiting: &mut [u32], ready: &mut [u32], n: usize, child: u32) -> usize
-    ensures { (result, waiting.new, ready.new) ≡ wake_of (n, waiting.old, ready.old) child }
-{
-    let c = child as usize;
-    if waiting.len() <= c {
-        return n;
+impl Waits {
+    // No run waits, and none is ready.
+    fn none(runs: usize) -> Waits
+        requires { runs ≤ max_runs }
+        ensures { result ≡ none_waits runs }
+    {
+        Waits {
+            runs,
+            waiting: [0; MAX_RUNS],
+            ready: [0; MAX_RUNS],
+            count: 0,
+        }
     }
-    let w = waiting[c];
-    if w == 0 {
-        return n;
-    }
-    waiting[c] = w - 1;
-    if 1 < w {
-        return n;
-    }
-    if ready.len() <= n {
-        return n;
-    }
-    ready[n] = child;
-    n + 1
-}
 
-// All of a run's children, in turn.
-fn wake_all(waiting: &mut [u32], ready: &mut [u32], n: usize, children: &[u32]) -> usize
-    ensures { (result, waiting.new, ready.new) ≡ wake_all (n, waiting.old, ready.old) children.now }
-{
-    let mut m = n;
-    let mut i = 0;
-    while i < children.len() {
-        m = wake(waiting, ready, m, children[i]);
-        i += 1;
+    // What run r waits for at the start; at none, it is ready unless it is known.
+    fn start_run(&mut self, r: u32, parents: &[u32], known: u32, first: u32)
+        requires run { r < length self.old.1 }
+        requires room { self.old.0 < length self.old.2 }
+        requires few { length parents.now ≤ 2 ^ 31 }
+        ensures { self.new ≡ start_of known first self.old r parents.now }
+    {
+        let w = count_unknown(parents, known) + held_back(r, known, first);
+        self.waiting[r as usize] = w;
+        if w != 0 {
+            return;
+        }
+        if r < known {
+            return;
+        }
+        self.ready[self.count] = r;
+        self.count += 1;
     }
-    m
-}
 
-// The runs from a up to e, in turn.
-fn wake_range(waiting: &mut [u32], ready: &mut [u32], n: usize, a: u32, e: u32) -> usize
-    ensures { (result, waiting.new, ready.new) ≡ wake_all (n, waiting.old, ready.old) (from a (e - a)) }
-{
-    let mut m = n;
-    let mut x = a;
-    while x < e {
-        m = wake(waiting, ready, m, x);
-        x += 1;
+    // The same for all runs.
+    pub(crate) fn start_all(given: &Given) -> Waits
+        ensures { result ≡ start_waits given.now }
+    {
+        let mut waits = Waits::none(given.runs);
+        for r in 0..given.runs {
+            waits.start_run(r as u32, given.parents(r), given.known, given.first);
+        }
+        waits
     }
-    m
-}
 
-// How many runs are ready after a visit, and how many of the first are left.
-#[derive(Clone, Copy)]
-pub(crate) struct Woken {
-    pub(crate) ready: usize,
-    pub(crate) left: usize,
-}
+    // One less to wait for; at none, the run is ready.
+    fn wake(&mut self, child: u32)
+        ensures { self.new ≡ wake_of self.old child }
+    {
+        let c = child as usize;
+        if self.runs <= c {
+            return;
+        }
+        let w = self.waiting[c];
+        if w == 0 {
+            return;
+        }
+        self.waiting[c] = w - 1;
+        if 1 < w {
+            return;
+        }
+        if MAX_RUNS <= self.count {
+            return;
+        }
+        self.ready[self.count] = child;
+        self.count += 1;
+    }
 
-// After a visit of `run`: its children, and, where it is the last of the first, all runs from `first` on.
-pub(crate) fn wake_visit(
-    waiting: &mut [u32],
-    ready: &mut [u32],
-    n: usize,
-    children: &[u32],
-    run: u32,
-    known: u32,
-    first: u32,
-    end: u32,
-    left: usize,
-) -> Woken
-    ensures ready_after { (result.ready, waiting.new, ready.new) ≡ woken_of (n, waiting.old, ready.old) children.now run known first end left }
-    ensures left_value { result.left ≡ left_after run known first left }
-{
-    let m = wake_all(waiting, ready, n, children);
-    if run < known {
-        return Woken { ready: m, left };
+    // All of a run's children, in turn.
+    fn wake_all(&mut self, children: &[u32])
+        ensures { self.new ≡ wake_all self.old children.now }
+    {
+        for child in children {
+            self.wake(*child);
+        }
     }
-    if first <= run {
-        return Woken { ready: m, left };
-    }
-    if 1 < left {
-        return Woken {
-            ready: m,
-            left: left - 1,
-        };
-    }
-    let k = wake_range(waiting, ready, m, first, end);
-    Woken { ready: k, left: 0 }
-}
 
-// Takes the run at `at` out of the first `n`.
-pub(crate) fn remove(ready: &mut [u32], n: usize, at: usize)
-    requires { (at < n) × (n ≤ length ready.old) }
-    ensures { ready.new ≡ taken_out ready.old n at }
-{
-    let mut i = at;
-    while i < n - 1 {
-        ready[i] = ready[i + 1];
-        i += 1;
+    // The runs from a up to e, in turn.
+    fn wake_range(&mut self, a: u32, e: u32)
+        ensures { self.new ≡ wake_all self.old (from a (e - a)) }
+    {
+        for x in a..e {
+            self.wake(x);
+        }
+    }
+
+    // After a visit of `run`, with `left` of the first left before it: its children, and, where it is the last of the first,
+    // all runs from `first` on. How many of the first are left then.
+    pub(crate) fn wake_visit(&mut self, given: &Given, run: u32, left: usize) -> usize
+        requires { run < given.now.runs }
+        ensures ready_after { self.new ≡ woken_of self.old (children_for given.now run) run given.now.known given.now.first given.now.runs left }
+        ensures left_value { result ≡ left_after run given.now.known given.now.first left }
+    {
+        self.wake_all(given.children(wide(run)));
+        if run < given.known {
+            return left;
+        }
+        if given.first <= run {
+            return left;
+        }
+        if 1 < left {
+            return left - 1;
+        }
+        self.wake_range(given.first, given.runs as u32);
+        0
+    }
+
+    // Whether no run is ready.
+    pub(crate) fn is_empty(&self) -> bool
+        ensures { result ≡ eqb self.now.0 0 }
+    {
+        self.count == 0
+    }
+
+    // Takes the run at `at` out of the ready ones.
+    pub(crate) fn remove(&mut self, at: usize) -> u32
+        requires at { at < self.old.0 }
+        requires room { self.old.0 ≤ length self.old.2 }
+        ensures run { result ≡ get_or self.old.2 at 0 }
+        ensures rest { self.new ≡ (self.old.0 - 1, self.old.1, taken_out self.old.2 self.old.0 at) }
+    {
+        let n = self.count;
+        let run = self.ready[at];
+        self.ready.copy_within(at + 1..n, at);
+        self.count = n - 1;
+        run
     }
 }

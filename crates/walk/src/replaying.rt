@@ -1,168 +1,89 @@
 // Full replay: the ranges of the cut, one after another.
-ghost use Rattle.std.specs.Prelude.{◌≡◌, ◌+◌, ◌-◌, ◌*◌, ◌<◌, ◌≤◌, ◌^◌, length};
+ghost use Rattle.std.specs.Prelude.{◌≡◌, ◌+◌, ◌-◌, ◌*◌, ◌<◌, ◌≤◌, ◌^◌, false, length};
 ghost use Rattle.model.specs.Broken.{Held};
 ghost use Rattle.model.specs.Replay.{replay_of};
-ghost use Rattle.walk.specs.Ranges.{Arrays, Room};
-ghost use Rattle.walk.specs.Walked.{out_of, ranged as walked_range, unwritten, replay_on, replay_all};
-ghost use Rattle.walk.specs.CutRecords.{range_by, ranges_in, runs_of, Tiled};
+ghost use Rattle.walk.specs.Ranges.{ArraysOf, range_at};
+ghost use Rattle.walk.specs.Walked.{ranged, unwritten, replay_on, replay_all};
+ghost use Rattle.walk.specs.CutRecords.{range_by, ranges_in, Tiled};
 
+use crate::areas::Areas;
+use crate::walking;
 use crate::walking::Ranged;
-use crate::{areas, walking};
-use model::{CausalGraph, EventRunIndex, Refusal, Walked};
+use model::{CausalGraph, EventRunIndex, MAX_RUNS, Refusal, Walked};
 use moves::writing;
-use moves::writing::Out;
-use tables::covers::CoverWord;
+use moves::writing::{Kind, Out};
 use tables::words::get;
 
-fn out_of(r: Ranged) -> Out
-    ensures { result ≡ out_of r }
-{
-    Out {
-        count: r.count,
-        moved: r.moved,
-        short: r.short,
-    }
-}
-
-fn ranged(o: Out) -> Ranged
-    ensures { result ≡ walked_range o 0 }
-{
-    Ranged {
-        count: o.count,
-        moved: o.moved,
-        short: o.short,
-        rows: 0,
-    }
-}
-
 // One range of the cut: Open, then its runs in order (kind 0) or its walk. Nothing where something was refused before.
-fn replay_next<'a>(
+fn replay_next(
     r: Ranged,
     kind: u32,
     a: EventRunIndex,
     b: EventRunIndex,
-    starts: &'a [u32],
-    heads: &'a [u32],
-    parents: &'a [u32],
+    graph: &CausalGraph,
     rows: &mut [u32],
     steps: &mut [u32],
-    groups: &mut [u32],
-    tables: &mut [u32],
-    before: &mut [u64],
-    sizes: &mut [u64],
-    children: &mut [u32],
-    covers: &mut [CoverWord],
-    scratch: &mut [u32],
+    areas: &mut Areas,
 ) -> Ranged
-    requires arrays { Arrays starts.now heads.now parents.now b.0 }
-    requires a_le_b { (a.0 ≤ b.0) × (r.moved ≤ a.0 * 2 ^ 52) }
-    requires room { Room groups.old tables.old before.old sizes.old children.old covers.old scratch.old }
-    ensures steps_after { (result, rows.new, steps.new) ≡ replay_on starts.now (runs_of starts.now heads.now parents.now)
-        (r, rows.old, steps.old) (range_by kind a.0 b.0) }
-    ensures moved_bound { result.moved ≤ b.0 * 2 ^ 52 }
-    ensures room_2 { Room groups.new tables.new before.new sizes.new children.new covers.new scratch.new }
+    requires arrays { ArraysOf graph.now b.0 }
+    requires order { a.0 ≤ b.0 }
+    requires moved_bound { r.out.moved ≤ a.0 * 2 ^ 52 }
+    ensures steps_after { (result, rows.new, steps.new) ≡ replay_on graph.now.starts (range_at graph.now) (r, rows.old, steps.old) (range_by kind a.0 b.0) }
+    ensures moved_bound { result.out.moved ≤ b.0 * 2 ^ 52 }
 {
-    if r.rows != 0 {
+    if r.rows_too_long {
         return r;
     }
-    if r.short != 0 {
+    if r.out.short {
         return r;
     }
-    let o = writing::put_step(steps, out_of(r), 3, a.0, b.0, 0);
-    if o.short != 0 {
-        return ranged(o);
+    let out = writing::put_step(steps, r.out, Kind::Open, a.0, b.0, 0);
+    if out.short {
+        return Ranged {
+            out,
+            rows_too_long: false,
+        };
     }
     if kind == 0 {
-        return ranged(writing::put_applies(steps, o, a.0, b.0));
+        return Ranged {
+            out: writing::put_applies(steps, out, a.0, b.0),
+            rows_too_long: false,
+        };
     }
-    walking::walk_range(
-        o, a, b, 0, 0, starts, heads, parents, rows, steps, groups, tables, before, sizes,
-        children, covers, scratch,
-    )
+    walking::walk_range(out, a, b, 0, 0, graph, rows, steps, areas)
 }
 
 // The first n ranges of a cut.
-fn replay_all<'a>(
+fn replay_all(
     n: usize,
     cut: &[u32],
-    starts: &'a [u32],
-    heads: &'a [u32],
-    parents: &'a [u32],
+    graph: &CausalGraph,
     rows: &mut [u32],
     steps: &mut [u32],
-    groups: &mut [u32],
-    tables: &mut [u32],
-    before: &mut [u64],
-    sizes: &mut [u64],
-    children: &mut [u32],
-    covers: &mut [CoverWord],
-    scratch: &mut [u32],
 ) -> Ranged
-    requires tiled { Tiled starts.now heads.now parents.now cut.now n }
+    requires tiled { Tiled graph.now cut.now n }
     requires n_in_bounds { 3 * n ≤ length cut.now }
-    requires room { Room groups.old tables.old before.old sizes.old children.old covers.old scratch.old }
-    ensures { (result, rows.new, steps.new) ≡ replay_all starts.now (runs_of starts.now heads.now parents.now)
-        (walked_range unwritten 0, rows.old, steps.old) (ranges_in cut.now 0 n) }
+    ensures { (result, rows.new, steps.new) ≡ replay_all graph.now.starts (range_at graph.now)
+        (ranged unwritten false, rows.old, steps.old) (ranges_in cut.now 0 n) }
 {
-    let mut r = Ranged {
+    let mut areas = Areas::new();
+    let out = Out {
         count: 0,
         moved: 0,
-        short: 0,
-        rows: 0,
+        short: false,
     };
-    let mut i = 0;
-    while i < n {
+    let mut r = Ranged {
+        out,
+        rows_too_long: false,
+    };
+    for i in 0..n {
         let at = 3 * i;
         let kind = get(cut, at);
         let a = EventRunIndex(get(cut, at + 1));
         let b = EventRunIndex(get(cut, at + 2));
-        r = replay_next(
-            r, kind, a, b, starts, heads, parents, rows, steps, groups, tables, before, sizes,
-            children, covers, scratch,
-        );
-        i += 1;
+        r = replay_next(r, kind, a, b, graph, rows, steps, &mut areas);
     }
     r
-}
-
-// The same, with work areas.
-fn replay_fresh<'a>(
-    n: usize,
-    cut: &[u32],
-    starts: &'a [u32],
-    heads: &'a [u32],
-    parents: &'a [u32],
-    rows: &mut [u32],
-    steps: &mut [u32],
-) -> Ranged
-    requires tiled { Tiled starts.now heads.now parents.now cut.now n }
-    requires n_in_bounds { 3 * n ≤ length cut.now }
-    ensures { (result, rows.new, steps.new) ≡ replay_all starts.now (runs_of starts.now heads.now parents.now)
-        (walked_range unwritten 0, rows.old, steps.old) (ranges_in cut.now 0 n) }
-{
-    let mut groups = areas::no_groups();
-    let mut tables = areas::no_tables();
-    let mut before = areas::no_sums();
-    let mut sizes = areas::no_sizes();
-    let mut children = areas::no_children();
-    let mut covers = areas::no_covers();
-    let mut scratch = areas::no_scratch();
-    replay_all(
-        n,
-        cut,
-        starts,
-        heads,
-        parents,
-        rows,
-        steps,
-        &mut groups,
-        &mut tables,
-        &mut before,
-        &mut sizes,
-        &mut children,
-        &mut covers,
-        &mut scratch,
-    )
 }
 
 // Full replay of a graph that is known not to be broken.
@@ -170,18 +91,10 @@ pub fn replay_held(g: CausalGraph, rows: &mut [u32], steps: &mut [u32]) -> Walke
     requires { Held g }
     ensures { (result, rows.new, steps.new) ≡ replay_of g rows.old steps.old }
 {
-    let mut cut = areas::no_cut();
+    // Three words for each range, of which there are at most as many as runs.
+    let mut cut = [0; 3 * MAX_RUNS];
     let w = graph::cut::cut_held(g, EventRunIndex(0), &mut cut);
-    let r = replay_fresh(
-        w.count,
-        &cut,
-        &g.starts,
-        &g.parent_starts,
-        &g.parents,
-        rows,
-        steps,
-    );
-    walking::walked(r)
+    walking::walked(replay_all(w.count, &cut, &g, rows, steps))
 }
 
 // Full replay: rows of each range into `rows`, all steps into `steps`.

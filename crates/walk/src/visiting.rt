@@ -1,496 +1,137 @@
 // The visits of a range's runs.
-ghost use Rattle.std.specs.Prelude.{◌≡◌, ◌+◌, ◌-◌, ◌*◌, ◌<◌, ◌≤◌, ◌^◌, length, get_or, take};
-ghost use Rattle.lists.specs.Areas.{part};
-ghost use Rattle.tables.specs.Lanes.{lane};
-ghost use Rattle.tables.specs.Laid.{heads_in, items_in};
-ghost use Rattle.tables.specs.Sizes.{Bounded, row_in};
+ghost use Rattle.std.specs.Prelude.{◌≡◌, ◌+◌, ◌*◌, ◌<◌, ◌≤◌, ◌^◌, None, min, length, get_or};
 ghost use Rattle.tables.specs.Reached.{arrived, Holds};
 ghost use Rattle.moves.specs.Emit.{emit};
 ghost use Rattle.moves.specs.Moves.{visit_of, recs};
-ghost use Rattle.model.specs.Limits.{max_runs};
+ghost use Rattle.model.specs.Limits.{max_weighed};
 ghost use Rattle.model.specs.Steps.{steps_of};
-ghost use Rattle.walk.specs.Choose.{AllTabled};
-ghost use Rattle.walk.specs.Readiness.{woken_of, left_after};
-ghost use Rattle.walk.specs.Turns.{out_in, best_by, AllSmall, AllInside, Turned, Fit, range_for, Prepared, Begun};
+ghost use Rattle.walk.specs.Given.{chains_in, places_in, begins_in, members_in, row_for, range_for};
+ghost use Rattle.walk.specs.Choose.{index_of, only_c, cost_c, weight_c, scan_c, AllIn};
+ghost use Rattle.walk.specs.Turns.{AllInside, Turned, Fit, Begun};
 
-use crate::ready::Woken;
-use crate::{choice, ready};
-use model::{EventRunIndex, MAX_RUNS};
+use crate::choice;
+use crate::given::Given;
+use crate::ready::Waits;
+use model::MAX_RUNS;
 use moves::moving;
 use moves::writing::Out;
 use tables::versions;
-use tables::words::{get, wide};
+use tables::words::wide;
 
-// How far a walk is: what is written, how many runs are ready, how many of the first are left, and the last run visited plus 1.
-#[derive(Clone, Copy)]
+// How far a walk is: what is written, the version, what runs wait for and which are ready, how many of the first are left, and the
+// last run visited.
+#[derive(Drop)]
 pub(crate) struct Progress {
-    pub(crate) count: u64,
-    pub(crate) moved: u64,
-    pub(crate) short: u64,
-    pub(crate) ready: usize,
+    pub(crate) out: Out,
+    pub(crate) version: [u32; MAX_RUNS],
+    pub(crate) waits: Waits,
     pub(crate) left: usize,
-    pub(crate) last: u64,
+    pub(crate) last: Option<u32>,
 }
 
-fn zeros() -> [u32; MAX_RUNS]
-    ensures { length result ≡ max_runs }
-{
-    [0; MAX_RUNS]
-}
-
-// One less, and 0 of 0.
-fn one_less(x: u64) -> u32
-    requires { x ≤ max_runs }
-    ensures { result ≡ x - 1 }
-{
-    if x == 0 {
-        return 0;
+impl Progress {
+    // A walk that begins, after the steps written before.
+    fn begin(given: &Given, out: Out) -> Progress
+        ensures begun { Begun given.now result }
+        ensures out { result.out ≡ out }
+    {
+        let mut version = [0; MAX_RUNS];
+        versions::start_version(
+            &mut version,
+            given.table(1),
+            given.table(2),
+            given.chains,
+            wide(given.known),
+        );
+        Progress {
+            out,
+            version,
+            waits: Waits::start_all(given),
+            left: wide(given.first - given.known),
+            last: None,
+        }
     }
-    (x - 1) as u32
-}
 
-// Where the run to visit next stands in the ready list.
-fn choose<'a>(
-    m: usize,
-    last: u64,
-    n: usize,
-    chains: usize,
-    rows: &[u32],
-    groups: &'a [u32],
-    tables: &'a [u32],
-    before: &[u64],
-    sizes: &[u64],
-    current: &[u32],
-    ready: &[u32],
-) -> usize
-    requires n_le_max_runs { (n ≤ max_runs) × (chains ≤ max_runs) × (last ≤ max_runs) × (8 * (n + 1) ≤ length tables.now) × (n + 1 ≤ length groups.now) × (n + 1 ≤ length before.now) }
-    requires bounded { Bounded (2 ^ 41) (take (n + 1) before.now) }
-    requires all_tabled { AllTabled ready.now m (take (n + 1) before.now) (lane 4 (n + 1) tables.now) rows.now (lane 0 (n + 1) tables.now) chains (heads_in n groups.now)
-        (items_in n groups.now) sizes.now }
-    ensures { result ≡ (best_by n chains rows.now groups.now tables.now before.now current.now ready.now m last).at }
-{
-    let w = n + 1;
-    let d = 4 * w;
-    let e = 5 * w;
-    let g = 7 * w;
-    let h = 8 * w;
-    let any = last != 0;
-    let best = choice::nearest(
-        ready,
-        m,
-        &before[0..w],
-        &tables[d..e],
-        current,
-        rows,
-        &tables[0..w],
-        chains,
-        &groups[0..w],
-        &groups[w..],
-        &tables[g..h],
-        sizes,
-        any,
-        one_less(last),
-    );
-    best.at
+    // Where the best of the ready runs stands.
+    fn choose(&self, given: &Given) -> usize
+        requires room { self.now.waits.0 ≤ length self.now.waits.2 }
+        requires ready { AllIn self.now.waits.2 self.now.waits.0 given.now.runs }
+        ensures { result ≡ index_of (scan_c (only_c given.now self.now.last) (cost_c given.now self.now.version) (weight_c given.now) self.now.waits.2
+            self.now.waits.0 0 (min max_weighed self.now.waits.0) None) }
+    {
+        match choice::nearest(given, &self.version, &self.waits, self.last) {
+            Some(best) => best.at,
+            None => 0,
+        }
+    }
+
+    // The best of the ready runs is visited.
+    fn visit_next(&mut self, given: &Given, steps: &mut [u32])
+        requires { Fit given.now (self.old, steps.old) }
+        ensures { Turned given.now (self.old, steps.old) (self.new, steps.new) }
+    {
+        let at = self.choose(given);
+        let run = self.waits.remove(at);
+        self.out = visit(given, self.out, run, steps, &mut self.version);
+        self.left = self.waits.wake_visit(given, run, self.left);
+        self.last = Some(run);
+    }
+
+    // All visits of a walk that begins: at most one of each run, since no run is visited twice.
+    fn visit_all(&mut self, given: &Given, steps: &mut [u32])
+        requires begun { Begun given.now self.old }
+        requires moved_bound { self.old.out.moved + (given.now.runs + 1) * 2 ^ 52 < 2 ^ 63 }
+        ensures steps_after { (self.new.out, steps.new) ≡ emit (self.old.out, steps.old)
+            (recs given.now.starts (steps_of (range_for given.now) given.now.base given.now.known given.now.first)) }
+        ensures moved_bound { self.new.out.moved ≤ self.old.out.moved + given.now.runs * 2 ^ 52 }
+    {
+        for _ in 0..given.runs {
+            if self.waits.is_empty() {
+                break;
+            }
+            self.visit_next(given, steps);
+        }
+    }
 }
 
 // The steps of a run's visit, and the version after it.
-fn visit(
-    out: Out,
-    run: u32,
-    base: EventRunIndex,
-    n: usize,
-    chains: usize,
-    starts: &[u32],
-    rows: &[u32],
-    tables: &[u32],
-    steps: &mut [u32],
-    current: &mut [u32],
-) -> Out
-    requires n_le_max_runs { (n ≤ max_runs) × (chains ≤ max_runs) × (base.0 < 2 ^ 31) × (run < n) × (8 * (n + 1) ≤ length tables.now) × (out.moved + 2 ^ 52 < 2 ^ 63) ×
-        (chains ≤ length current.old) }
-    requires run_bound { (get_or (lane 0 (n + 1) tables.now) run 0 ≤ get_or (lane 0 (n + 1) tables.now) (run + 1) 0) × (get_or (lane 0 (n + 1) tables.now) (run + 1) 0 ≤ length rows.now) }
-    requires run_bound_2 { (get_or (lane 1 (n + 1) tables.now) run 0 < chains) × (get_or (lane 2 (n + 1) tables.now) run 0 < max_runs) }
-    requires all_small { AllSmall (lane 5 (n + 1) tables.now) }
-    requires all_inside { AllInside (lane 5 (n + 1) tables.now) (lane 4 (n + 1) tables.now) current.old chains }
-    requires all_inside_2 { AllInside (lane 5 (n + 1) tables.now) (lane 4 (n + 1) tables.now) (row_in (lane 0 (n + 1) tables.now) rows.now run) chains }
+fn visit(given: &Given, out: Out, run: u32, steps: &mut [u32], current: &mut [u32]) -> Out
+    requires run { run < given.now.runs }
+    requires room { given.now.chains ≤ length current.old }
+    requires inside { AllInside given.now current.old }
+    requires moved_bound { out.moved + 2 ^ 52 < 2 ^ 63 }
     ensures steps_after { (result, steps.new) ≡ emit (out, steps.old)
-        (visit_of starts.now base.0 (lane 5 (n + 1) tables.now) (lane 4 (n + 1) tables.now) current.old
-        (row_in (lane 0 (n + 1) tables.now) rows.now run) chains run) }
-    ensures holds { Holds (arrived (row_in (lane 0 (n + 1) tables.now) rows.now run) (get_or (lane 1 (n + 1) tables.now) run 0)
-        (get_or (lane 2 (n + 1) tables.now) run 0)) chains current.new × (length current.new ≡ length current.old) }
+        (visit_of given.now.starts given.now.base (members_in given.now) (begins_in given.now) current.old (row_for given.now run) given.now.chains run) }
+    ensures version { Holds (arrived (row_for given.now run) (get_or (chains_in given.now) run 0) (get_or (places_in given.now) run 0)) given.now.chains current.new }
+    ensures length { length current.new ≡ length current.old }
     ensures moved_bound { result.moved ≤ out.moved + 2 ^ 52 }
 {
-    let w = n + 1;
-    let d = 4 * w;
-    let e = 5 * w;
-    let f = 6 * w;
     let r = wide(run);
-    let a = wide(get(tables, r));
-    let b = wide(get(tables, r + 1));
-    let o = moving::put_visit(
+    let row = given.row(r);
+    let out = moving::put_visit(
         steps,
         out,
-        starts,
-        base.0,
-        &tables[e..f],
-        &tables[d..e],
+        given.starts,
+        given.base.0,
+        given.members(),
+        given.begins(),
         current,
-        &rows[a..b],
-        chains,
+        row,
+        given.chains,
         run,
     );
-    let chain = wide(get(tables, w + r));
-    let place = get(tables, 2 * w + r);
-    versions::arrive(current, &rows[a..b], chains, chain, place);
-    o
+    versions::arrive(current, row, given.chains, given.chain(r), given.place(r));
+    out
 }
 
-// What is ready after it.
-fn wake(
-    m: usize,
-    left: usize,
-    run: u32,
-    n: usize,
-    known: u32,
-    first: u32,
-    tables: &[u32],
-    children: &[u32],
-    waiting: &mut [u32],
-    ready: &mut [u32],
-) -> Woken
-    requires n_le_max_runs { (n ≤ max_runs) × (run < n) × (8 * (n + 1) ≤ length tables.now) }
-    requires run_bound { (get_or (lane 6 (n + 1) tables.now) run 0 ≤ get_or (lane 6 (n + 1) tables.now) (run + 1) 0) × (get_or (lane 6 (n + 1) tables.now) (run + 1) 0 ≤ length children.now) }
-    ensures ready_after { (result.ready, waiting.new, ready.new) ≡ woken_of (m, waiting.old, ready.old)
-        (part (get_or (lane 6 (n + 1) tables.now) run 0) (get_or (lane 6 (n + 1) tables.now) (run + 1) 0) children.now) run known first n left }
-    ensures left_value { result.left ≡ left_after run known first left }
-{
-    let f = 6 * (n + 1);
-    let r = wide(run);
-    let a = wide(get(tables, f + r));
-    let b = wide(get(tables, f + r + 1));
-    ready::wake_visit(
-        waiting,
-        ready,
-        m,
-        &children[a..b],
-        run,
-        known,
-        first,
-        n as u32,
-        left,
-    )
-}
-
-fn visit_next<'a>(
-    s: Progress,
-    base: EventRunIndex,
-    n: usize,
-    chains: usize,
-    known: u32,
-    first: u32,
-    starts: &[u32],
-    rows: &[u32],
-    groups: &'a [u32],
-    tables: &'a [u32],
-    before: &[u64],
-    sizes: &[u64],
-    children: &[u32],
-    steps: &mut [u32],
-    current: &mut [u32],
-    waiting: &mut [u32],
-    ready: &mut [u32],
-) -> Progress
-    requires { Fit (record {
-      starts = starts.now;
-      rows = rows.now;
-      groups = groups.now;
-      tables = tables.now;
-      before = before.now;
-      sizes = sizes.now;
-      children = children.now;
-      base = base.0;
-      runs = n;
-      chains = chains;
-      known = known;
-      first = first;
-    }) (s, steps.old, current.old, waiting.old, ready.old) }
-    ensures { Turned (record {
-      starts = starts.now;
-      rows = rows.now;
-      groups = groups.now;
-      tables = tables.now;
-      before = before.now;
-      sizes = sizes.now;
-      children = children.now;
-      base = base.0;
-      runs = n;
-      chains = chains;
-      known = known;
-      first = first;
-    })
-        (s, steps.old, current.old, waiting.old, ready.old) (result, steps.new, current.new, waiting.new, ready.new) }
-{
-    let m = s.ready;
-    let at = choose(
-        m, s.last, n, chains, rows, groups, tables, before, sizes, current, ready,
-    );
-    let run = get(ready, at);
-    ready::remove(ready, m, at);
-    let out = Out {
-        count: s.count,
-        moved: s.moved,
-        short: s.short,
-    };
-    let o = visit(
-        out, run, base, n, chains, starts, rows, tables, steps, current,
-    );
-    let woken = wake(
-        m - 1,
-        s.left,
-        run,
-        n,
-        known,
-        first,
-        tables,
-        children,
-        waiting,
-        ready,
-    );
-    Progress {
-        count: o.count,
-        moved: o.moved,
-        short: o.short,
-        ready: woken.ready,
-        left: woken.left,
-        last: run as u64 + 1,
-    }
-}
-
-// All visits of a walk that begins. `most` counts them down: no run is visited twice.
-fn visit_all<'a>(
-    begun: Progress,
-    base: EventRunIndex,
-    n: usize,
-    chains: usize,
-    known: u32,
-    first: u32,
-    starts: &[u32],
-    rows: &[u32],
-    groups: &'a [u32],
-    tables: &'a [u32],
-    before: &[u64],
-    sizes: &[u64],
-    children: &[u32],
-    steps: &mut [u32],
-    current: &mut [u32],
-    waiting: &mut [u32],
-    ready: &mut [u32],
-) -> Progress
-    requires prepared { Prepared (record {
-      starts = starts.now;
-      rows = rows.now;
-      groups = groups.now;
-      tables = tables.now;
-      before = before.now;
-      sizes = sizes.now;
-      children = children.now;
-      base = base.0;
-      runs = n;
-      chains = chains;
-      known = known;
-      first = first;
-    }) }
-    requires begun { Begun (record {
-      starts = starts.now;
-      rows = rows.now;
-      groups = groups.now;
-      tables = tables.now;
-      before = before.now;
-      sizes = sizes.now;
-      children = children.now;
-      base = base.0;
-      runs = n;
-      chains = chains;
-      known = known;
-      first = first;
-    }) (begun, steps.old, current.old, waiting.old, ready.old) }
-    requires n_bound { begun.moved + (n + 1) * 2 ^ 52 < 2 ^ 63 }
-    ensures steps_after { (out_in result, steps.new) ≡ emit (out_in begun, steps.old)
-        (recs starts.now (steps_of (range_for (record {
-          starts = starts.now;
-          rows = rows.now;
-          groups = groups.now;
-          tables = tables.now;
-          before = before.now;
-          sizes = sizes.now;
-          children = children.now;
-          base = base.0;
-          runs = n;
-          chains = chains;
-          known = known;
-          first = first;
-        })) base.0 known first)) }
-    ensures moved_bound { result.moved ≤ begun.moved + n * 2 ^ 52 }
-{
-    let mut s = begun;
-    let mut most = n;
-    while 0 < s.ready {
-        s = visit_next(
-            s, base, n, chains, known, first, starts, rows, groups, tables, before, sizes,
-            children, steps, current, waiting, ready,
-        );
-        most -= 1;
-    }
-    s
-}
-
-// The walk of a range whose tables are there, in work areas for the version, what each run waits for and the ready runs.
-fn visits_in<'a>(
-    out: Out,
-    base: EventRunIndex,
-    n: usize,
-    chains: usize,
-    known: u32,
-    first: u32,
-    starts: &[u32],
-    rows: &[u32],
-    groups: &'a [u32],
-    tables: &'a [u32],
-    before: &[u64],
-    sizes: &[u64],
-    children: &[u32],
-    steps: &mut [u32],
-    current: &mut [u32],
-    waiting: &mut [u32],
-    ready: &mut [u32],
-) -> Out
-    requires prepared { Prepared (record {
-      starts = starts.now;
-      rows = rows.now;
-      groups = groups.now;
-      tables = tables.now;
-      before = before.now;
-      sizes = sizes.now;
-      children = children.now;
-      base = base.0;
-      runs = n;
-      chains = chains;
-      known = known;
-      first = first;
-    }) }
-    requires n_bound { out.moved + (n + 1) * 2 ^ 52 < 2 ^ 63 }
-    requires max_runs_in_bounds { (max_runs ≤ length current.old) × (length waiting.old ≡ n) × (max_runs ≤ length ready.old) }
+// The walk of a range, after the steps written before.
+pub(crate) fn visits(given: &Given, out: Out, steps: &mut [u32]) -> Out
+    requires { out.moved + (given.now.runs + 1) * 2 ^ 52 < 2 ^ 63 }
     ensures steps_after { (result, steps.new) ≡ emit (out, steps.old)
-        (recs starts.now (steps_of (range_for (record {
-          starts = starts.now;
-          rows = rows.now;
-          groups = groups.now;
-          tables = tables.now;
-          before = before.now;
-          sizes = sizes.now;
-          children = children.now;
-          base = base.0;
-          runs = n;
-          chains = chains;
-          known = known;
-          first = first;
-        })) base.0 known first)) }
-    ensures moved_bound { result.moved ≤ out.moved + n * 2 ^ 52 }
+        (recs given.now.starts (steps_of (range_for given.now) given.now.base given.now.known given.now.first)) }
+    ensures moved_bound { result.moved ≤ out.moved + given.now.runs * 2 ^ 52 }
 {
-    let w = n + 1;
-    let b = 2 * w;
-    let c = 3 * w;
-    versions::start_version(current, &tables[w..b], &tables[b..c], chains, wide(known));
-    let got = ready::start_all(waiting, ready, &groups[0..w], &groups[w..], n, known, first);
-    let begun = Progress {
-        count: out.count,
-        moved: out.moved,
-        short: out.short,
-        ready: got,
-        left: wide(first - known),
-        last: 0,
-    };
-    let s = visit_all(
-        begun, base, n, chains, known, first, starts, rows, groups, tables, before, sizes,
-        children, steps, current, waiting, ready,
-    );
-    Out {
-        count: s.count,
-        moved: s.moved,
-        short: s.short,
-    }
-}
-
-// The same with work areas of its own: the walk of the range, after the steps written before.
-pub(crate) fn visits<'a>(
-    out: Out,
-    base: EventRunIndex,
-    n: usize,
-    chains: usize,
-    known: u32,
-    first: u32,
-    starts: &[u32],
-    rows: &[u32],
-    groups: &'a [u32],
-    tables: &'a [u32],
-    before: &[u64],
-    sizes: &[u64],
-    children: &[u32],
-    steps: &mut [u32],
-) -> Out
-    requires prepared { Prepared (record {
-      starts = starts.now;
-      rows = rows.now;
-      groups = groups.now;
-      tables = tables.now;
-      before = before.now;
-      sizes = sizes.now;
-      children = children.now;
-      base = base.0;
-      runs = n;
-      chains = chains;
-      known = known;
-      first = first;
-    }) }
-    requires n_bound { out.moved + (n + 1) * 2 ^ 52 < 2 ^ 63 }
-    ensures steps_after { (result, steps.new) ≡ emit (out, steps.old)
-        (recs starts.now (steps_of (range_for (record {
-          starts = starts.now;
-          rows = rows.now;
-          groups = groups.now;
-          tables = tables.now;
-          before = before.now;
-          sizes = sizes.now;
-          children = children.now;
-          base = base.0;
-          runs = n;
-          chains = chains;
-          known = known;
-          first = first;
-        })) base.0 known first)) }
-    ensures moved_bound { result.moved ≤ out.moved + n * 2 ^ 52 }
-{
-    let mut current = zeros();
-    let mut waiting = zeros();
-    let mut ready = zeros();
-    visits_in(
-        out,
-        base,
-        n,
-        chains,
-        known,
-        first,
-        starts,
-        rows,
-        groups,
-        tables,
-        before,
-        sizes,
-        children,
-        steps,
-        &mut current,
-        &mut waiting[0..n],
-        &mut ready,
-    )
+    let mut walk = Progress::begin(given, out);
+    walk.visit_all(given, steps);
+    walk.out
 }

@@ -5,4 +5,4 @@ use Rattle.lists.proofs.Inserting.{shifted}
 use Rattle.lists.proofs.insert_and_grow.Given as goal
 
 abbrev pub invariant-loop-i : goal.invariant-loop-i
-invariant-loop-i l = (l.at ≤ l.i) × (l.a ≡ shifted l.initial.a l.n (grow l.from l.by) l.i)
+invariant-loop-i l = (l.at ≤ l.i) × (l.a ≡ shifted l.initial.a l.last (grow l.from l.by) l.i)

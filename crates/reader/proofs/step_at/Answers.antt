@@ -1,31 +1,22 @@
--- `reader::step_at` meets its contract: at each place where the code answers, the answer is what the model says of the words there. Assumes nothing.
-use native.Mathlib.Omega.{arith}
-use Rattle.model.specs.Reader.{next_in, decoded, as_step}
-use Rattle.reader.proofs.Decoding.{told, next_end, next-kind, next-unknown}
+-- `reader::step_at` meets its contract: by the words from the place on. Assumes nothing.
+use Rattle.std.proofs.Common.{refl, sym, ◌∙◌, ap, List, ℕ}
+use Rattle.std.specs.Borrow.{Bor}
+use Rattle.reader.proofs.Decoding.{told, part_left, next-short, next_left, handed_step, handed_none}
 use Rattle.reader.proofs.step_at.Goals as goal
 
-pub returns-then-n-lt3 : goal.returns-then-n-lt3
-returns-then-n-lt3 c = let p = c.args in told c.answer.ensures (next_end p.words.now p.at (omega arith))
-
-pub returns-then-n-at : goal.returns-then-n-at
-returns-then-n-at c = let p = c.args in told c.answer-then-n-at.ensures (next_end p.words.now p.at (omega arith))
-
-pub returns-in-0 : goal.returns-in-0
-unfolding next_in decoded as_step
-returns-in-0 c = let p = c.args in told c.answer-in-0.ensures (next-kind p.words.now p.at 0 (omega arith) c.in-0.is)
-
-pub returns-in-1 : goal.returns-in-1
-unfolding next_in decoded as_step
-returns-in-1 c = let p = c.args in told c.answer-in-1.ensures (next-kind p.words.now p.at 1 (omega arith) c.in-1.is)
-
-pub returns-in-2 : goal.returns-in-2
-unfolding next_in decoded as_step
-returns-in-2 c = let p = c.args in told c.answer-in-2.ensures (next-kind p.words.now p.at 2 (omega arith) c.in-2.is)
-
-pub returns-in-3 : goal.returns-in-3
-unfolding next_in decoded as_step
-returns-in-3 c = let p = c.args in told c.answer-in-3.ensures (next-kind p.words.now p.at 3 (omega arith) c.in-3.is)
-
 pub returns-in_default : goal.returns-in_default
-returns-in_default c = let p = c.args in
-    told c.answer-in_default.ensures (next-unknown p.words.now p.at (omega arith) (λ e. omega arith) (λ e. omega arith) (λ e. omega arith) (λ e. omega arith))
+returns-in_default c =
+    let left = ap (λ (x : Bor (List ℕ)). x.now) c.unwrap_or-left.ensures ∙ part_left c.args.words.now c.args.at _ _ refl c.get.ensures.lookup in
+    told c.answer.ensures (sym (next-short c.args.words.now c.unwrap_or-left.result.now c.args.at (sym left) c.in_default.len_below))
+
+pub returns-in-Some : goal.returns-in-Some
+returns-in-Some c =
+    let left = ap (λ (x : Bor (List ℕ)). x.now) c.unwrap_or-left.ensures ∙ part_left c.args.words.now c.args.at _ _ refl c.get.ensures.lookup in
+    told c.answer-in-Some.ensures
+    (handed_step c.args.at _ c.in-Some.step c.in-Some.ensures ∙ sym (next_left c.args.words.now c.unwrap_or-left.result.now c.args.at left c.in-len3-up.len_at_least))
+
+pub returns-in-None : goal.returns-in-None
+returns-in-None c =
+    let left = ap (λ (x : Bor (List ℕ)). x.now) c.unwrap_or-left.ensures ∙ part_left c.args.words.now c.args.at _ _ refl c.get.ensures.lookup in
+    told c.answer-in-None.ensures
+    (handed_none c.args.at _ c.in-None.ensures ∙ sym (next_left c.args.words.now c.unwrap_or-left.result.now c.args.at left c.in-len3-up.len_at_least))

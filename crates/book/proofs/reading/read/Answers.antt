@@ -1,34 +1,27 @@
--- `book::reading::read` meets its contract: the length is tested first; the words that are lent are the book's. Assumes nothing.
-use mathlib.Core.Path.{◌∙◌, sym}
-use Prim.Native.Nat.{◌/◌}
-use native.Mathlib.Omega.{arith}
-use lib.ListN.{length}
+-- `book::reading::read` meets its contract: the length is tested first. Assumes nothing.
+use Rattle.std.proofs.Common.{◌∙◌, sym, ap, arith, length, eqb-true}
+use Rattle.std.proofs.lemmas.Bool.{eqb-false}
+use Rattle.model.specs.declared.record.CausalGraph.{CausalGraph}
+use Rattle.model.specs.declared.answers.Refusal.TheVariants.{BookTooLong}
 use Rattle.model.specs.Book.{book_read}
 use Rattle.model.proofs.BookMade.{book-empty, book-long, book_in}
-use Rattle.book.proofs.Heading.{lent_words}
 use Rattle.book.proofs.reading.read.Goals as goal
+use Rattle.std.specs.Prelude.{Ok, Err}
+use Rattle.model.specs.declared.answers.BookRefusal.TheVariants.{Refused as BookRefused}
 
-pub returns-then-bytes-eq0 : goal.returns-then-bytes-eq0
+pub returns-then-is_empty : goal.returns-then-is_empty
 unfolding book_read
-returns-then-bytes-eq0 c =
-    let a = c.args in
-    c.fresh.ensures ∙ sym (book-empty a.bytes.now c.if-bytes-eq0.true)
+returns-then-is_empty c =
+    c.answered.ensures ∙ ap (λ (g : CausalGraph). book_read g (Ok tt)) c.new.ensures
+    ∙ sym (book-empty c.args.bytes.now (eqb-true (length c.args.bytes.now) 0 (sym c.is_empty.ensures ∙ c.if-is_empty.true)))
 
 pub returns-then-bytes-gt-MAX_BOOK : goal.returns-then-bytes-gt-MAX_BOOK
 unfolding book_read
 returns-then-bytes-gt-MAX_BOOK c =
-    let a = c.args in
-    c.fresh-then-bytes-gt-MAX_BOOK.ensures ∙ sym (book-long a.bytes.now c.if-bytes-gt-MAX_BOOK.true)
-
-pub read_words-requires : goal.read_words-requires
-read_words-requires c =
-    let decode = c.decode in
-    let a = c.args in
-    lent_words a.bytes.now _ _ (length a.bytes.now / 4) decode.ensures
+    c.answered-then-bytes-gt-MAX_BOOK.ensures ∙ ap (λ (g : CausalGraph). book_read g (Err (BookRefused BookTooLong))) c.new-then-bytes-gt-MAX_BOOK.ensures
+    ∙ sym (book-long c.args.bytes.now c.if-bytes-gt-MAX_BOOK.true)
 
 pub returns : goal.returns
 returns c =
-    let if2 = c.if-bytes-gt-MAX_BOOK in
-    let if1 = c.if-bytes-eq0 in
-    let a = c.args in
-    c.read_words.ensures ∙ sym (book_in a.bytes.now (omega (arith, if1.false)) if2.false)
+    let some = eqb-false (length c.args.bytes.now) 0 (sym c.is_empty.ensures ∙ c.if-is_empty.false) in
+    c.read_words.ensures ∙ sym (book_in c.args.bytes.now (omega (arith, some)) c.if-bytes-gt-MAX_BOOK.false)

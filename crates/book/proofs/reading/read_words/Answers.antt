@@ -1,39 +1,20 @@
--- `book::reading::read_words` meets its contract: the header is cut off, or whole and tried. Assumes nothing.
-use mathlib.Core.Path.{◌∙◌}
-use native.Mathlib.Omega.{arith}
+-- `book::reading::read_words` meets its contract: the header is cut short, or whole and tried. Assumes nothing.
+use Rattle.std.proofs.Common.{◌∙◌}
 use Rattle.model.specs.Book.{book_read}
-use Rattle.book.proofs.Heading.{words_early, words_cut, words-headed, made_held}
+use Rattle.model.proofs.Begins.{after-held}
+use Rattle.book.proofs.Taking.{header_cut, header_done, header_refused}
 use Rattle.book.proofs.reading.read_words.Goals as goal
 
-pub returns-then-n-lt3 : goal.returns-then-n-lt3
+pub returns-in_default : goal.returns-in_default
 unfolding book_read
-returns-then-n-lt3 c =
-    let a = c.args in
-    let pre = c.requires in
-    c.fresh.ensures ∙ words_early a.bytes.now a.words.now (pre) c.if-n-lt3.true
+returns-in_default c = header_cut _ _ _ c.in_default.ensures c.new.ensures c.answered.ensures
 
-pub overflow_cast-count : goal.overflow_cast-count
-overflow_cast-count c = omega (arith, c.type_inv.words 1)
+pub pushes-requires : goal.pushes-requires
+pushes-requires c = rw c.after-made.ensures (after-held _ _)
 
-pub returns-then-n-count : goal.returns-then-n-count
+pub returns-in-Ok : goal.returns-in-Ok
+returns-in-Ok c = c.pushes.ensures ∙ header_done _ _ _ _ _ c.in-Some.ensures _ c.after-made.ensures c.in-Ok.is
+
+pub returns-in-Err : goal.returns-in-Err
 unfolding book_read
-returns-then-n-count c =
-    let if1 = c.if-n-lt3 in
-    let a = c.args in
-    let pre = c.requires in
-    c.fresh-then-n-count.ensures ∙ words_cut a.bytes.now a.words.now (pre) if1.false c.if-n-count.true
-
-pub begin-requires : goal.begin-requires
-begin-requires c =
-    let if2 = c.if-n-count in
-    let if1 = c.if-n-lt3 in
-    let pre = c.requires in
-    record { held = made_held _ _ _ c.after-made.ensures; from_in_bounds = omega (arith, if1.false, if2.false); words_value = pre }
-
-pub returns : goal.returns
-returns c =
-    let if2 = c.if-n-count in
-    let if1 = c.if-n-lt3 in
-    let a = c.args in
-    let pre = c.requires in
-    words-headed a.bytes.now a.words.now (pre) _ _ if1.false if2.false c.begin.ensures c.after-made.ensures
+returns-in-Err c = c.answered-in-Err.ensures ∙ header_refused _ _ _ _ _ c.in-Some.ensures _ c.after-made.ensures _ c.in-Err.is

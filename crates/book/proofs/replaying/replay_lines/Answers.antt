@@ -1,41 +1,18 @@
 -- `book::replaying::replay_lines` meets its contract: the steps that the replay wrote are those that are put, and the last line after them. Assumes nothing.
-use mathlib.Core.Path.{◌∙◌, ap}
-use mathlib.Core.List.{List}
-use Prim.Native.Nat.{ℕ}
-use lib.ListN.{replicate}
-use Rattle.model.specs.Replay.{replay_of}
+use Rattle.std.proofs.Common.{rules}
 use Rattle.book.proofs.Whole.{count_fits, replay_printed}
-use borrow.Author.Rules.{rules}
 use Rattle.book.proofs.replaying.replay_lines.Goals as goal
 
-pub overflow_mul-n : goal.overflow_mul-n
-overflow_mul-n c =
-    let no_steps = c.no_steps-steps in
-    let no_rows = c.no_rows-rows in
-    let a = c.args in
-    let pre = c.requires in
-    let e = c.replay_held-walked.ensures ∙ ap (λ (r : List ℕ). replay_of a.g r no_steps.result) no_rows.ensures ∙ ap (replay_of a.g (replicate 8192 0)) no_steps.ensures in
-    let h = count_fits a.g (pre) _ _ _ e in search rules
+pub overflow_mul-words : goal.overflow_mul-words
+overflow_mul-words c = let h = count_fits c.args.g c.requires _ _ _ c.replay_held-walked.ensures in search rules
+
+pub slice_bounds-steps-end : goal.slice_bounds-steps-end
+slice_bounds-steps-end c = let h = count_fits c.args.g c.requires _ _ _ c.replay_held-walked.ensures in search rules
 
 pub slice_bounds-put_steps-end : goal.slice_bounds-put_steps-end
-slice_bounds-put_steps-end c =
-    let replay-held = c.replay_held-walked in
-    let no_steps = c.no_steps-steps in
-    let no_rows = c.no_rows-rows in
-    let a = c.args in
-    let pre = c.requires in
-    let e = replay-held.ensures ∙ ap (λ (r : List ℕ). replay_of a.g r no_steps.result) no_rows.ensures ∙ ap (replay_of a.g (replicate 8192 0)) no_steps.ensures in
-    let h = count_fits a.g (pre) _ _ _ e in search rules
+slice_bounds-put_steps-end c = let h = count_fits c.args.g c.requires _ _ _ c.replay_held-walked.ensures in search rules
 
 pub returns : goal.returns
 returns c =
-    let last_Line = c.last_line-last in
-    let put-steps = c.put_steps-p in
-    let blank = c.blank in
-    let replay-held = c.replay_held-walked in
-    let no_steps = c.no_steps-steps in
-    let no_rows = c.no_rows-rows in
-    let a = c.args in
-    let pre = c.requires in
-    let e = replay-held.ensures ∙ ap (λ (r : List ℕ). replay_of a.g r no_steps.result) no_rows.ensures ∙ ap (replay_of a.g (replicate 8192 0)) no_steps.ensures in
-    replay_printed a.g (pre) _ _ _ e a.out.now _ _ _ _ _ _ blank.ensures put-steps.ensures last_Line.ensures c.put_line.ensures
+    replay_printed c.args.g c.requires _ _ _ c.replay_held-walked.ensures
+    c.args.out.now _ _ _ _ _ _ c.new-printed.ensures c.put_steps.ensures c.last_line.ensures c.put.ensures

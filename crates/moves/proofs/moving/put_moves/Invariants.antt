@@ -1,13 +1,12 @@
 -- `moves::moving::put_moves` meets its contract: the moves of all chains, in order. Assumes nothing.
-use mathlib.Core.Path.{◌≡◌}
-use Prim.Native.Nat.{◌≤◌, ◌-◌, ◌+◌, ◌*◌, ◌^◌}
-use lib.ListN.{length}
+use Rattle.std.proofs.Common.{◌≡◌, ◌≤◌, ◌-◌, ◌+◌, ◌*◌, ◌^◌}
 use Rattle.moves.specs.Emit.{emit}
 use Rattle.moves.specs.Moves.{moves_from}
 use Rattle.moves.proofs.moving.put_moves.Given as goal
 
 abbrev pub invariant-loop-c : goal.invariant-loop-c
-invariant-loop-c l = (l.c ≤ l.n) × ((length l.steps ≡ length l.initial.steps) × ((l.o.moved ≤ l.initial.o.moved + l.c * 2 ^ 42) × (emit (l.o, l.steps) (moves_from l.starts l.kind l.base l.members l.begins l.from l.to l.c (l.n - l.c)) ≡ emit (l.initial.o, l.initial.steps) (moves_from l.starts l.kind l.base l.members l.begins l.from l.to 0 l.n))))
-
-abbrev pub decreases-loop-c : goal.decreases-loop-c
-decreases-loop-c l = l.n - l.c
+invariant-loop-c l = record {
+  small : l.o.moved ≤ l.initial.o.moved + l.c * 2 ^ 42;
+  going_on : emit (l.o, l.steps) (moves_from l.runs.starts.now l.kind l.runs.base l.chains.members.now l.chains.begins.now l.from l.to l.c (l.n - l.c)) ≡
+      emit (l.initial.o, l.initial.steps) (moves_from l.runs.starts.now l.kind l.runs.base l.chains.members.now l.chains.begins.now l.from l.to 0 l.n);
+}

@@ -1,12 +1,8 @@
 -- `tables::children::count_all` meets its contract: every run's kids are counted. Assumes nothing.
-use Prim.Native.Nat.{◌-◌, ◌≤◌}
-use lib.ListN.{get_or}
-use Rattle.tables.specs.Laid.{grouped}
+use Rattle.std.proofs.Common.{length, take}
+use Rattle.lists.specs.Lists.{concat}
 use Rattle.tables.proofs.Counting.{Tallied}
 use Rattle.tables.proofs.children.count_all.Given as goal
 
 abbrev pub invariant-loop-r : goal.invariant-loop-r
-invariant-loop-r l = (l.r ≤ l.n) × Tallied (grouped l.heads l.items l.n) l.n l.r (get_or l.heads l.r 0) l.starts
-
-abbrev pub decreases-loop-r : goal.decreases-loop-r
-decreases-loop-r l = l.n - l.r
+invariant-loop-r l = Tallied l.parents (length l.parents) l.r (length (concat (take l.r l.parents))) l.starts

@@ -1,67 +1,50 @@
 -- `tables::tabling::children` meets its contract: where each run's children begin, and the children. Assumes nothing.
-use mathlib.Core.Path.{◌≡◌, ap, ◌∙◌}
-use mathlib.Core.List.{List, ◌++◌}
-use Prim.Native.Nat.{ℕ, ◌+◌, ◌-◌}
-use native.Mathlib.Omega.{arith}
-use lib.ListN.{length, get_or, drop}
-use Rattle.lists.specs.Areas.{part}
-use Rattle.tables.proofs.KidsLent.{groups-long, parts-sound, last_head, front_long, front_back, front_again, kids-tabled}
+use Rattle.std.proofs.Common.{ℕ, ◌+◌, ◌-◌, ◌*◌, ◌∙◌, List, length, drop, get_or, refl, ap, ◌≡◌, ◌≤◌, arith, rules}
+use Rattle.std.proofs.Math.Seq.{take_at}
+use Rattle.std.proofs.lemmas.List.{length-take-le}
+use Rattle.tables.specs.Laid.{heads_in, items_in, Sound}
+use Rattle.tables.proofs.KidsLent.{groups-long, kids-tabled}
+use Rattle.tables.proofs.Scratch.{scratch-stored}
 use Rattle.tables.proofs.tabling.children.Goals as goal
 
-pub slice_bounds-starts_of-end-2 : goal.slice_bounds-starts_of-end-2
-slice_bounds-starts_of-end-2 c = omega (arith, groups-long c.args.n c.args.groups.now c.requires.0)
-
-pub slice_bounds-starts_of-count-3 : goal.slice_bounds-starts_of-count-3
-slice_bounds-starts_of-count-3 c = omega (arith, groups-long c.args.n c.args.groups.now c.requires.0)
-
-pub slice_bounds-starts_of-start-3 : goal.slice_bounds-starts_of-start-3
-slice_bounds-starts_of-start-3 c = omega (arith, groups-long c.args.n c.args.groups.now c.requires.0)
+pub split_at-requires : goal.split_at-requires
+split_at-requires c = groups-long c.args.n c.args.groups.now c.requires.0
 
 pub starts_of-requires : goal.starts_of-requires
-unfolding part
-starts_of-requires c = let a = c.args in
+unfolding heads_in items_in
+starts_of-requires c =
+    let a = c.args in
     let p = c.requires in
-    (parts-sound a.n a.groups.now p.0, front_long (a.n + 1) a.scratch.now p.2, omega (arith, last_head a.n a.groups.now, p.3, p.4))
-
-pub slice_bounds-children_of-end-2 : goal.slice_bounds-children_of-end-2
-slice_bounds-children_of-end-2 c = omega (arith, groups-long c.args.n c.args.groups.now c.requires.0)
-
-pub slice_bounds-children_of-count-3 : goal.slice_bounds-children_of-count-3
-slice_bounds-children_of-count-3 c = omega (arith, groups-long c.args.n c.args.groups.now c.requires.0)
-
-pub slice_bounds-children_of-start-3 : goal.slice_bounds-children_of-start-3
-slice_bounds-children_of-start-3 c = omega (arith, groups-long c.args.n c.args.groups.now c.requires.0)
+    rw (c.split_at.ensures.front, c.split_at.ensures.back) (p.0, length-take-le (a.n + 1) a.scratch.now p.2, omega (arith, p.3, p.4))
 
 pub children_of-requires : goal.children_of-requires
-unfolding part
-children_of-requires c = let a = c.args in
+unfolding heads_in items_in
+children_of-requires c =
+    let a = c.args in
     let p = c.requires in
-    let starts = c.starts_of in
-    let again : part 0 (a.n + 1) (starts.new.starts ++ drop (a.n + 1 - 0) a.scratch.now) ≡ starts.new.starts = front_again (a.n + 1) a.scratch.now starts.new.starts p.2 starts.ensures.1 in
-    record { sound = (parts-sound a.n a.groups.now p.0, ap length again ∙ (starts.ensures.1 ∙ front_long (a.n + 1) a.scratch.now p.2), omega (arith, last_head a.n a.groups.now, p.3), p.4); summed = (λ k le. ap (λ (l : List ℕ). get_or l k 0) again ∙ starts.ensures.0 k le) }
-
-pub shape_of-scratch : goal.shape_of-scratch
-unfolding part
-shape_of-scratch c = let a = c.args in
-    let starts = c.starts_of in
-    let kids = c.children_of in
-    front_back (a.n + 1) (starts.new.starts ++ drop (a.n + 1 - 0) a.scratch.now) kids.new.next kids.ensures.children_len_unchanged.1 ∙ front_back (a.n + 1) a.scratch.now starts.new.starts starts.ensures.1
+    let begins = c.starts_of in
+    let size : length begins.new.starts ≡ a.n + 1 = begins.ensures.1 ∙ length-take-le (a.n + 1) a.scratch.now p.2 in
+    let again = take_at begins.new.starts (drop (a.n + 1) a.scratch.now) (a.n + 1) size in
+    record {
+      sound = rw (c.split_at.ensures.front, c.split_at.ensures.back) (p.0, ap length again ∙ size, p.3, p.4);
+      summed = λ k le. ap (λ (l : List ℕ). get_or l k 0) again ∙ begins.ensures.0 k le;
+    }
 
 pub returns : goal.returns
-unfolding part
-returns c = let a = c.args in
+unfolding heads_in items_in
+returns c =
+    let a = c.args in
     let p = c.requires in
-    let starts = c.starts_of in
-    let kids = c.children_of in
-    let stored = c.store in
-    let again : part 0 (a.n + 1) (starts.new.starts ++ drop (a.n + 1 - 0) a.scratch.now) ≡ starts.new.starts = front_again (a.n + 1) a.scratch.now starts.new.starts p.2 starts.ensures.1 in
-    let both = kids-tabled a.n a.groups.now a.tables.now stored.new.to (part 0 (a.n + 1) (starts.new.starts ++ drop (a.n + 1 - 0) a.scratch.now)) starts.new.starts a.children.now kids.new.children
-    p.0 p.3 p.1 stored.ensures again (starts.ensures.1 ∙ front_long (a.n + 1) a.scratch.now p.2) starts.ensures.0 kids.ensures.kids kids.ensures.children_len_unchanged.0 in
+    let parts = c.split_at in
+    let begins = c.starts_of in
+    let sound : Sound parts.result.0.now parts.result.1.now a.n = rw (parts.ensures.front, parts.ensures.back) p.0 in
+    let room : get_or parts.result.0.now a.n 0 ≤ length a.children.now = rw parts.ensures.front p.3 in
+    let size : length begins.new.starts ≡ a.n + 1 = begins.ensures.1 ∙ length-take-le (a.n + 1) a.scratch.now p.2 in
+    let stored = scratch-stored 6 (a.n + 1) (6 * (a.n + 1)) (7 * (a.n + 1) - 6 * (a.n + 1)) a.tables.now a.scratch.now begins.new.starts c.copy_from_slice.new.self refl (omega arith) (omega arith) size c.copy_from_slice.ensures.after in
+    let done = c.children_of.ensures in
     record {
-      kids_tabled = both.0;
-      kept = both.1;
-      children_len_unchanged = (
-        kids.ensures.children_len_unchanged.0,
-        front_back (a.n + 1) (starts.new.starts ++ drop (a.n + 1 - 0) a.scratch.now) kids.new.next kids.ensures.children_len_unchanged.1 ∙ front_back (a.n + 1) a.scratch.now starts.new.starts starts.ensures.1,
-      );
+      kids_tabled = rw (← parts.ensures.front, ← parts.ensures.back)
+          (kids-tabled a.n parts.result.0.now parts.result.1.now _ begins.new.starts a.children.now c.children_of.new.children sound room stored.0 begins.ensures.0 done.kids done.children_len_unchanged.0);
+      kept = stored.1;
+      children_len_unchanged = (done.children_len_unchanged.0, search rules);
     }

@@ -1,24 +1,20 @@
 -- `tables::tabling::lay` meets its contract: a range's parents, chains and rows. Assumes nothing.
-use Prim.Native.Nat.{◌+◌}
-use Rattle.lists.specs.Areas.{part}
-use Rattle.tables.specs.Laid.{shares}
-use Rattle.tables.proofs.FirstLanes.{first-long, first_back}
-use Rattle.tables.proofs.Whole.{lent_sound, range_laid}
+use Rattle.std.proofs.Common.{ℕ, List, subst, ◌≡◌}
+use Rattle.tables.specs.Laid.{shares, grouped, heads_in, items_in, LaidOut}
 use Rattle.tables.proofs.tabling.lay.Goals as goal
 
-pub lay-requires : goal.lay-requires
-unfolding part
-lay-requires c =
-    let a = c.args in
-    let p = c.requires in
-    let g = c.gather in
-    record { sound = lent_sound a.n g.new.groups g.ensures.sound_2; n_in_bounds = (p.parents_in_bounds.1, first-long (a.n + 1) a.scratch.now p.parents_in_bounds.2) }
+pub lay-requires-clause-sound : goal.lay-requires-clause-sound
+unfolding heads_in items_in
+lay-requires-clause-sound c = rw (c.split_at.ensures.front, c.split_at.ensures.back) c.gather.ensures.sound_2
 
-pub returns : goal.returns
-unfolding part
-returns c =
+pub returns-clause-range_laid : goal.returns-clause-range_laid
+unfolding heads_in items_in
+returns-clause-range_laid c =
     let a = c.args in
-    let g = c.gather in
-    let l = c.lay in
-    let e = l.ensures in
-    record { range_laid = range_laid (shares a.heads.now a.parents.now a.a a.n) a.n g.new.groups a.rows.now l.new.rows l.new.tables l.result g.ensures.n_after g.ensures.sound_2 e.laid_out; groups_len_unchanged = g.ensures.groups_len_unchanged; tables_len_unchanged = e.tables_len_unchanged; scratch_len_unchanged = first_back (a.n + 1) a.scratch.now l.new.row e.row_len_unchanged; rows_len_unchanged = e.rows_len_unchanged }
+    let parts = c.split_at in
+    let same : grouped parts.result.0.now parts.result.1.now a.n ≡ shares a.heads.now a.parents.now a.a a.n = rw (parts.ensures.front, parts.ensures.back) c.gather.ensures.n_after in
+    record {
+      out = subst (λ (l : List (List ℕ)). LaidOut l a.n a.rows.now c.lay.result c.lay.new.rows c.lay.new.tables) same c.lay.ensures.laid_out;
+      groups_are = c.gather.ensures.n_after;
+      sound = c.gather.ensures.sound_2;
+    }

@@ -1,27 +1,24 @@
 -- `tables::tabling::sizes` meets its contract: the events of each run's history, from the tables. Assumes nothing.
-use mathlib.Core.Path.{refl, sym, subst, ◌∙◌}
-use mathlib.Core.List.{List}
-use Prim.Native.Nat.{ℕ, ◌+◌, ◌*◌, ◌^◌}
-use native.Mathlib.Omega.{arith}
-use Rattle.tables.specs.Sizes.{Bounded, Inside}
-use Rattle.tables.proofs.Gapping.{cut_first, cut_lane, events-same}
+use Rattle.std.proofs.Common.{ℕ, length-append, length-drop, ◌≡◌, ◌+◌, ◌*◌, ◌<◌, length, refl, ◌∙◌, arith}
+use Rattle.std.proofs.Math.ListN.{get_or-append}
+use Rattle.std.proofs.lemmas.List.{length-take-le}
+use Rattle.tables.proofs.Laning.{lane_lent, first_lent}
+use Rattle.tables.proofs.Gapping.{events-same}
 use Rattle.tables.proofs.tabling.sizes.Goals as goal
 
 pub sizes_of-requires : goal.sizes_of-requires
-sizes_of-requires c = let a = c.args in
-    let p = c.requires in
-    let w = a.n + 1 in (
-      p.0,
-      p.1,
-      p.2,
-      subst (λ (l : List ℕ). Bounded (2 ^ 41) l) (sym (cut_first w a.before.now)) p.5,
-      subst (λ (l : List ℕ). Inside l a.rows.now a.n) (sym (cut_lane 0 w 0 w a.tables.now (omega arith) (omega arith))) p.6,
-    )
+sizes_of-requires c = λ r l.
+    let a = c.args in
+    let few : r < a.n = omega (arith, length-take-le a.n a.sizes.now c.requires.2) in
+    rw (first_lent (a.n + 1) a.tables.now) (c.requires.6 r few)
 
 pub returns : goal.returns
-returns c = let a = c.args in
+returns c =
+    let a = c.args in
     let w = a.n + 1 in
-    let t = a.tables.now in (
-      c.sizes_of.ensures.0,
-      (λ r l. c.sizes_of.ensures.1 r l ∙ events-same a.rows.now a.chains r (cut_first w a.before.now) (cut_lane 4 w (4 * w) (5 * w) t refl (omega arith)) (cut_lane 0 w 0 w t (omega arith) (omega arith))),
+    let made = c.sizes_of.new.sizes in
+    let size : length made ≡ a.n = c.sizes_of.auto.sizes ∙ length-take-le a.n a.sizes.now c.requires.2 in (
+      omega (arith, length-append {A = ℕ}, length-drop {A = ℕ}),
+      (λ r l. get_or-append made _ 0 r (omega arith) ∙
+          (c.sizes_of.ensures r (omega (arith, c.sizes_of.auto.sizes)) ∙ events-same a.rows.now a.chains r refl (lane_lent 4 w (4 * w) (5 * w) a.tables.now refl (omega arith)) (first_lent w a.tables.now))),
     )

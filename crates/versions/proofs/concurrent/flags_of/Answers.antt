@@ -1,46 +1,21 @@
 -- `versions::concurrent::flags_of` meets its contract: both passes, from flags that are all 0. Assumes nothing.
-use mathlib.Core.Path.{sym, ◌∙◌, ap, subst}
-use mathlib.Core.List.{List}
-use Prim.Native.Nat.{ℕ, ◌-◌, ◌+◌}
-use native.Mathlib.Omega.{arith}
+use Rattle.std.proofs.Common.{◌≡◌, ℕ, List, [], refl, sym, ◌∙◌, subst, set, arith, ◌-◌, ◌+◌}
 use Rattle.model.specs.Record.{view}
-use Rattle.graph.specs.Rows.{row}
-use Rattle.versions.specs.Flags.{flag_up, Flags}
-use Rattle.graph.proofs.Views.{facts}
-use Rattle.graph.proofs.Entries.{rows_of}
-use Rattle.versions.proofs.ConcurrentWays.{kept-room, passes_flag}
+use Rattle.lists.specs.Areas.{pad}
+use Rattle.versions.specs.Flags.{flag_up, flag_down, Flags}
+use Rattle.versions.specs.Parents.{parents_in, runs_in}
+use Rattle.versions.proofs.ConcurrentWays.{passes_flag}
 use Rattle.versions.proofs.concurrent.flags_of.Goals as goal
 
-pub overflow_add-next : goal.overflow_add-next
-overflow_add-next c = omega (arith, c.requires.run_bound, (facts c.args.g c.requires.held).runs)
-
-pub bounds-f-at : goal.bounds-f-at
-bounds-f-at c = omega (arith, (facts c.args.g c.requires.held).runs)
-
-pub flag_down-requires : goal.flag_down-requires
-flag_down-requires c =
-    let a = c.args in
-    let p = c.requires in
-    record {
-      rows = rows_of a.g p.held;
-      n_in_bounds = kept-room c.nothing-none.result
-          a.run.0 a.g.run_count c.nothing-none.ensures (facts a.g p.held).runs;
-      end_le_n = omega arith;
-    }
-
-pub flag_up-requires : goal.flag_up-requires
-flag_up-requires c =
-    let a = c.args in
-    let p = c.requires in
-    record { rows = rows_of a.g p.held; n_in_bounds = omega (arith, (facts a.g p.held).runs) }
-
 pub returns : goal.returns
+unfolding pad
 returns c =
-    let a = c.args in
-    let p = c.requires in
-    subst (λ (l : List ℕ). Flags (view a.g) a.run.0 l)
-    (sym (c.flag_up.ensures ∙ ap (λ (l : List ℕ). flag_up (row a.g.parent_starts a.g.parents) a.run.0 l (a.run.0 + 1) (a.g.run_count - (a.run.0 + 1)))
-    c.flag_down.ensures))
-    (passes_flag a.g p.held a.run.0 p.run_bound
-    c.nothing-none.result
-    c.nothing-none.ensures)
+    let g = c.args.g in
+    let r = c.args.run.0 in
+    let all = c.of_graph-parents in
+    let rows : ℕ → List ℕ = parents_in all.result in
+    let runs : runs_in all.result ≡ g.run_count = omega (arith, all.ensures.counted) in
+    let down : c.flag_down.new.flags ≡ flag_down rows (set (pad 512 []) r 1) (r + 1) = c.flag_down.ensures in
+    let up : c.flag_up.new.flags ≡ flag_up rows r (flag_down rows (set (pad 512 []) r 1) (r + 1)) (r + 1) (g.run_count - (r + 1)) =
+    c.flag_up.ensures ∙ rw (runs, down) refl in
+    subst (λ (l : List ℕ). Flags (view g) r l) (sym up) (passes_flag g c.requires.held r c.requires.run_there rows all.ensures.parents)

@@ -1,8 +1,5 @@
 -- `versions::words::put_one` meets its contract: the word is a record at its place. Assumes nothing.
-use mathlib.Core.Path.{sym, ◌∙◌, ap}
-use mathlib.Core.List.{List, [], ◌∷◌}
-use Prim.Native.Nat.{ℕ, ◌+◌}
-use native.Mathlib.Omega.{arith}
+use Rattle.std.proofs.Common.{ℕ, ◌+◌, List, [], ◌∷◌, sym, ◌∙◌, ap, arith}
 use Rattle.graph.specs.declared.cut.Put.{Put}
 use Rattle.graph.proofs.Writing.{put-after, put-none, put_one_lem, one_word}
 use Rattle.versions.proofs.words.put_one.Goals as goal

@@ -1,11 +1,11 @@
--- `walk::choice::nearest` meets its contract: the best of the last 64 ready runs, newest first. Assumes nothing.
-use mathlib.Core.Path.{◌≡◌}
-use Prim.Native.Nat.{◌≤◌, ◌-◌, min}
-use Rattle.walk.specs.Choose.{scan_c, only_c, cost_c, weight_c, start}
+-- `walk::choice::nearest`: the candidates that are left, weighed from here, give the whole.
+use Rattle.std.proofs.Common.{◌≡◌, ◌≤◌, ◌-◌, min, None}
+use Rattle.walk.specs.Choose.{scan_c, only_c, cost_c, weight_c}
 use Rattle.walk.proofs.choice.nearest.Given as goal
 
-abbrev pub invariant-loop-i : goal.invariant-loop-i
-invariant-loop-i l = (l.i ≤ l.k) × ((l.k ≡ min 64 l.m) × (scan_c (only_c l.heads l.items l.any l.last) (cost_c l.before l.begins l.current l.rows l.starts l.n) (weight_c l.weights) l.ready l.m l.i (l.k - l.i) l.best ≡ scan_c (only_c l.heads l.items l.any l.last) (cost_c l.before l.begins l.current l.rows l.starts l.n) (weight_c l.weights) l.ready l.m 0 l.k start))
-
-abbrev pub decreases-loop-i : goal.decreases-loop-i
-decreases-loop-i l = l.k - l.i
+abbrev pub invariant-loop-at : goal.invariant-loop-at
+invariant-loop-at l = record {
+  from : l.at-start ≤ l.at;
+  left : scan_c (only_c l.given l.last) (cost_c l.given l.current) (weight_c l.given) l.waits.2 l.waits.0 (l.waits.0 - l.at) (l.at - l.at-start) l.best ≡
+      scan_c (only_c l.given l.last) (cost_c l.given l.current) (weight_c l.given) l.waits.2 l.waits.0 0 (min 64 l.waits.0) None;
+}

@@ -9,7 +9,7 @@ walk_held-requires c =
     let a = c.args in
     let o = c.range_outcome-o in
     let h = walk_inside a.g a.first_run.0 a.end_run.0 a.known a.first a.rows.now a.steps.now (search rules) o.result o.ensures c.in-Ok.is in
-    record { held = h.0; a_le_b = (h.1, h.2, h.3) }
+    record { held = h.0; inside = (h.1, h.2, h.3) }
 
 pub returns-in-Err : goal.returns-in-Err
 returns-in-Err c =

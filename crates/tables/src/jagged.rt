@@ -1,0 +1,55 @@
+// Rows of words that lie one after another in a list: lent, and seen as a list of rows.
+ghost use Rattle.std.specs.Prelude.{◌≡◌, List, ℕ, ◌<◌, ◌≤◌, length};
+ghost use Rattle.model.specs.Limits.{max_runs};
+ghost use Rattle.model.specs.History.{at};
+ghost use Rattle.tables.specs.Jagged.{rows_in, Lies};
+
+use crate::words::get;
+use std::marker::Model;
+
+// Where each of `rows` rows starts, where the last ends, and the items.
+#[derive(Drop)]
+pub struct Jagged<'a> {
+    starts: &'a [u32],
+    items: &'a [u32],
+    rows: usize,
+}
+
+impl<'a> Model for Jagged<'a> {
+    ghost Value = { List (List ℕ) };
+
+    ghost view = { λ j. rows_in j.starts.now j.items.now j.rows };
+
+    ghost invariant = { λ j. Lies j.starts.now j.items.now j.rows };
+}
+
+impl<'a> Jagged<'a> {
+    pub fn new(starts: &'a [u32], items: &'a [u32], rows: usize) -> Self
+        requires { Lies starts.now items.now rows }
+        ensures { result ≡ rows_in starts.now items.now rows }
+    {
+        Jagged {
+            starts,
+            items,
+            rows,
+        }
+    }
+
+    // How many rows there are.
+    pub fn len(&self) -> usize
+        ensures value { result ≡ length self.now }
+        ensures few { result ≤ max_runs }
+    {
+        self.rows
+    }
+
+    // Row r's items.
+    pub fn row(&self, r: usize) -> &'a [u32]
+        requires { r < length self.now }
+        ensures { result.now ≡ at self.now r }
+    {
+        let s = get(self.starts, r) as usize;
+        let e = get(self.starts, r + 1) as usize;
+        &self.items[s..e]
+    }
+}

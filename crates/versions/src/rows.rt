@@ -1,0 +1,49 @@
+// The parents of runs, which lie row after row among the entries.
+ghost use Rattle.std.specs.Prelude.{◌≡◌, ℕ, ◌+◌, ◌-◌, ◌<◌, length};
+ghost use Rattle.model.specs.Record.{view};
+ghost use Rattle.model.specs.Broken.{Held};
+ghost use Rattle.model.specs.History.{at};
+ghost use Rattle.graph.specs.Rows.{row, Rows};
+
+use model::{CausalGraph, EventRunIndex};
+
+// The parents of each of some runs: where each run's begin among the items, and last where those of the last run end.
+#[derive(Clone, Copy)]
+pub(crate) struct ParentRows<'a> {
+    pub(crate) starts: &'a [u32],
+    pub(crate) items: &'a [u32],
+    pub(crate) ghost rows: { Rows starts.now items.now (length starts.now - 1) },
+}
+
+impl<'a> ParentRows<'a> {
+    // Those of a graph's runs.
+    #[tactic(auto, using(graph::proofs::Views::facts))]
+    pub(crate) fn of_graph(g: &'a CausalGraph) -> ParentRows<'a>
+        requires { Held g.now }
+        ensures counted { length result.starts.now ≡ g.now.run_count + 1 }
+        ensures parents { (r : ℕ) → r < g.now.run_count → row result.starts.now result.items.now r ≡ at (view g.now).parents r }
+    {
+        let starts = &g.parent_starts[..g.run_count + 1];
+        ParentRows {
+            starts,
+            items: &g.parents,
+        }
+    }
+
+    // How many runs there are.
+    pub(crate) fn len(self) -> usize
+        ensures { result + 1 ≡ length self.entry.starts.now }
+    {
+        self.starts.len() - 1
+    }
+
+    // A run's parents.
+    #[tactic(auto, unfolding(graph::specs::Rows::row, lists::specs::Areas::part))]
+    pub(crate) fn of(self, run: EventRunIndex) -> &'a [u32]
+        requires { run.0 + 1 < length self.starts.now }
+        ensures { result.now ≡ row self.entry.starts.now self.entry.items.now run.0 }
+    {
+        let at = run.0 as usize;
+        &self.items[self.starts[at] as usize..self.starts[at + 1] as usize]
+    }
+}

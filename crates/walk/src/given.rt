@@ -1,0 +1,168 @@
+// What a walk is given, and what it reads there of a run.
+ghost use Rattle.std.specs.Prelude.{◌≡◌, ◌+◌, ◌<◌, ◌≤◌, ◌^◌, length, get_or};
+ghost use Rattle.model.specs.Limits.{max_runs};
+ghost use Rattle.model.specs.History.{at};
+ghost use Rattle.tables.specs.Lanes.{lane};
+ghost use Rattle.tables.specs.Sizes.{events_from};
+ghost use Rattle.walk.specs.Given.{Given, chains_in, places_in, begins_in, members_in, weights_in, sums_in, row_for, children_for, parents_for, Prepared};
+
+use crate::areas::Areas;
+use model::EventRunIndex;
+use std::marker::Model;
+use tables::words::{long, wide};
+
+// Where the graph's runs start, the range's rows and tables, its first run, how many runs and chains it has, how many runs are
+// known and how many come first. The tables are those of the range.
+#[derive(Drop)]
+pub(crate) struct Given<'a> {
+    pub(crate) starts: &'a [u32],
+    pub(crate) rows: &'a [u32],
+    pub(crate) areas: &'a Areas,
+    pub(crate) base: EventRunIndex,
+    pub(crate) runs: usize,
+    pub(crate) chains: usize,
+    pub(crate) known: u32,
+    pub(crate) first: u32,
+}
+
+impl<'a> Model for Given<'a> {
+    ghost Value = { Given };
+
+    ghost view = { λ a. record {
+      starts = a.starts.now;
+      rows = a.rows.now;
+      groups = a.areas.now.groups;
+      tables = a.areas.now.tables;
+      before = a.areas.now.before;
+      sizes = a.areas.now.sizes;
+      children = a.areas.now.children;
+      base = a.base.0;
+      runs = a.runs;
+      chains = a.chains;
+      known = a.known;
+      first = a.first;
+    } };
+
+    ghost invariant = { λ a. Prepared (record {
+      starts = a.starts.now;
+      rows = a.rows.now;
+      groups = a.areas.now.groups;
+      tables = a.areas.now.tables;
+      before = a.areas.now.before;
+      sizes = a.areas.now.sizes;
+      children = a.areas.now.children;
+      base = a.base.0;
+      runs = a.runs;
+      chains = a.chains;
+      known = a.known;
+      first = a.first;
+    }) };
+}
+
+impl<'a> Given<'a> {
+    // The k-th of the eight tables.
+    pub(crate) fn table(&self, k: usize) -> &[u32]
+        requires { k < 8 }
+        ensures value { result.now ≡ lane k (self.now.runs + 1) self.now.tables }
+        ensures length { length result.now ≡ self.now.runs + 1 }
+        ensures few { self.now.runs ≤ max_runs }
+    {
+        let w = self.runs + 1;
+        let areas = self.areas;
+        let s = k * w;
+        let e = s + w;
+        &areas.tables[s..e]
+    }
+
+    // Each run's chain, and its place along it.
+    #[tactic(auto, unfolding(crate::specs::Given::chains_in))]
+    pub(crate) fn chain(&self, run: usize) -> usize
+        requires { run < self.now.runs }
+        ensures { result ≡ get_or (chains_in self.now) run 0 }
+    {
+        wide(self.table(1)[run])
+    }
+
+    #[tactic(auto, unfolding(crate::specs::Given::places_in))]
+    pub(crate) fn place(&self, run: usize) -> u32
+        requires { run < self.now.runs }
+        ensures { result ≡ get_or (places_in self.now) run 0 }
+    {
+        self.table(2)[run]
+    }
+
+    // Where each chain's members begin, the members, and the events before each.
+    #[tactic(auto, unfolding(crate::specs::Given::begins_in))]
+    pub(crate) fn begins(&self) -> &[u32]
+        ensures { result.now ≡ begins_in self.now }
+    {
+        self.table(4)
+    }
+
+    #[tactic(auto, unfolding(crate::specs::Given::members_in))]
+    pub(crate) fn members(&self) -> &[u32]
+        ensures value { result.now ≡ members_in self.now }
+        ensures length { length result.now ≡ self.now.runs + 1 }
+    {
+        self.table(5)
+    }
+
+    pub(crate) fn sums(&self) -> &[u64]
+        ensures { result.now ≡ sums_in self.now }
+    {
+        let w = self.runs + 1;
+        let areas = self.areas;
+        &areas.before[..w]
+    }
+
+    // A run's row, parents, children, weight, and the events of its history.
+    pub(crate) fn row(&self, run: usize) -> &[u32]
+        requires { run < self.now.runs }
+        ensures { result.now ≡ row_for self.now run }
+    {
+        let starts = self.table(0);
+        let s = wide(starts[run]);
+        let e = wide(starts[run + 1]);
+        &self.rows[s..e]
+    }
+
+    pub(crate) fn parents(&self, run: usize) -> &[u32]
+        requires { run < self.now.runs }
+        ensures value { result.now ≡ at (parents_for self.now) run }
+        ensures few { length result.now ≤ 2 ^ 31 }
+    {
+        let w = self.runs + 1;
+        let areas = self.areas;
+        let s = wide(areas.groups[run]);
+        let e = wide(areas.groups[run + 1]);
+        let items = &areas.groups[w..];
+        &items[s..e]
+    }
+
+    pub(crate) fn children(&self, run: usize) -> &[u32]
+        requires { run < self.now.runs }
+        ensures { result.now ≡ children_for self.now run }
+    {
+        let begins = self.table(6);
+        let areas = self.areas;
+        let s = wide(begins[run]);
+        let e = wide(begins[run + 1]);
+        &areas.children[s..e]
+    }
+
+    #[tactic(auto, unfolding(crate::specs::Given::weights_in))]
+    pub(crate) fn weight(&self, run: usize) -> u64
+        requires { run < self.now.runs }
+        ensures { result ≡ get_or (weights_in self.now) run 0 }
+    {
+        long(self.table(7)[run])
+    }
+
+    pub(crate) fn size(&self, run: usize) -> u64
+        requires { run < self.now.runs }
+        ensures { result ≡ events_from (sums_in self.now) (begins_in self.now) (row_for self.now run) 0 self.now.chains }
+    {
+        let areas = self.areas;
+        areas.sizes[run]
+    }
+}
