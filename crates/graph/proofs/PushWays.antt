@@ -23,10 +23,9 @@ use Rattle.model.proofs.Stored.{view-store, held-store}
 use Rattle.model.proofs.FormedReads.{first-len}
 use Rattle.model.proofs.Siding.{known-below}
 use Rattle.model.proofs.FormedSplitAll.{SplitAll, splits-frontier}
-use Rattle.model.proofs.FormedPush.{Accepted, push_grows, push_joins, extends-runs, extends-parents, pushed-splits, held_same}
+use Rattle.model.proofs.FormedPush.{Accepted, push-formed, push-limits, push_grows, push_joins, extends-runs, extends-parents, pushed-splits, held_same}
 use Rattle.graph.specs.declared.pushing.ParentCounts.{ParentCounts}
 use Rattle.graph.specs.Loops.{side_in, count_parents, Room, Joins}
-use Rattle.graph.proofs.Extending.{extends-view}
 use Rattle.graph.proofs.SplitParts.{splits_in}
 use Rattle.graph.proofs.Owning.{held-counted}
 use Rattle.graph.proofs.Placing.{side-view}
@@ -155,13 +154,25 @@ module _ {g : CausalGraph} {ps : List ℕ} {n start : ℕ} {c : ParentCounts} (k
   unfolding push_outcome first_of
   grown_outcome x = rw (ne_eqb n 0 some-not, k.rises, k.known, events-len, x)
 
+  grown_push : {e : Bool} (h : CausalGraph) → e ≡ extends (view g) ps → e ≡ true → h ≡ store (grown (view g) ((len (view g) - 1) ∷ []) n) →
+      (h ≡ store (push (view g) ps n)) × (push_outcome (view g) ps n ≡ Ok tt)
+  grown_push h e t f =
+      let x : extends (view g) ps ≡ true = sym e ∙ t in (
+        f ∙ ap (λ (qs : List ℕ). store (grown (view g) qs n)) (sym (extends-parents (view g) ps x)) ∙ ap store (sym (push_grows (view g) ps n x)),
+        grown_outcome x,
+      )
+
   pub grown-out : {e : Bool} (h : CausalGraph) → e ≡ extends (view g) ps → e ≡ true → h ≡ store (grown (view g) ((len (view g) - 1) ∷ []) n) →
       taken_by h start n ≡ push_held_of g ps n
-  grown-out h e t f =
-      let x : extends (view g) ps ≡ true = sym e ∙ t in
-      let q : h ≡ store (push (view g) ps n) =
-      f ∙ ap (λ (qs : List ℕ). store (grown (view g) qs n)) (sym (extends-parents (view g) ps x)) ∙ ap store (sym (push_grows (view g) ps n x)) in
-      taken_out_lem g ps n start k.at_end h q (grown_outcome x)
+  grown-out h e t f = let w = grown_push h e t f in taken_out_lem g ps n start k.at_end h w.0 w.1
+
+  -- A push that is taken leaves a held graph
+  pushed-held : (h : CausalGraph) → h ≡ store (push (view g) ps n) → push_outcome (view g) ps n ≡ Ok tt → Held h
+  pushed-held h q e =
+      rw q (held-store (push (view g) ps n) (push-formed (view g) k.holds.formed ps n e) (push-limits (view g) k.holds.formed k.holds.limits ps n e))
+
+  pub grown-held : {e : Bool} (h : CausalGraph) → e ≡ extends (view g) ps → e ≡ true → h ≡ store (grown (view g) ((len (view g) - 1) ∷ []) n) → Held h
+  grown-held h e t f = let w = grown_push h e t f in pushed-held h w.0 w.1
 
   -- The tests of the code for refusals 6 to 8, as the definition has them
   runs_test : {b : Bool} → b ≡ ltb 512 (g.run_count + 1 + c.splits) → ltb 512 (runs (view g) + splits (view g) ps + 1) ≡ b
@@ -180,10 +191,6 @@ module _ {g : CausalGraph} {ps : List ℕ} {n start : ℕ} {c : ParentCounts} (k
       length left ≡ length (staying (view g) ps)
   unfolding staying
   left-count e = ap length e
-
-  pub left-fits : {left : List ℕ} → left ≡ filter (λ e. not (mem e ps)) (view g).frontier → length left ≤ 512
-  unfolding staying
-  left-fits e = omega (arith, left-count e, filter-length (λ e. not (mem e ps)) (view g).frontier, k.holds.limits.frontier)
 
   -- Refusals 6 to 8
   pub too_many_runs : {e b : Bool} → e ≡ extends (view g) ps → e ≡ false → b ≡ ltb 512 (g.run_count + 1 + c.splits) → b ≡ true →
@@ -255,14 +262,6 @@ module _ {g : CausalGraph} {ps : List ℕ} {n start : ℕ} {c : ParentCounts} (r
   after : SplitAll (view g) (held (view g) ps)
   after = pushed-splits (view g) r.known.holds.formed ps n accepted
 
-  after-limits : WithinLimits (split_after (view g) (held (view g) ps))
-  unfolding splits
-  after-limits = record {
-    runs = omega (arith, after.more_runs, r.for_runs);
-    entries = omega (arith, after.more_entries, r.for_entries);
-    frontier = omega (arith, ap length (splits-frontier (view g) (held (view g) ps)), r.known.holds.limits.frontier);
-  }
-
   after_joins : Joins (split_after (view g) (held (view g) ps)) ps n
   unfolding splits staying
   after_joins = record {
@@ -291,8 +290,11 @@ module _ {g : CausalGraph} {ps : List ℕ} {n start : ℕ} {c : ParentCounts} (r
     parted_joins = rw parted_view after_joins
 
     -- A new run
+    joined_push : (j : CausalGraph) → j ≡ store (lowered (view h) (joined (view h) ps n)) → j ≡ store (push (view g) ps n)
+    joined_push j e = e ∙ ap (λ (a : Graph). store (lowered a (joined a ps n))) parted_view ∙ ap store (sym (push_joins (view g) ps n r.new))
+
     pub joined-out : (j : CausalGraph) → j ≡ store (lowered (view h) (joined (view h) ps n)) → taken_by j start n ≡ push_held_of g ps n
-    joined-out j e =
-        let q : j ≡ store (push (view g) ps n) =
-        e ∙ ap (λ (a : Graph). store (lowered a (joined a ps n))) parted_view ∙ ap store (sym (push_joins (view g) ps n r.new)) in
-        taken_out_lem g ps n start r.known.at_end j q new_outcome
+    joined-out j e = taken_out_lem g ps n start r.known.at_end j (joined_push j e) new_outcome
+
+    pub joined-held : (j : CausalGraph) → j ≡ store (lowered (view h) (joined (view h) ps n)) → Held j
+    joined-held j e = pushed-held r.known j (joined_push j e) new_outcome

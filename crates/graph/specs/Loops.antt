@@ -169,13 +169,6 @@ unfoldable pub own_all : List ℕ → List ℕ → ℕ → List ℕ × Own → L
 own_all starts seen n t [] = t
 own_all starts seen n t (p ∷ ps) = own_all starts seen n (add_own starts seen n t p) ps
 
--- the arrays' lengths
-pub record OwnFits (starts seen : List ℕ) (n : ℕ) (items : List ℕ) : Type 0 where
-  pub starts_long : length starts ≡ max_starts
-  pub seen_long : length seen ≡ max_runs
-  pub few : n ≤ max_runs
-  pub items_long : length items ≡ max_entries
-
 -- the lowest of d and the runs of a list that start past s
 unfoldable pub lower_all : List ℕ → ℕ → ℕ → List ℕ → ℕ
 lower_all starts s d [] = d

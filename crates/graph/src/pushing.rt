@@ -5,7 +5,6 @@ ghost use Rattle.model.specs.Limits.{max_entries, max_runs};
 ghost use Rattle.model.specs.Graph;
 ghost use Rattle.model.specs.Graph.{len, is_held, all_known, extends};
 ghost use Rattle.model.specs.Record.{view, store};
-ghost use Rattle.model.specs.Broken.{Held};
 ghost use Rattle.model.specs.Push.{grown, joined, lowered, push_held_of, push_of};
 ghost use Rattle.graph.specs.Loops.{side_in, count_parent, count_parents, add_own, own_all, Joins, lower_all, assembled};
 
@@ -239,72 +238,64 @@ fn join(g: &HeldGraph, ps: &[u32], n: u32) -> CausalGraph
 
 // A push whose parents are known events, rising, and whose events fit: growth, or refusals 6, 7, 8, or a new run.
 fn push_known(
-    g: HeldGraph,
+    g: &mut HeldGraph,
     ps: &[u32],
     n: u32,
     counts: ParentCounts,
-) -> Changed<(EventIndex, EventIndex)>
+) -> Result<(EventIndex, EventIndex), Refusal>
     requires rising { rising ps.now ≡ true }
-    requires known { all_known (view g.graph) ps.now ≡ true }
+    requires known { all_known (view g.old.graph) ps.now ≡ true }
     requires some_events { 0 < n }
-    requires events_fit { len (view g.graph) + n < 2 ^ 32 }
-    requires counted { counts ≡ count_parents g.graph.starts g.graph.run_count ps.now }
-    ensures { result ≡ push_held_of g.graph ps.now n }
+    requires events_fit { len (view g.old.graph) + n < 2 ^ 32 }
+    requires counted { counts ≡ count_parents g.old.graph.starts g.old.graph.run_count ps.now }
+    ensures { record { graph = g.new.graph; answer = result } ≡ push_held_of g.old.graph ps.now n }
 {
     let start = g.len();
     let end = start.0 + n;
-    if does_extend(&g, ps) {
-        let grown = grow_last(&g, n);
-        return Changed {
-            graph: grown,
-            answer: Ok((start, EventIndex(end))),
-        };
+    if does_extend(g, ps) {
+        let grown = grow_last(g, n);
+        *g = HeldGraph { graph: grown };
+        return Ok((start, EventIndex(end)));
     }
     if over(MAX_RUNS, g.graph.run_count + 1, counts.splits) {
-        return refused(g.graph, Refusal::TooManyRuns);
+        return Err(Refusal::TooManyRuns);
     }
     if over(MAX_ENTRIES, g.graph.entry_count + counts.splits, counts.held) {
-        return refused(g.graph, Refusal::TooManyEntries);
+        return Err(Refusal::TooManyEntries);
     }
     let left = lists::keep_all(g.frontier(), ps);
     if MAX_FRONTIER < left.len() + 1 {
-        return refused(g.graph, Refusal::FrontierTooLong);
+        return Err(Refusal::FrontierTooLong);
     }
-    let parted = split_all(g, ps, counts.splits);
+    let parted = split_all(*g, ps, counts.splits);
     let joined = join(&parted, ps, n);
-    Changed {
-        graph: joined,
-        answer: Ok((start, EventIndex(end))),
-    }
+    *g = HeldGraph { graph: joined };
+    Ok((start, EventIndex(end)))
 }
 
-// `push` on a graph that is known not to be broken.
-fn push_in(g: HeldGraph, parents: &[u32], len: u32) -> Changed<(EventIndex, EventIndex)>
-    ensures { result ≡ push_held_of g.graph parents.now len }
+// `push` on a graph that is known not to be broken: refused, it stays as it was.
+pub fn push_held(
+    g: &mut HeldGraph,
+    parents: &[u32],
+    len: u32,
+) -> Result<(EventIndex, EventIndex), Refusal>
+    ensures { record { graph = g.new.graph; answer = result } ≡ push_held_of g.old.graph parents.now len }
 {
     if len == 0 {
-        return refused(g.graph, Refusal::NoEvents);
+        return Err(Refusal::NoEvents);
     }
     if !lists::is_rising(parents) {
-        return refused(g.graph, Refusal::NotRising);
+        return Err(Refusal::NotRising);
     }
-    let counts = count_parents(&g, parents);
+    let counts = count_parents(g, parents);
     if 0 < counts.unknown {
-        return refused(g.graph, Refusal::UnknownEvent);
+        return Err(Refusal::UnknownEvent);
     }
     let start = g.len();
     if over(MAX_LEN as usize, start.0 as usize, len as usize) {
-        return refused(g.graph, Refusal::TooManyEvents);
+        return Err(Refusal::TooManyEvents);
     }
     push_known(g, parents, len, counts)
-}
-
-// `push` on a graph that is known not to be broken, for a caller that made it.
-pub fn push_held(g: CausalGraph, parents: &[u32], len: u32) -> Changed<(EventIndex, EventIndex)>
-    requires { Held g }
-    ensures { result ≡ push_held_of g parents.now len }
-{
-    push_in(HeldGraph { graph: g }, parents, len)
 }
 
 // Appends a chain of `len` events whose first has `parents`, and answers the first of them and the end.
@@ -312,7 +303,13 @@ pub fn push(g: CausalGraph, parents: &[u32], len: u32) -> Changed<(EventIndex, E
     ensures { result ≡ push_of g parents.now len }
 {
     match HeldGraph::of(g) {
-        Ok(held) => push_in(held, parents, len),
+        Ok(mut held) => {
+            let answer = push_held(&mut held, parents, len);
+            Changed {
+                graph: held.graph,
+                answer: answer,
+            }
+        }
         Err(r) => refused(g, r),
     }
 }

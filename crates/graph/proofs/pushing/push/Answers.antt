@@ -6,7 +6,7 @@ use Rattle.graph.proofs.pushing.push.Goals as goal
 pub returns-in-Ok : goal.returns-in-Ok
 returns-in-Ok c =
     let e = c.in-Ok.ensures.ok in
-    rw (← e.0) (c.push_in.ensures ∙ unbroken-out c.in-Ok.held.graph c.args.parents.now c.args.len e.1)
+    rw (← e.0) (c.push_held-answer.ensures ∙ unbroken-out c.in-Ok.held.graph c.args.parents.now c.args.len e.1)
 
 pub returns-in-Err : goal.returns-in-Err
 returns-in-Err c =

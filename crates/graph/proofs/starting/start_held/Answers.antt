@@ -10,7 +10,7 @@ use Rattle.graph.proofs.starting.start_held.Goals as goal
 pub returns-in_default : goal.returns-in_default
 unfolding told
 returns-in_default c =
-    let k = c.args.g in
+    let k = c.args.g.now in
     let g = k.graph in
     let at = c.args.at.0 in
     start_outside g at
@@ -18,7 +18,7 @@ returns-in_default c =
 
 pub start_in-requires : goal.start_in-requires
 start_in-requires c =
-    let k = c.args.g in
+    let k = c.args.g.now in
     let g = k.graph in
     let at = c.args.at.0 in
     told-run (side (view g) at) c.in-Run.run' (sym c.containing.ensures ∙ c.in-Run.is)

@@ -7,7 +7,7 @@ use Rattle.graph.proofs.starting.start_run_at.Goals as goal
 pub returns-in-Ok : goal.returns-in-Ok
 returns-in-Ok c =
     let e = c.in-Ok.ensures.ok in
-    rw (← e.0) (c.start_held.ensures ∙ start-unbroken c.in-Ok.held.graph c.args.at.0 e.1)
+    rw (← e.0) (c.start_held-answer.ensures ∙ start-unbroken c.in-Ok.held.graph c.args.at.0 e.1)
 
 pub returns-in-Err : goal.returns-in-Err
 unfolding start_refused
