@@ -6,16 +6,13 @@ use mathlib.Core.List.{List, [], ◌∷◌, ◌++◌}
 use Prim.Native.Nat.{ℕ, zero, suc, ◌+◌, ◌<◌, ◌≤◌}
 use native.Mathlib.Numerals.{add-one}
 use native.Mathlib.Omega.{arith}
-use lib.ListN.{length, take, drop, get_or, length-take}
-use lib.Seq.{drop-nil, get_or-take, get_or-drop}
+use lib.ListN.{length, drop, get_or}
+use lib.Seq.{drop-nil, get_or-drop}
 use lib.Dec.{leb, ltb, eqb}
 use borrow.Author.Tests.{lt-ltb, le-ltb, le-leb, lt-leb, eq-eqb, eqb-true}
-use Rattle.lists.specs.Lists.{bit, filter, count, mem, occurs, rising}
-use Rattle.lists.specs.Scans.{last_at_most}
+use Rattle.lists.specs.Lists.{filter, mem}
 use Rattle.lists.proofs.Truth.{lt_or_le, false_true, not_so}
-use Rattle.lists.proofs.Counts.{mem-occurs, count_without}
-use Rattle.lists.proofs.Scanning.{last-count}
-use Rattle.lists.proofs.Rising.{Up, none_below}
+use Rattle.lists.proofs.Rising.{Up}
 use Rattle.model.specs.Cut.{HistoryRange, linear, concurrent, ranges_from, join_linear, join_ranges}
 use Rattle.std.proofs.Common.{Some, None, position}
 use Rattle.std.specs.List.{position_or_len}

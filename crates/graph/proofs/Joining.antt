@@ -2,14 +2,10 @@
 use mathlib.Core.Path.{◌≡◌, refl, sym, ap, ◌∙◌}
 use mathlib.Core.Bool.{Bool, true, false}
 use mathlib.Core.List.{List, [], ◌∷◌, ◌++◌, map, append_assoc}
-use Prim.Native.Nat.{ℕ, ◌+◌, ◌-◌, ◌<◌, ◌≤◌}
-use native.Mathlib.Omega.{arith}
-use lib.ListN.{length, take, drop, get_or, length-take, get_or-eq_default}
-use lib.Seq.{get_or-take}
+use Prim.Native.Nat.{ℕ, ◌+◌, ◌<◌, ◌≤◌}
+use lib.ListN.{length, drop, get_or}
 use lib.Dec.{eqb}
-use borrow.Author.Tests.{lt-ltb, le-ltb, eq-eqb, ne_eqb, eqb-true}
-use Rattle.lists.proofs.Truth.{bool_iff}
-use Rattle.lists.proofs.Members.{get_d_any}
+use borrow.Author.Tests.{lt-ltb, le-ltb}
 use Rattle.model.specs.Cut.{HistoryRange, concurrent, range_words, ranges_from}
 use Rattle.model.specs.declared.record.EventRunIndex.{EventRunIndex}
 use Rattle.graph.specs.Records.{Put, put, put_all}

@@ -1,24 +1,24 @@
 -- The ways out of a push, each as one law from the tests on the way to the record that the call gives; and what a new run needs, from
 -- the tests that it passed. Assumes nothing.
-use mathlib.Core.Path.{◌≡◌, refl, sym, ap, ◌∙◌}
-use mathlib.Core.Bool.{Bool, true, false, not, cond, ◌&&◌}
+use mathlib.Core.Path.{◌≡◌, sym, ap, ◌∙◌}
+use mathlib.Core.Bool.{Bool, true, false, not, cond}
 use mathlib.Core.List.{List, [], ◌∷◌}
 use Prim.Native.Nat.{ℕ, ◌+◌, ◌-◌, ◌<◌, ◌≤◌, ◌^◌}
 use native.Mathlib.Omega.{arith}
-use lib.ListN.{length, get_or, take}
+use lib.ListN.{length}
 use lib.Dec.{ltb, eqb}
-use borrow.Author.Tests.{lt-ltb, le-ltb, ltb-true, ltb-false, ne_eqb, eq-eqb}
-use Rattle.lists.specs.Lists.{filter, mem, same, rising}
+use borrow.Author.Tests.{lt-ltb, le-ltb, ltb-false, ne_eqb, eq-eqb}
+use Rattle.lists.specs.Lists.{filter, mem, rising}
 use Rattle.model.specs.declared.record.CausalGraph.{CausalGraph}
 use Rattle.model.specs.declared.answers.Refusal.{Refusal}
 use Rattle.model.specs.declared.answers.Refusal.TheVariants.{Broken, NoEvents, NotRising, UnknownEvent, TooManyEvents, TooManyRuns, TooManyEntries, FrontierTooLong}
 use Rattle.model.specs.Refusals.{first_of, Outcome}
 use Rattle.model.specs.Graph.{Graph, runs, len, entries, Side, side, is_known, held, all_known, extends}
 use Rattle.model.specs.Record.{view, store}
-use Rattle.model.specs.Broken.{broken, Held, WithinLimits}
+use Rattle.model.specs.Broken.{broken, Held}
 use Rattle.model.specs.Split.{splits, split_after}
 use Rattle.model.specs.Push.{staying, grown, joined, lowered, push, push_outcome, pushed, push_refused, push_held_of, push_of}
-use Rattle.lists.proofs.Counts.{count_same, filter-length, all_none}
+use Rattle.lists.proofs.Counts.{count_same, all_none}
 use Rattle.model.proofs.Stored.{view-store, held-store}
 use Rattle.model.proofs.FormedReads.{first-len}
 use Rattle.model.proofs.Siding.{known-below}

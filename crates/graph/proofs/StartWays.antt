@@ -3,9 +3,8 @@ use mathlib.Core.Path.{◌≡◌, refl, sym, ap, ◌∙◌}
 use mathlib.Core.Bool.{Bool, true, false, not}
 use Prim.Native.Nat.{ℕ, suc, ◌+◌, ◌<◌, ◌≤◌}
 use native.Mathlib.Omega.{arith}
-use lib.ListN.{take, get_or}
+use lib.ListN.{get_or}
 use borrow.Author.Tests.{lt-ltb, le-ltb, eq-eqb, ne_eqb}
-use Rattle.lists.specs.Lists.{mem}
 use Rattle.lists.proofs.Truth.{false_true}
 use Rattle.model.specs.declared.record.CausalGraph.{CausalGraph}
 use Rattle.model.specs.declared.answers.Refusal.TheVariants.{Broken, TooManyRuns, TooManyEntries}
@@ -20,8 +19,7 @@ use Rattle.model.proofs.Siding.{run-told}
 use Rattle.model.proofs.Stored.{held-store}
 use Rattle.model.proofs.FormedCalls.{start-formed, start-limits, starting-out, starting_in_lem, in_there, in_alone, in_splits}
 use Rattle.model.proofs.Sides.{sides}
-use Rattle.model.proofs.Lasting.{marks_list as marks-mem}
-use Rattle.graph.proofs.Views.{runs-view, entries-view, tips_view, marks-view, start-view, marks_list, starts-pad, heads-pad, parents-pad, frontier-pad, seen-pad, marks-pad}
+use Rattle.graph.proofs.Views.{runs-view, entries-view, tips_view, marks-view, start-view, starts-pad, heads-pad, parents-pad, frontier-pad, seen-pad, marks-pad}
 use Rattle.std.specs.Prelude.{Ok, Err}
 use Rattle.model.specs.Answers.{Started, Taken}
 

@@ -1,6 +1,5 @@
 // The history cut at its critical versions, into a lent list.
 ghost use Rattle.std.specs.Prelude.{◌≡◌, Err, get_or, drop, eqb, position};
-ghost use Rattle.model.specs.Broken.{Held};
 ghost use Rattle.model.specs.Cut.{cut_of, ranges_from};
 ghost use Rattle.graph.specs.Records.{state, same_list};
 ghost use Rattle.graph.specs.Cutting.{pending, join_on, put_ranges, cut_on, cutting};
@@ -12,6 +11,7 @@ use model::{CausalGraph, EventRunIndex, Refusal, Written};
 
 // 01's kinds of a range.
 const LINEAR: u32 = 0;
+
 const CONCURRENT: u32 = 1;
 
 // Writes the Linear from `first` to `end`, if it has a run.
@@ -68,13 +68,18 @@ fn cut_from(marks: &[u32], from: usize, end: EventRunIndex, out: &mut Records)
 {
     let mut first = mark_at(marks, from, end);
     for i in from..marks.len() {
-        first = cut_on(out, first, EventRunIndex(marks[i]), mark_at(marks, i + 1, end));
+        first = cut_on(
+            out,
+            first,
+            EventRunIndex(marks[i]),
+            mark_at(marks, i + 1, end),
+        );
     }
     put_linear(out, first, end);
 }
 
 // `split_at_critical_versions_from` on a graph that is known not to be broken.
-fn cut_in(g: &HeldGraph, from: EventRunIndex, list: &mut [u32]) -> Written
+pub fn cut_held(g: &HeldGraph, from: EventRunIndex, list: &mut [u32]) -> Written
     ensures { (result, list.new) ≡ cut_of g.now.graph from.0 list.old }
 {
     let runs = g.graph.run_count;
@@ -96,15 +101,6 @@ fn cut_in(g: &HeldGraph, from: EventRunIndex, list: &mut [u32]) -> Written
     out.written()
 }
 
-// `split_at_critical_versions_from` on a graph that is known not to be broken.
-pub fn cut_held(g: CausalGraph, from: EventRunIndex, list: &mut [u32]) -> Written
-    requires { Held g }
-    ensures { (result, list.new) ≡ cut_of g from.0 list.old }
-{
-    let held = HeldGraph { graph: g };
-    cut_in(&held, from, list)
-}
-
 // The ranges from run `from` on into `list`: kind (0 Linear, 1 Concurrent), first run, end run (exclusive).
 pub fn split_at_critical_versions_from(
     g: CausalGraph,
@@ -114,7 +110,7 @@ pub fn split_at_critical_versions_from(
     ensures { (result, list.new) ≡ cut_of g from.0 list.old }
 {
     match HeldGraph::of(g) {
-        Ok(held) => cut_in(&held, from, list),
+        Ok(held) => cut_held(&held, from, list),
         Err(r) => unwritten(r),
     }
 }

@@ -28,6 +28,14 @@ impl HeldGraph {
         Ok(HeldGraph { graph: g })
     }
 
+    // A graph that its maker knows not to be broken, untested.
+    pub fn known(g: CausalGraph) -> HeldGraph
+        requires { Held g }
+        ensures { result.graph ≡ g }
+    {
+        HeldGraph { graph: g }
+    }
+
     // The number of events, including those before the first held one.
     pub fn len(&self) -> EventIndex
         ensures { result.0 ≡ len (view self.now.graph) }

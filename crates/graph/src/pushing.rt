@@ -260,7 +260,11 @@ fn push_known(
     if over(MAX_RUNS, g.graph.run_count + 1, counts.splits) {
         return Err(Refusal::TooManyRuns);
     }
-    if over(MAX_ENTRIES, g.graph.entry_count + counts.splits, counts.held) {
+    if over(
+        MAX_ENTRIES,
+        g.graph.entry_count + counts.splits,
+        counts.held,
+    ) {
         return Err(Refusal::TooManyEntries);
     }
     let left = lists::keep_all(g.frontier(), ps);

@@ -38,7 +38,13 @@ fn split_in(g: &mut CausalGraph, run: EventRunIndex, at: EventIndex)
     );
     lists::insert_and_grow(&mut g.starts[..runs + 2], next, at.0, 0, 0);
     lists::insert_and_grow(&mut g.parent_starts[..runs + 2], next, later, 0, 1);
-    lists::insert_and_grow(&mut g.parents[..entries + 1], later as usize, run.0, run.0, 1);
+    lists::insert_and_grow(
+        &mut g.parents[..entries + 1],
+        later as usize,
+        run.0,
+        run.0,
+        1,
+    );
     lists::insert_and_grow(&mut g.seen_prefix_len[..runs + 1], next, second.0, 0, 0);
     g.run_count = runs + 1;
     g.entry_count = entries + 1;

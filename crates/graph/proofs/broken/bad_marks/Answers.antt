@@ -1,9 +1,8 @@
 -- `graph::broken::bad_marks` meets its contract: the marks are made once, in place, and compared. Assumes nothing.
-use Rattle.std.proofs.Common.{rules, arith, ◌≡◌, sym, ◌∙◌, ap, not, take}
+use Rattle.std.proofs.Common.{rules, sym, ◌∙◌, ap, not, take}
 use Rattle.lists.specs.Lists.{same}
 use Rattle.lists.proofs.Scanning.{same-pointwise}
-use Rattle.model.specs.Graph.{marks}
-use Rattle.model.specs.Record.{view, Sized}
+use Rattle.model.specs.Record.{Sized}
 use Rattle.model.specs.Broken.{bad_marks}
 use Rattle.graph.proofs.Testing.{marks-used}
 use Rattle.graph.proofs.broken.bad_marks.Goals as goal

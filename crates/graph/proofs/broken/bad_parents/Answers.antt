@@ -1,8 +1,8 @@
 -- `graph::broken::bad_parents` meets its contract: where the groups cover the entries, each is asked. Assumes nothing.
-use Rattle.std.proofs.Common.{rules, ap, sym, ◌∙◌, ◌≡◌, ◌≤◌, not, false, length}
+use Rattle.std.proofs.Common.{rules, ap, ◌≤◌, not, length}
 use lib.Seq.{length-take-le}
 use Rattle.model.specs.Record.{view}
-use Rattle.model.specs.Broken.{bad_groups, bad_parents}
+use Rattle.model.specs.Broken.{bad_parents}
 use Rattle.graph.proofs.Testing.{told, groups_climb}
 use Rattle.graph.proofs.broken.bad_parents.Goals as goal
 

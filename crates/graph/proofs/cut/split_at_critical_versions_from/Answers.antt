@@ -1,5 +1,4 @@
 -- `graph::cut::split_at_critical_versions_from` meets its contract: a broken graph is refused, any other is held. Assumes nothing.
-use Rattle.std.proofs.Common.{rules, ◌∙◌}
 use Rattle.graph.proofs.CutWays.{cut_broken}
 use Rattle.graph.proofs.cut.split_at_critical_versions_from.Goals as goal
 

@@ -1,5 +1,5 @@
 -- `graph::lookups::extends_last_event` meets its contract: refused where the graph is broken; else the graph is held. Assumes nothing.
-use Rattle.std.proofs.Common.{rules, refl}
+use Rattle.std.proofs.Common.{refl}
 use Rattle.std.proofs.lemmas.Result.{err_from_is_err_and}
 use Rattle.model.specs.Lookups.{extends_last_event_of}
 use Rattle.graph.proofs.Looking.{look_broken, look_done}

@@ -1,5 +1,5 @@
 -- `graph::pushing::join` meets its contract: each part of the new run is what the definition says. Assumes nothing.
-use Rattle.std.proofs.Common.{arith, sym, ap, ◌∙◌, length}
+use Rattle.std.proofs.Common.{arith}
 use Rattle.graph.proofs.Views.{facts, runs-view, entries-view}
 use Rattle.graph.proofs.Owning.{own-begun, held-counted}
 use Rattle.graph.proofs.Assembling.{own-fits, left-room, joined-stored}

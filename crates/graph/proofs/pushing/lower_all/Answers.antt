@@ -1,5 +1,5 @@
 -- `graph::pushing::lower_all` meets its contract: a turn takes one marked run more. Assumes nothing.
-use Rattle.std.proofs.Common.{arith, ◌≡◌, ◌<◌, length, sym, ◌∙◌}
+use Rattle.std.proofs.Common.{arith, ◌<◌, length, sym, ◌∙◌}
 use Rattle.model.specs.Graph.{marks}
 use Rattle.model.specs.Record.{view}
 use Rattle.graph.proofs.Views.{facts}

@@ -1,5 +1,5 @@
 -- `graph::pushing::push` meets its contract: a broken graph is refused, and one that is not broken is held. Assumes nothing.
-use Rattle.std.proofs.Common.{rules, ◌∙◌}
+use Rattle.std.proofs.Common.{◌∙◌}
 use Rattle.graph.proofs.PushWays.{broken-out, unbroken-out}
 use Rattle.graph.proofs.pushing.push.Goals as goal
 

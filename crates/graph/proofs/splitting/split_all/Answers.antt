@@ -1,6 +1,6 @@
 -- `graph::splitting::split_all` meets its contract: nothing is copied where no parent splits a run; else a turn of the loop is a split of the
 -- record's graph. Assumes nothing.
-use Rattle.std.proofs.Common.{get_or, ◌∙◌}
+use Rattle.std.proofs.Common.{◌∙◌}
 use Rattle.graph.proofs.PartingAll.{going_done}
 use Rattle.graph.proofs.SplitParts.{marked-runs, marked-fits, marked-start, marked_on, none-stored}
 use Rattle.graph.proofs.splitting.split_all.Goals as goal

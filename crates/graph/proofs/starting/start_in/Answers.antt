@@ -79,7 +79,7 @@ invariant_of-g c =
     let is-not = sym c.is_alone.ensures ∙ c.if-is_alone.false in
     record {
       held = split-held a.g.now.graph a.g.now.held a.at.0 a.run.0 c.requires c.if-g-place.false is-not c.if-g-ge-MAX_RUNS.false c.if-g-ge-MAX_ENTRIES.false
-      c.split_run-split.result c.split_run-split.ensures;
+          c.split_run-split.result c.split_run-split.ensures;
     }
 
 pub returns : goal.returns

@@ -1,5 +1,5 @@
 -- `graph::starting::start_run_at` meets its contract: refused where the graph is broken; else the graph is held. Assumes nothing.
-use Rattle.std.proofs.Common.{rules, ◌∙◌}
+use Rattle.std.proofs.Common.{◌∙◌}
 use Rattle.model.specs.Start.{start_refused}
 use Rattle.graph.proofs.StartWays.{start-broken, start-unbroken}
 use Rattle.graph.proofs.starting.start_run_at.Goals as goal

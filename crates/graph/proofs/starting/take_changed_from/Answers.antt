@@ -1,5 +1,5 @@
 -- `graph::starting::take_changed_from` meets its contract: refused where the graph is broken; else the graph is held. Assumes nothing.
-use Rattle.std.proofs.Common.{rules, ◌∙◌}
+use Rattle.std.proofs.Common.{◌∙◌}
 use Rattle.graph.proofs.StartWays.{take-broken, take-unbroken}
 use Rattle.graph.proofs.starting.take_changed_from.Goals as goal
 

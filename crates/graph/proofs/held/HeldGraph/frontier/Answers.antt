@@ -1,5 +1,5 @@
 -- `graph::held::HeldGraph::frontier` meets its contract: the used part of the array is the graph's frontier. Assumes nothing.
-use Rattle.std.proofs.Common.{sym, arith}
+use Rattle.std.proofs.Common.{sym}
 use Rattle.graph.proofs.Views.{facts, frontier_list}
 use Rattle.graph.proofs.held.HeldGraph.frontier.Goals as goal
 

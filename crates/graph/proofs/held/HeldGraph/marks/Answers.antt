@@ -1,5 +1,5 @@
 -- `graph::held::HeldGraph::marks` meets its contract: the used part of the array is the graph's marks. Assumes nothing.
-use Rattle.std.proofs.Common.{sym, arith}
+use Rattle.std.proofs.Common.{sym}
 use Rattle.graph.proofs.Views.{facts, marks_list}
 use Rattle.graph.proofs.held.HeldGraph.marks.Goals as goal
 

@@ -1,14 +1,12 @@
--- `graph::cut::cut_in` meets its contract: each way out of a cut is one law. Assumes nothing.
-use Rattle.std.proofs.Common.{rules, arith, ◌≡◌, sym, ap, ◌∙◌, ℕ, List, get_or, drop, None, position, eqb}
+-- `graph::cut::cut_held` meets its contract: each way out of a cut is one law. Assumes nothing.
+use Rattle.std.proofs.Common.{rules, arith, ◌≡◌, sym, ◌∙◌, ℕ, List, None, position, eqb}
 use Rattle.model.specs.Graph.{marks}
 use Rattle.model.specs.Record.{view}
-use Rattle.model.specs.Cut.{ranges_from, cut_of}
-use Rattle.graph.specs.Records.{state}
-use Rattle.graph.specs.Cutting.{join_on, put_ranges}
+use Rattle.model.specs.Cut.{cut_of}
 use Rattle.graph.proofs.Views.{facts}
 use Rattle.graph.proofs.Cuts.{placed, unplaced}
 use Rattle.graph.proofs.CutWays.{cut_empty, cut_outside, cut_unmarked, cut_done}
-use Rattle.graph.proofs.cut.cut_in.Goals as goal
+use Rattle.graph.proofs.cut.cut_held.Goals as goal
 
 pub returns-then-runs-eq0 : goal.returns-then-runs-eq0
 returns-then-runs-eq0 c =
