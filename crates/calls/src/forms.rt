@@ -15,7 +15,12 @@ pub enum Form {
 
 impl Form {
     // Pushes events.
-    pub fn push(self, g: CausalGraph, parents: &[u32], len: u32) -> Changed<(EventIndex, EventIndex)>
+    pub fn push(
+        self,
+        g: CausalGraph,
+        parents: &[u32],
+        len: u32,
+    ) -> Changed<(EventIndex, EventIndex)>
         ensures { result ≡ push_of g parents.now len }
     {
         match self {

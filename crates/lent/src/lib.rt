@@ -9,7 +9,11 @@ ghost use Rattle.model.specs.Start.{start_run_at_of, take_changed_from_of};
 use model::{CausalGraph, EventIndex, EventRunIndex, Refusal};
 
 // `push` on a lent graph.
-pub fn push(g: &mut CausalGraph, parents: &[u32], len: u32) -> Result<(EventIndex, EventIndex), Refusal>
+pub fn push(
+    g: &mut CausalGraph,
+    parents: &[u32],
+    len: u32,
+) -> Result<(EventIndex, EventIndex), Refusal>
     ensures { record { graph = g.new; answer = result } ≡ push_of g.old parents.now len }
 {
     let pushed = graph::pushing::push(*g, parents, len);

@@ -39,10 +39,7 @@ pub fn push(g: &mut CausalGraph, len: u32, parents: &[u32], out: &mut Out) -> io
     let pushed = form(len).push(*g, parents, len);
     *g = pushed.graph;
     out.write_all(b"push")?;
-    answers::put(
-        pushed.answer.map(|(first, end)| [first.0, end.0]),
-        out,
-    )
+    answers::put(pushed.answer.map(|(first, end)| [first.0, end.0]), out)
 }
 
 // A run start, in either form.
