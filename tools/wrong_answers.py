@@ -196,7 +196,7 @@ WALK = [
     ("replaying::replay", "writes no steps", "replaying.rt", "replay_all(w.count, &cut", "replay_all(0, &cut"),
     ("replaying::replay", "works in the first range only", "replaying.rt", "for i in 0..n {", "for i in 0..n.min(1) {"),
     ("replaying::replay", "moved is the step count", "walking.rt", "moved: r.out.moved,", "moved: r.out.count,"),
-    ("replaying::replay", "opens no run", "replaying.rt", "r.out, Kind::Open, a.0, b.0, 0)", "r.out, 3, a.0, a.0, 0)"),
+    ("replaying::replay", "opens no run", "replaying.rt", "r.out, Kind::Open, a.0, b.0, 0)", "r.out, Kind::Open, a.0, a.0, 0)"),
     ("replaying::replay", "count 0 under 13", "walking.rt", "            out,\n            rows_too_long: true,", "            out: Out { count: 0, moved: out.moved, short: out.short },\n            rows_too_long: true,"),
     ("replaying::replay", "takes a range's first run as known", "replaying.rt", "walk_range(out, a, b, 0, 0, graph", "walk_range(out, a, b, 1, 0, graph"),
 ]
