@@ -1,17 +1,14 @@
 -- A visit's records as code writes them, chain by chain. Assumes nothing.
 use mathlib.Core.Path.{◌≡◌, sym, ap, ◌∙◌}
-use mathlib.Core.Logic.{◌⊎◌, inl, inr}
 use mathlib.Core.List.{List, [], ◌∷◌, ◌++◌}
 use Prim.Native.Nat.{ℕ, suc, ◌+◌, ◌-◌, ◌≤◌, ◌<◌}
 use native.Mathlib.Omega.{arith}
-use lib.ListN.{get_or, take, drop, length-take, get_or-eq_default}
-use lib.Seq.{get_or-take, get_or-drop}
+use lib.ListN.{get_or, take, drop}
 use Rattle.lists.specs.Areas.{part}
-use Rattle.lists.proofs.Truth.{lt_or_le}
 use Rattle.moves.specs.declared.writing.Kind.{Kind}
 use Rattle.moves.specs.declared.writing.Kind.TheVariants.{Retreat, Advance, Apply}
 use Rattle.moves.specs.Emit.{Writing, step_of, emit, emit_one}
-use Rattle.moves.specs.Stretches.{Below, stretches}
+use Rattle.moves.specs.Stretches.{stretches}
 use Rattle.moves.specs.Moves.{runs_of, moves_from, visit_of}
 use Rattle.moves.proofs.Emitting.{emit-append}
 
@@ -27,14 +24,6 @@ pub runs_none : (w : Writing) (st : List ℕ) (k : Kind) (b : ℕ) (members begi
 unfolding stretches emit runs_of part
 runs_none w st k b members begins from to c h =
     let e : get_or begins c 0 + get_or from c 0 - (get_or begins c 0 + get_or to c 0) ≡ 0 = omega arith in rw e
-
--- A slice of numbers below n
-pub slice_below : (n k a : ℕ) (l : List ℕ) → 0 < n → Below n l → Below n (take k (drop a l))
-slice_below n k a l p h i = go (lt_or_le i k)
-  where
-    go : (i < k) ⊎ (k ≤ i) → get_or (take k (drop a l)) i 0 < n
-    go (inl q) = rw (get_or-take k (drop a l) i 0 q, get_or-drop a l i 0) (h (a + i))
-    go (inr q) = rw (get_or-eq_default (take k (drop a l)) 0 {n = i} (omega (arith, length-take k (drop a l)))) p
 
 -- A chain's moves written, and the rest after them, are the whole
 pub moves_next : (w : Writing) (st : List ℕ) (k : Kind) (b : ℕ) (members begins from to : List ℕ) (c n : ℕ) → c < n →

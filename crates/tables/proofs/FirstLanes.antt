@@ -5,7 +5,7 @@ use mathlib.Core.List.{List, ◌++◌}
 use Prim.Native.Nat.{ℕ, ◌+◌, ◌-◌, ◌*◌, ◌≤◌, ◌<◌}
 use native.Mathlib.Nat.{zero-add}
 use native.Mathlib.Omega.{arith}
-use lib.ListN.{length, get_or, take, drop, set, replicate, length-append, length-take, length-drop, length-replicate, get_or-eq_default}
+use lib.ListN.{length, get_or, take, drop, set, replicate, length-append, length-drop, length-replicate, get_or-eq_default}
 use lib.Seq.{drop-set-lt, drop-set-add, take-set-le, take-set-lt, take_at, get_or-take, get_or-drop}
 use Rattle.lists.specs.Areas.{part}
 use Rattle.lists.proofs.Truth.{lt_or_le}
@@ -59,16 +59,7 @@ zero-lane k w t long z i = go (lt_or_le i w)
     go (inl h) = lane_get_d k w i t h ∙ z (k * w + i) (omega arith)
     go (inr h) = get_or-eq_default (lane k w t) 0 (omega (arith, lane-long k w t long))
 
--- The first d words of a list
-pub first-long : (d : ℕ) (t : List ℕ) → d ≤ length t → length (part 0 d t) ≡ d
-first-long d t h = omega (arith, length_part 0 d t (omega arith) h)
-
--- put back where they were lent
-pub first_back : (d : ℕ) (t first : List ℕ) → length first ≡ length (part 0 d t) → length (first ++ drop (d - 0) t) ≡ length t
-unfolding part
-first_back d t first e = omega (arith, e, length-append first (drop (d - 0) t), length-drop (d - 0) t, length-take (d - 0) t)
-
--- those words cleared
+-- The first d words of a list cleared
 pub first_clear : (d : ℕ) (t : List ℕ) → d ≤ length t → (take d (replicate d 0 ++ drop d t) ≡ replicate d 0) × (length (replicate d 0 ++ drop d t) ≡ length t)
 first_clear d t h = (take_at (replicate d 0) (drop d t) d (length-replicate d 0), omega (arith, length-append {A = ℕ} (replicate d 0) (drop d t), length-replicate {A = ℕ} d 0, length-drop d t))
 

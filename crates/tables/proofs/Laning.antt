@@ -1,5 +1,5 @@
 -- Lists of w words in one area: read, lent, stored; storing one keeps those before it. Assumes nothing.
-use mathlib.Core.Path.{◌≡◌, refl, sym, ap, ◌∙◌}
+use mathlib.Core.Path.{◌≡◌, sym, ap, ◌∙◌}
 use mathlib.Core.List.{List, ◌++◌, append_assoc}
 use Prim.Native.Nat.{ℕ, suc, ◌+◌, ◌-◌, ◌*◌, ◌≤◌, ◌<◌}
 use native.Mathlib.Omega.{arith}
@@ -67,9 +67,6 @@ lane-kept k w n area l h le = kept_of k w (paste area (k * w) l n) area (length-
     take_at (take (k * w) area) (take n l ++ drop (k * w + n) area) (k * w) (length-take-le (k * w) area (omega arith)))
 
 -- Kept twice is kept, and fewer lists are
-pub kept_same : (k w : ℕ) (area : List ℕ) → Kept k w area area
-kept_same k w area = record { size = refl; lanes = λ j lt. refl }
-
 pub kept_trans : (k w : ℕ) (a b c : List ℕ) → Kept k w c b → Kept k w b a → Kept k w c a
 kept_trans k w a b c p q = record { size = p.size ∙ q.size; lanes = λ j lt. p.lanes j lt ∙ q.lanes j lt }
 

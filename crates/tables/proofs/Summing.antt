@@ -45,15 +45,6 @@ bound_more out c v b lt old e k le = go (eq_or-not k (c + 1))
     go (inl q) = rw (q, get_or-set_same out (c + 1) v 0 lt) e
     go (inr n) = rw (get_or-set_other out (c + 1) k v 0 n) (old k (omega arith))
 
--- Runs scattered, one more
-pub scatter_next : (out : List ℕ) (p : ℕ → ℕ) (m : ℕ) → p m < length out → ((k : ℕ) → k < m → p k ≡ p m → ⊥) → ((k : ℕ) → k < m → get_or out (p k) 0 ≡ k) →
-    (k : ℕ) → k < m + 1 → get_or (set out (p m) m) (p k) 0 ≡ k
-scatter_next out p m lt other old k le = go (eq_or-not k m)
-  where
-    go : (k ≡ m) ⊎ (k ≡ m → ⊥) → get_or (set out (p m) m) (p k) 0 ≡ k
-    go (inl e) = rw e (get_or-set_same out (p m) m 0 lt)
-    go (inr n) = get_or-set_other out (p m) (p k) m 0 (other k (omega arith)) ∙ old k (omega arith)
-
 sum_shift : (f : ℕ → ℕ) (n : ℕ) → sum_below f (suc n) ≡ f 0 + sum_below (λ i. f (suc i)) n
 unfolding sum_below
 sum_shift f zero = omega arith

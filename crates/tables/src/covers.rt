@@ -6,7 +6,7 @@ ghost use Rattle.model.specs.Cover.{per_bit, either};
 ghost use Rattle.tables.specs.Covers.{word_bits, cover_words, bits_in, cover_at, range_bits, join_of, offset, Inside, Covered, Weighable, Weighted};
 
 use crate::jagged::Jagged;
-use crate::words::get;
+use crate::words::item;
 use model::COVER_BITS;
 
 // A word of a cover, and its bits. How wide a word is stands here and in specs/Covers.antt, and nowhere else.
@@ -73,7 +73,7 @@ fn offset_of(starts: &[u32], r: usize) -> usize
     ensures value { result ≡ offset starts.now r }
     ensures small { result < 2 ^ 32 }
 {
-    get(starts, r).saturating_sub(get(starts, 0)) as usize
+    item(starts, r, 0).saturating_sub(item(starts, 0, 0)) as usize
 }
 
 // Run r's cover, of the bits from `low` up to `high` and its children's, and its weight.

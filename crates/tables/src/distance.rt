@@ -6,18 +6,6 @@ ghost use Rattle.tables.specs.Sizes.{Bounded, Within, share_at, events_from, Ins
 
 use crate::words::item;
 
-pub fn get_sum(s: &[u64], i: usize) -> u64
-    ensures { result ≡ get_or s.now i 0 }
-{
-    item(s, i, 0)
-}
-
-pub fn apart(x: u64, y: u64) -> u64
-    ensures { result ≡ (x - y) + (y - x) }
-{
-    x.abs_diff(y)
-}
-
 // The events of the chains' members: prefix sums of them, where each chain's members begin, and how many chains there are.
 #[derive(Clone, Copy)]
 pub struct Sums<'a> {
@@ -83,39 +71,6 @@ impl<'a> Sums<'a> {
         }
         sum
     }
-}
-
-// The distance along n chains.
-pub fn distance<'a>(
-    before: &[u64],
-    begins: &'a [u32],
-    current: &[u32],
-    row: &[u32],
-    n: usize,
-    limit: u64,
-) -> u64
-    requires { (n ≤ max_runs) × Bounded (2 ^ 41) before.now }
-    ensures { Within limit (gaps_from before.now begins.now current.now row.now 0 n) result × (result ≤ 2 ^ 50) }
-{
-    let sums = Sums {
-        before,
-        begins,
-        chains: n,
-    };
-    sums.distance(current, row, limit)
-}
-
-// The events of a version on n chains.
-pub fn events_of<'a>(before: &[u64], begins: &'a [u32], row: &[u32], n: usize) -> u64
-    requires { (n ≤ max_runs) × Bounded (2 ^ 41) before.now }
-    ensures { (result ≡ events_from before.now begins.now row.now 0 n) × (result ≤ 2 ^ 50) }
-{
-    let sums = Sums {
-        before,
-        begins,
-        chains: n,
-    };
-    sums.events_of(row)
 }
 
 // The events of each run's history; run r's row begins at the r-th of `starts`.

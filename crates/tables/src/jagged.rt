@@ -4,7 +4,7 @@ ghost use Rattle.model.specs.Limits.{max_runs};
 ghost use Rattle.model.specs.History.{at};
 ghost use Rattle.tables.specs.Jagged.{rows_in, Lies};
 
-use crate::words::get;
+use crate::words::item;
 use std::marker::Model;
 
 // Where each of `rows` rows starts, where the last ends, and the items.
@@ -48,8 +48,8 @@ impl<'a> Jagged<'a> {
         requires { r < length self.now }
         ensures { result.now ≡ at self.now r }
     {
-        let s = get(self.starts, r) as usize;
-        let e = get(self.starts, r + 1) as usize;
+        let s = item(self.starts, r, 0) as usize;
+        let e = item(self.starts, r + 1, 0) as usize;
         &self.items[s..e]
     }
 }

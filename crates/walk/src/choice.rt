@@ -8,8 +8,6 @@ ghost use Rattle.walk.specs.Choose.{is_lower, try_of, free_c, beaten_c, limit_c,
 use crate::given::Given;
 use crate::ready::Waits;
 use model::MAX_WEIGHED;
-use tables::distance::{apart, distance, events_of};
-use tables::words::wide;
 
 // The best so far: its cost, weight and place in the ready list.
 #[derive(Clone, Copy)]
@@ -86,14 +84,7 @@ fn cost_of(best: Option<Best>, given: &Given, current: &[u32], run: usize) -> u6
     requires { run < given.now.runs }
     ensures { Within (limit_c best) (cost_c given.now current.now run) result × (result ≤ 2 ^ 50) }
 {
-    distance(
-        given.sums(),
-        given.begins(),
-        current,
-        given.row(run),
-        given.chains,
-        limit(best),
-    )
+    given.sums().distance(current, given.row(run), limit(best))
 }
 
 // A candidate: cost 0 where its only parent is the last run visited; passed over once the best costs nothing, or where the
@@ -125,7 +116,7 @@ fn weigh(
     if is_free(best) {
         return best;
     }
-    if is_beaten(best, apart(here, given.size(run)), weight) {
+    if is_beaten(best, here.abs_diff(given.size(run)), weight) {
         return best;
     }
     let cost = cost_of(best, given, current, run);
@@ -143,11 +134,11 @@ pub(crate) fn nearest(
     requires ready { AllIn waits.now.2 waits.now.0 given.now.runs }
     ensures { result ≡ scan_c (only_c given.now last) (cost_c given.now current.now) (weight_c given.now) waits.now.2 waits.now.0 0 (min max_weighed waits.now.0) None }
 {
-    let here = events_of(given.sums(), given.begins(), current, given.chains);
+    let here = given.sums().events_of(current);
     let m = waits.count;
     let mut best = None;
     for at in (m.saturating_sub(MAX_WEIGHED)..m).rev() {
-        let run = wide(waits.ready[at]);
+        let run = waits.ready[at] as usize;
         best = weigh(best, given, current, here, last, run, at);
     }
     best

@@ -10,7 +10,7 @@ ghost use Rattle.walk.specs.Given.{Given, chains_in, places_in, begins_in, membe
 use crate::areas::Areas;
 use model::EventRunIndex;
 use std::marker::Model;
-use tables::words::{long, wide};
+use tables::distance::Sums;
 
 // Where the graph's runs start, the range's rows and tables, its first run, how many runs and chains it has, how many runs are
 // known and how many come first. The tables are those of the range.
@@ -91,7 +91,7 @@ impl<'a> Given<'a> {
         requires { run < self.now.runs }
         ensures { result ≡ get_or (chains_in self.now) run 0 }
     {
-        wide(self.table(1)[run])
+        self.table(1)[run] as usize
     }
 
     #[tactic(auto, unfolding(crate::specs::Given::places_in))]
@@ -118,12 +118,18 @@ impl<'a> Given<'a> {
         self.table(5)
     }
 
-    pub(crate) fn sums(&self) -> &[u64]
-        ensures { result.now ≡ sums_in self.now }
+    pub(crate) fn sums(&self) -> Sums<'_>
+        ensures before { result.before.now ≡ sums_in self.now }
+        ensures begins { result.begins.now ≡ begins_in self.now }
+        ensures chains { result.chains ≡ self.now.chains }
     {
         let w = self.runs + 1;
         let areas = self.areas;
-        &areas.before[..w]
+        Sums {
+            before: &areas.before[..w],
+            begins: self.begins(),
+            chains: self.chains,
+        }
     }
 
     // A run's row, parents, children, weight, and the events of its history.
@@ -159,7 +165,7 @@ impl<'a> Given<'a> {
         requires { run < self.now.runs }
         ensures { result ≡ get_or (weights_in self.now) run 0 }
     {
-        long(self.table(7)[run])
+        u64::from(self.table(7)[run])
     }
 
     pub(crate) fn size(&self, run: usize) -> u64

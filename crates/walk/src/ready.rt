@@ -8,7 +8,6 @@ ghost use Rattle.walk.specs.Readiness.{none_waits, start_of, start_waits, wake_o
 use crate::given::Given;
 use model::MAX_RUNS;
 use std::marker::Model;
-use tables::words::wide;
 
 // How many of a run's parents are not known.
 fn count_unknown(parents: &[u32], known: u32) -> u32
@@ -139,7 +138,7 @@ impl Waits {
         ensures ready_after { self.new ≡ woken_of self.old (children_for given.now run) run given.now.known given.now.first given.now.runs left }
         ensures left_value { result ≡ left_after run given.now.known given.now.first left }
     {
-        self.wake_all(given.children(wide(run)));
+        self.wake_all(given.children(run as usize));
         if run < given.known {
             return left;
         }

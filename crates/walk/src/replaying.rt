@@ -12,7 +12,7 @@ use graph::held::HeldGraph;
 use model::{CausalGraph, EventRunIndex, MAX_RUNS, Walked};
 use moves::writing;
 use moves::writing::{Kind, Out};
-use tables::words::get;
+use tables::words::item;
 
 // One range of the cut: Open, then its runs in order (kind 0) or its walk. Nothing where something was refused before.
 fn replay_next(
@@ -78,9 +78,9 @@ fn replay_all(
     };
     for i in 0..n {
         let at = 3 * i;
-        let kind = get(cut, at);
-        let a = EventRunIndex(get(cut, at + 1));
-        let b = EventRunIndex(get(cut, at + 2));
+        let kind = item(cut, at, 0);
+        let a = EventRunIndex(item(cut, at + 1, 0));
+        let b = EventRunIndex(item(cut, at + 2, 0));
         r = replay_next(r, kind, a, b, graph, rows, steps, &mut areas);
     }
     r

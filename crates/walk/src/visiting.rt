@@ -17,7 +17,6 @@ use model::MAX_RUNS;
 use moves::moving;
 use moves::writing::Out;
 use tables::versions;
-use tables::words::wide;
 
 // How far a walk is: what is written, the version, what runs wait for and which are ready, how many of the first are left, and the
 // last run visited.
@@ -42,10 +41,10 @@ impl Progress {
             given.table(1),
             given.table(2),
             given.chains,
-            wide(given.known),
+            given.known as usize,
         );
         self.waits.start_all(given);
-        self.left = wide(given.first - given.known);
+        self.left = (given.first - given.known) as usize;
         self.last = None;
     }
 
@@ -103,7 +102,7 @@ fn visit(given: &Given, out: Out, run: u32, steps: &mut [u32], current: &mut [u3
     ensures length { length current.new ≡ length current.old }
     ensures moved_bound { result.moved ≤ out.moved + 2 ^ 52 }
 {
-    let r = wide(run);
+    let r = run as usize;
     let row = given.row(r);
     let out = moving::put_visit(
         steps,

@@ -14,7 +14,6 @@ use model::{CausalGraph, EventRunIndex, Refusal, Walked};
 use moves::writing::Out;
 use tables::rows::Area;
 use tables::tabling;
-use tables::words::wide;
 
 // What a range came to: what is written, and whether its rows were too long.
 #[derive(Clone, Copy)]
@@ -49,7 +48,7 @@ pub(crate) fn walk_range(
     ensures moved_bound { result.out.moved ≤ b.0 * 2 ^ 52 }
 {
     let runs = b.0 - a.0;
-    let n = wide(runs);
+    let n = runs as usize;
     let Some(area) = tabling::lay(
         &graph.parent_starts,
         &graph.parents,
@@ -65,7 +64,7 @@ pub(crate) fn walk_range(
             rows_too_long: true,
         };
     };
-    let x = wide(a.0);
+    let x = a.0 as usize;
     let y = x + n + 1;
     areas.prepare(&graph.starts[x..y], n, area.chains, rows);
     let given = Given {

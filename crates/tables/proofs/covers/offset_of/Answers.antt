@@ -5,4 +5,4 @@ use Rattle.tables.proofs.covers.offset_of.Goals as goal
 
 pub returns-clause-value : goal.returns-clause-value
 unfolding offset
-returns-clause-value c = omega (arith, c.saturating_sub.ensures, c.get.ensures, c.get-2.ensures)
+returns-clause-value c = omega (arith, c.saturating_sub.ensures, c.item.ensures, c.item-2.ensures)

@@ -1,27 +1,19 @@
 -- `walk::choice::nearest`: a candidate more, and none.
-use Rattle.std.proofs.Common.{◌≡◌, ℕ, ◌-◌, ◌^◌, get_or, sym, ap, ◌∙◌, subst, arith}
-use Rattle.tables.specs.Sizes.{Bounded}
-use Rattle.walk.specs.Given.{Prepared}
+use Rattle.std.proofs.Common.{◌≡◌, ℕ, ◌-◌, get_or, sym, ap, ◌∙◌, arith}
 use Rattle.walk.specs.Readiness.{Wakes}
 use Rattle.walk.specs.Choose.{scan_c, only_c, cost_c, weight_c}
-use Rattle.walk.proofs.Looping.{few-chains}
 use Rattle.walk.proofs.Weighing.{scan_next, scan_none}
 use Rattle.walk.proofs.choice.nearest.Goals as goal
-
-pub events_of-here-requires : goal.events_of-here-requires
-events_of-here-requires c =
-    let P = subst Prepared c.given.view_is c.given.invariant in
-    (few-chains _ c.given.invariant, subst (Bounded (2 ^ 41)) (sym c.sums.ensures) P.sums.small)
 
 pub loop-at-preserved : goal.loop-at-preserved
 loop-at-preserved c = let a = c.args in
     let g = a.given.now in
     let l = c.loop-at in
-    let run = c.wide-run.ensures ∙ ap (λ (s : Wakes). get_or s.2 (l.at - 1) 0) c.waits.view_is in
+    let run = ap (λ (s : Wakes). get_or s.2 (l.at - 1) 0) c.waits.view_is in
     let few = ap (λ (s : Wakes). s.0) c.waits.view_is in
     record {
       from = omega (arith, c.loop-at-test.true);
-      left = scan_next (only_c g a.last) (cost_c g a.current.now) (weight_c g) a.waits.now.2 a.waits.now.0 l.at c.saturating_sub-at-start.result c.wide-run.result l.best c.weigh-best.result c.loop-at-test.true (omega (arith, l.auto.at, few)) run c.weigh-best.ensures ∙
+      left = scan_next (only_c g a.last) (cost_c g a.current.now) (weight_c g) a.waits.now.2 a.waits.now.0 l.at c.saturating_sub-at-start.result (get_or c.waits.inside.ready (l.at - 1) 0) l.best c.weigh-best.result c.loop-at-test.true (omega (arith, l.auto.at, few)) run c.weigh-best.ensures ∙
           l.invariant.left;
     }
 

@@ -24,8 +24,8 @@ returns-then-is_beaten c =
     let a = c.args in
     let other = sym (ap (λ (ps : List ℕ). is_only ps a.last) c.parents.ensures.value) ∙ (sym c.is_only_parent.ensures ∙ c.if-is_only_parent.false) in
     let d = cost_c a.given.now a.current.now a.run in
-    let le = least_cost a.given.now a.current.now a.run c.apart.result a.here c.size.result c.apart.ensures c.requires.here c.size.ensures in
-    let kept = beaten_keeps a.best c.apart.result d c.weight-weight.result a.at (sym c.is_beaten.ensures ∙ c.if-is_beaten.true) le in
+    let le = least_cost a.given.now a.current.now a.run c.abs_diff.result a.here c.size.result c.abs_diff.ensures c.requires.here c.size.ensures in
+    let kept = beaten_keeps a.best c.abs_diff.result d c.weight-weight.result a.at (sym c.is_beaten.ensures ∙ c.if-is_beaten.true) le in
     sym (weigh_cost _ d _ a.at a.best other (sym c.is_free.ensures ∙ c.if-is_free.false) ∙ (sym (ap (λ (w : ℕ). try_of a.best (run_of d w a.at)) c.weight-weight.ensures) ∙ kept))
 
 pub returns : goal.returns

@@ -10,8 +10,8 @@ loop-i-preserved c = let a = c.args in
     let t = c.loop-i-test.true in
     let s = c.replay_next-r.ensures in
     record {
-      moved = λ lt. omega (arith, c.requires.tiled.next l.i lt, c.get-in-loop-i.ensures, s.moved_bound);
-      left = ranges-step a.graph.now.starts (range_at a.graph.now) a.cut.now l.i a.n t (l.r, l.rows, l.steps) _ _ _ _ c.get-kind.ensures c.get.ensures c.get-in-loop-i.ensures s.steps_after ∙ l.invariant.left;
+      moved = λ lt. omega (arith, c.requires.tiled.next l.i lt, c.item-in-loop-i.ensures, s.moved_bound);
+      left = ranges-step a.graph.now.starts (range_at a.graph.now) a.cut.now l.i a.n t (l.r, l.rows, l.steps) _ _ _ _ c.item-kind.ensures c.item.ensures c.item-in-loop-i.ensures s.steps_after ∙ l.invariant.left;
     }
 
 pub returns : goal.returns

@@ -1,7 +1,7 @@
 -- `walk::visiting::visit`: what the moves and the version need of what is given.
-use Rattle.std.proofs.Common.{List, ℕ, ◌<◌, get_or, sym, ap, ◌∙◌, subst, arith}
+use Rattle.std.proofs.Common.{List, ℕ, ◌<◌, get_or, sym, ap, subst, arith}
 use Rattle.moves.specs.Moves.{Inside}
-use Rattle.walk.specs.Given.{Given, members_in, begins_in, row_for, Prepared}
+use Rattle.walk.specs.Given.{Given, members_in, begins_in, Prepared}
 use Rattle.walk.proofs.Looping.{few-chains, chain-low, place-low, row_inside}
 use Rattle.walk.proofs.visiting.visit.Goals as goal
 
@@ -10,7 +10,7 @@ put_visit-out-requires c =
     let g = c.args.given.now in
     let P = subst Prepared c.given.view_is c.given.invariant in
     let n = ap (λ (g : Given). g.chains) c.given.view_is in
-    let row = c.row-row.ensures ∙ ap (row_for g) c.wide-r.ensures in (
+    let row = c.row-row.ensures in (
       c.requires.moved_bound,
       omega (arith, c.given.invariant.few),
       omega (arith, c.requires.run, P.few),
@@ -31,5 +31,4 @@ arrive-requires c =
     let g = c.args.given.now in
     let P = subst Prepared c.given.view_is c.given.invariant in
     let n = ap (λ (g : Given). g.chains) c.given.view_is in
-    let lt : c.wide-r.result < g.runs = omega (arith, c.wide-r.ensures, c.requires.run) in
-    (omega (arith, c.requires.room, n), omega (arith, c.chain.ensures, chain-low g P c.wide-r.result lt, n), omega (arith, c.place.ensures, place-low g P c.wide-r.result lt))
+    (omega (arith, c.requires.room, n), omega (arith, c.chain.ensures, chain-low g P c.args.run c.requires.run, n), omega (arith, c.place.ensures, place-low g P c.args.run c.requires.run))

@@ -12,7 +12,7 @@ returns-then-run-given c =
     let g = a.given.now in
     let known = ap (λ (g : Given). g.known) c.given.view_is in
     let first = ap (λ (g : Given). g.first) c.given.view_is in
-    let kids = c.wake_all.ensures ∙ ap (wake_all a.self.now) (c.children.ensures ∙ ap (children_for g) c.wide.ensures) in
+    let kids = c.wake_all.ensures ∙ ap (wake_all a.self.now) c.children.ensures in
     let q = woken-known a.self.now (children_for g a.run) a.run g.known g.first g.runs a.left (omega (arith, c.if-run-given.true, known)) in
     record { ready_after = kids ∙ q.0; left_value = q.1 }
 
@@ -22,7 +22,7 @@ returns-then-given-run c =
     let g = a.given.now in
     let known = ap (λ (g : Given). g.known) c.given.view_is in
     let first = ap (λ (g : Given). g.first) c.given.view_is in
-    let kids = c.wake_all.ensures ∙ ap (wake_all a.self.now) (c.children.ensures ∙ ap (children_for g) c.wide.ensures) in
+    let kids = c.wake_all.ensures ∙ ap (wake_all a.self.now) c.children.ensures in
     let q = woken-later a.self.now (children_for g a.run) a.run g.known g.first g.runs a.left (omega (arith, c.if-run-given.false, known)) (omega (arith, c.if-given-run.true, first)) in
     record { ready_after = kids ∙ q.0; left_value = q.1 }
 
@@ -32,7 +32,7 @@ returns-then-left-gt1 c =
     let g = a.given.now in
     let known = ap (λ (g : Given). g.known) c.given.view_is in
     let first = ap (λ (g : Given). g.first) c.given.view_is in
-    let kids = c.wake_all.ensures ∙ ap (wake_all a.self.now) (c.children.ensures ∙ ap (children_for g) c.wide.ensures) in
+    let kids = c.wake_all.ensures ∙ ap (wake_all a.self.now) c.children.ensures in
     let q = woken-first a.self.now (children_for g a.run) a.run g.known g.first g.runs a.left (omega (arith, c.if-run-given.false, known)) (omega (arith, c.if-given-run.false, first)) c.if-left-gt1.true in
     record { ready_after = kids ∙ q.0; left_value = q.1 }
 
@@ -42,7 +42,7 @@ returns c =
     let g = a.given.now in
     let known = ap (λ (g : Given). g.known) c.given.view_is in
     let first = ap (λ (g : Given). g.first) c.given.view_is in
-    let kids = c.wake_all.ensures ∙ ap (wake_all a.self.now) (c.children.ensures ∙ ap (children_for g) c.wide.ensures) in
+    let kids = c.wake_all.ensures ∙ ap (wake_all a.self.now) c.children.ensures in
     let runs = ap (λ (g : Given). g.runs) c.given.view_is in
     let q = woken-last a.self.now (children_for g a.run) a.run g.known g.first g.runs a.left (omega (arith, c.if-run-given.false, known)) (omega (arith, c.if-given-run.false, first)) c.if-left-gt1.false in
     record {

@@ -10,7 +10,7 @@ unfolding chains_in places_in
 start_version-requires c =
     let s = standing c.args.given.now (subst Prepared c.given.view_is c.given.invariant) in
     let chains = ap (λ (g : Given). g.chains) c.given.view_is in
-    let known = c.wide.ensures ∙ ap (λ (g : Given). g.known) c.given.view_is in (
+    let known = ap (λ (g : Given). g.known) c.given.view_is in (
       omega (arith, few-chains _ c.given.invariant),
       record {
         chains = λ r lt. omega (arith, ap (λ (l : List ℕ). get_or l r 0) c.table.ensures.value, s.chains r (omega (arith, lt, known)), chains);
@@ -22,11 +22,11 @@ pub returns-clause-begun : goal.returns-clause-begun
 unfolding chains_in places_in
 returns-clause-begun c =
     let chains = ap (λ (g : Given). g.chains) c.given.view_is in
-    let known = c.wide.ensures ∙ ap (λ (g : Given). g.known) c.given.view_is in
+    let known = ap (λ (g : Given). g.known) c.given.view_is in
     record {
       version = λ k lt. c.start_version.ensures.0 k (omega (arith, lt, chains)) ∙ (λ i. started (c.table.ensures.value i) (c.table-2.ensures.value i) (known i) k);
       room = omega (arith, chains, few-chains _ c.given.invariant, c.start_version.ensures.1);
       waits = c.start_all.ensures;
-      left = c.wide-self.ensures ∙ ap (λ (g : Given). g.first - g.known) c.given.view_is;
+      left = ap (λ (g : Given). g.first - g.known) c.given.view_is;
       last = refl;
     }
