@@ -187,7 +187,7 @@ WALK = [
     ("walking::walk", "weighs the last 65", "choice.rt", "m.saturating_sub(MAX_WEIGHED)", "m.saturating_sub(65)"),
     ("walking::walk", "weighs the oldest first", "oldest_first"),
     ("walking::walk", "measures on after cost 0", "measured_on"),
-    ("walking::walk", "a tie goes to the older", "choice.rt", "a.weight < b.weight", "a.weight <= b.weight"),
+    ("walking::walk", "a tie goes to the older", "choice.rt", "(a.cost, a.weight) < (b.cost, b.weight)", "(a.cost, a.weight) <= (b.cost, b.weight)"),
     ("walking::walk", "first is ignored", "walking.rt", "clamped(known, first, runs)", "clamped(known, known, runs)"),
     ("walking::walk", "first below known is taken as it is", "walking.rt", "known.max(first.min(runs))", "0u32.max(first.min(runs))"),
     ("walking::walk", "13 in place of 11", "walking.rt", "Err(Refusal::ListTooShort)", "Err(Refusal::RowsTooLong)"),

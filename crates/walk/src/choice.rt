@@ -21,7 +21,7 @@ pub(crate) struct Best {
 fn is_lower(a: Best, b: Best) -> bool
     ensures { result ≡ is_lower a b }
 {
-    a.cost < b.cost || (a.cost == b.cost && a.weight < b.weight)
+    (a.cost, a.weight) < (b.cost, b.weight)
 }
 
 // Strictly lower (cost, weight) takes over; a tie stays with the newer, which came first.
@@ -57,7 +57,8 @@ fn is_free(best: Option<Best>) -> bool
     }
 }
 
-// Whether a run that costs `least` or more, with this weight, cannot take over.
+// Whether a run that costs `least` or more, with this weight, cannot take over. Asked of nearly every candidate: written with tuples
+// it was slower (forks on a trunk, by a tenth).
 #[tactic(auto, unfolding(crate::specs::Choose::beaten_c))]
 fn is_beaten(best: Option<Best>, least: u64, weight: u64) -> bool
     ensures { result ≡ beaten_c best least weight }

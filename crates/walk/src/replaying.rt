@@ -53,7 +53,7 @@ fn replay_next(
     walking::walk_range(out, a, b, 0, 0, graph, rows, steps, areas)
 }
 
-// The first n ranges of a cut.
+// The first n ranges of a cut: three words each, in a list whose count stands beside it, as 01's call answers it.
 fn replay_all(
     n: usize,
     cut: &[u32],
