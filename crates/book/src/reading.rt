@@ -1,7 +1,6 @@
 // A book's bytes to a graph.
 ghost use Rattle.std.specs.Prelude.{◌≡◌, MatchOption};
 ghost use Rattle.std.proofs.Math.Option.{none, some};
-ghost use Rattle.model.specs.Broken.{Held};
 ghost use Rattle.model.specs.Book.{read_pushes, read_header, book_of};
 ghost use Rattle.model.specs.BookCalls.{header};
 ghost use Rattle.model.specs.Fresh.{new_of};
@@ -9,6 +8,7 @@ ghost use Rattle.book.specs.Turns.{Turned};
 
 use crate::words;
 use crate::words::Words;
+use graph::held::HeldGraph;
 use model::{BookRead, BookRefusal, CausalGraph, EventIndex, MAX_BOOK, Refusal};
 
 // How many whole words a book can have.
@@ -42,13 +42,6 @@ impl<'a> Header<'a> {
     }
 }
 
-// The graph that the pushes have made so far, and what is left of the book.
-#[derive(Clone, Copy)]
-pub(crate) struct Turn<'a> {
-    pub(crate) graph: CausalGraph,
-    pub(crate) left: Words<'a>,
-}
-
 // What was read, with the graph made till then.
 fn answered(graph: CausalGraph, answer: Result<(), BookRefusal>) -> BookRead
     ensures { result ≡ record { graph = graph; answer = answer } }
@@ -56,52 +49,46 @@ fn answered(graph: CausalGraph, answer: Result<(), BookRefusal>) -> BookRead
     BookRead { graph, answer }
 }
 
-// Takes push `k`: read whole, and then tried on a graph that is not tested again. Where that is refused, the reading ends.
-fn take_push<'a>(t: Turn<'a>, k: u32) -> Result<Turn<'a>, BookRead>
-    requires { Held t.graph }
-    ensures { Turned t.entry.graph t.entry.left.bytes.now k result }
+// Takes push `k`: read whole, and then tried on a graph that is not tested again. What is left of the book after it.
+fn take_push<'a>(g: &mut HeldGraph, book: Words<'a>, k: u32) -> Result<Words<'a>, BookRefusal>
+    ensures { Turned g.old.graph book.entry.bytes.now k g.new.graph result }
 {
-    let early = Err(BookRefusal::Refused(Refusal::BookTooShort));
-    let Some((len, left)) = t.left.next() else {
-        return Err(answered(t.graph, early));
+    let Some((len, left)) = book.next() else {
+        return Err(BookRefusal::Refused(Refusal::BookTooShort));
     };
     let Some((parents, left)) = left.take_counted() else {
-        return Err(answered(t.graph, early));
+        return Err(BookRefusal::Refused(Refusal::BookTooShort));
     };
-    let pushed = graph::pushing::push_held(t.graph, parents, len);
-    match pushed.answer {
-        Ok(_) => Ok(Turn {
-            graph: pushed.graph,
-            left,
-        }),
-        Err(r) => Err(answered(pushed.graph, Err(BookRefusal::PushRefused(r, k)))),
+    match graph::pushing::push_held(g, parents, len) {
+        Ok(_) => Ok(left),
+        Err(r) => Err(BookRefusal::PushRefused(r, k)),
     }
 }
 
 // The pushes are in: nothing may be left.
 #[tactic(auto, using(crate::proofs::Taking::none_over, crate::proofs::Taking::some_over), unfolding(model::specs::Book::book_read))]
-fn finish(t: Turn) -> BookRead
-    ensures { result ≡ read_pushes 0 0 t.entry.graph t.entry.left.bytes.now }
+fn finish(g: CausalGraph, left: Words) -> BookRead
+    ensures { result ≡ read_pushes 0 0 g left.entry.bytes.now }
 {
-    if t.left.bytes.is_empty() {
-        return answered(t.graph, Ok(()));
+    if left.bytes.is_empty() {
+        return answered(g, Ok(()));
     }
-    answered(t.graph, Err(BookRefusal::Refused(Refusal::BookTooLong)))
+    answered(g, Err(BookRefusal::Refused(Refusal::BookTooLong)))
 }
 
 // Takes `count` pushes.
-fn pushes(begun: Turn, count: u32) -> BookRead
-    requires { Held begun.graph }
-    ensures { result ≡ read_pushes count 0 begun.entry.graph begun.entry.left.bytes.now }
+fn pushes(begun: HeldGraph, book: Words, count: u32) -> BookRead
+    ensures { result ≡ read_pushes count 0 begun.graph book.entry.bytes.now }
 {
-    let mut t = begun;
+    let mut g = begun;
+    let mut left = book;
     for k in 0..count {
-        match take_push(t, k) {
-            Ok(next) => t = next,
-            Err(read) => return read,
+        match take_push(&mut g, left, k) {
+            Ok(next) => left = next,
+            Err(r) => return answered(g.graph, Err(r)),
         }
     }
-    finish(t)
+    finish(g.graph, left)
 }
 
 // Takes a book that is neither empty nor too long: its header, read whole and then tried, and the pushes.
@@ -116,13 +103,7 @@ fn read_words(book: Words) -> BookRead
     };
     let made = graph::fresh::after(header.first, header.frontier);
     match made.answer {
-        Ok(()) => {
-            let begun = Turn {
-                graph: made.graph,
-                left: header.left,
-            };
-            pushes(begun, header.pushes)
-        }
+        Ok(()) => pushes(HeldGraph::known(made.graph), header.left, header.pushes),
         Err(r) => answered(made.graph, Err(BookRefusal::Refused(r))),
     }
 }

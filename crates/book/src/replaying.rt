@@ -6,15 +6,15 @@ ghost use Rattle.book.specs.Output.{put_line, printing, lines_of};
 
 use crate::printing;
 use crate::printing::{Line, Printed};
-use model::{BookRead, CausalGraph, LENT_ROWS, LENT_STEPS};
+use graph::held::HeldGraph;
+use model::{BookRead, LENT_ROWS, LENT_STEPS};
 
 // How many bytes the lines of any book take at most.
 pub const MAX_TEXT: usize = 131072;
 
 // The lines of a replay: its steps, and the last one.
-fn replay_lines(g: CausalGraph, out: &mut [u8]) -> Printed
-    requires { Held g }
-    ensures { (result, out.new) ≡ printing (replay_lines g) out.old }
+fn replay_lines(g: &HeldGraph, out: &mut [u8]) -> Printed
+    ensures { (result, out.new) ≡ printing (replay_lines g.now.graph) out.old }
 {
     let mut rows = [0; LENT_ROWS];
     let mut steps = [0; 3 * LENT_STEPS];
@@ -41,7 +41,7 @@ fn lines(read: BookRead, out: &mut [u8]) -> Printed
     ensures { (result, out.new) ≡ printing (lines_of read) out.old }
 {
     match read.answer {
-        Ok(()) => replay_lines(read.graph, out),
+        Ok(()) => replay_lines(&HeldGraph::known(read.graph), out),
         Err(refusal) => alone(&printing::refusal_line(refusal), out),
     }
 }

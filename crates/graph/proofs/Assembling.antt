@@ -18,7 +18,7 @@ use Rattle.model.specs.Broken.{Held}
 use Rattle.model.specs.Push.{staying, parent_runs, new_seen, joined, lowered}
 use Rattle.model.proofs.Stored.{entries-flat}
 use Rattle.graph.specs.Loops.{marks_of, Joins, own_in, own_all, lower_all, assembled}
-use Rattle.graph.proofs.Views.{runs-view, starts_count, seen_count, starts-pad, heads-pad, seen-pad, changed-view, frontier_list}
+use Rattle.graph.proofs.Views.{runs-view, starts_count, seen_count, starts-pad, heads-pad, seen-pad, changed-view}
 use Rattle.graph.proofs.Marking.{marks_of_lem}
 use Rattle.graph.proofs.Owning.{Owned, own_runs, all-view, own-items, own-seen}
 use Rattle.graph.proofs.Lowering.{lower_lost}
@@ -141,10 +141,10 @@ module _
   unfolding new_seen
   seen-is e = e ∙ rw (at_end, own-all, own-seen (view g) holds.formed ps)
 
-  module _ {left : List ℕ} (stay : left ≡ filter (λ e. not (mem e ps)) (take g.frontier_count g.frontier)) where
+  module _ {left : List ℕ} (stay : left ≡ filter (λ e. not (mem e ps)) (view g).frontier) where
     left_is : left ≡ staying (view g) ps
     unfolding staying
-    left_is = rw (frontier_list g holds) stay
+    left_is = stay
 
     pub left-room : length left < 512
     left-room = rw left_is j.for_frontier

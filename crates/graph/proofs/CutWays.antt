@@ -1,14 +1,13 @@
 -- Each way out of a cut is what its definition says. Assumes nothing.
-use mathlib.Core.Path.{◌≡◌, refl, sym, ap, ap₂, ◌∙◌, subst₂}
+use mathlib.Core.Path.{◌≡◌, refl, sym, ap, ◌∙◌}
 use mathlib.Core.Bool.{true, false}
 use mathlib.Core.List.{List, [], ◌∷◌, map}
 use Prim.Native.Nat.{ℕ, ◌<◌, ◌≤◌}
 use native.Mathlib.Omega.{arith}
-use lib.ListN.{length, take, drop, get_or}
+use lib.ListN.{length, drop, get_or}
 use lib.Dec.{leb}
 use borrow.Author.Tests.{lt-ltb, le-ltb, le-leb, lt-leb}
 use Rattle.lists.specs.Lists.{filter, mem}
-use Rattle.lists.specs.Scans.{last_at_most}
 use Rattle.lists.proofs.Rising.{Up}
 use Rattle.model.specs.declared.record.CausalGraph.{CausalGraph}
 use Rattle.model.specs.declared.answers.Written.{Written}
@@ -19,11 +18,12 @@ use Rattle.model.specs.Graph.{runs, marks}
 use Rattle.model.specs.Record.{view}
 use Rattle.model.specs.Broken.{broken, Held}
 use Rattle.model.specs.Cut.{HistoryRange, linear, concurrent, ranges_from, join_ranges, range_words, cut_from, writing, unwritten, cut_outcome, cut_of}
-use Rattle.model.proofs.Stored.{not-broken, clauses_of, marks-length}
+use Rattle.lists.proofs.Members.{get_d_mem}
+use Rattle.model.proofs.Stored.{not-broken, marks-length}
 use Rattle.model.proofs.RoomsReplay.{marks-rise}
-use Rattle.graph.specs.declared.cut.Put.{Put}
-use Rattle.graph.specs.Cutting.{blank, written_of, join_on, put_all, put_ranges}
-use Rattle.graph.proofs.Views.{facts, runs-view}
+use Rattle.graph.specs.Records.{Put, blank, written_of, put_all}
+use Rattle.graph.specs.Cutting.{join_on, put_ranges}
+use Rattle.graph.proofs.Views.{runs-view}
 use Rattle.graph.proofs.Writing.{put-writing}
 use Rattle.graph.proofs.Cuts.{cut_written}
 use Rattle.std.specs.Prelude.{Ok, Err}
@@ -54,9 +54,6 @@ module _ (g : CausalGraph) (f : ℕ) (lent : List ℕ) where
   cut_broken e = cut_refused Broken (rw e)
 
   module _ (held : Held g) where
-    pub marks_list : take g.mark_count g.critical_versions ≡ marks (view g)
-    marks_list = (clauses_of g (not-broken g held)).the_marks
-
     -- Nothing to cut
     pub cut_empty : g.run_count ≡ 0 → (record { count = 0; outcome = Ok tt }, lent) ≡ cut_of g f lent
     unfolding cut_outcome first_of cut_from filter ranges_from join_ranges put_all written_of
@@ -72,33 +69,30 @@ module _ (g : CausalGraph) (f : ℕ) (lent : List ℕ) where
     unfolding cut_outcome first_of
     cut_outside z h = cut_refused Outside (rw (not-broken g held, runs-view g held, lt-ltb 0 g.run_count (omega arith), le-leb g.run_count f h))
 
-    pub cut_unmarked : (g.run_count ≡ 0 → ⊥) → f < g.run_count → mem f (take g.mark_count g.critical_versions) ≡ false →
+    pub cut_unmarked : (g.run_count ≡ 0 → ⊥) → f < g.run_count → mem f (marks (view g)) ≡ false →
         (record { count = 0; outcome = Err Unmarked }, lent) ≡ cut_of g f lent
     unfolding cut_outcome first_of
     cut_unmarked z h m = cut_refused Unmarked
-        (rw (not-broken g held, runs-view g held, lt-ltb 0 g.run_count (omega arith), lt-leb g.run_count f h, rw marks_list at m))
+        (rw (not-broken g held, runs-view g held, lt-ltb 0 g.run_count (omega arith), lt-leb g.run_count f h, m))
 
     -- Done
-    pub cut_done : (g.run_count ≡ 0 → ⊥) → f < g.run_count → mem f (take g.mark_count g.critical_versions) ≡ true →
-        (at : ℕ) → at ≡ last_at_most g.critical_versions f g.mark_count → (p : Put) (l : List ℕ) →
-        (p, l) ≡ put_ranges (blank, lent)
-        (join_on (get_or (take g.mark_count g.critical_versions) at g.run_count)
-        (ranges_from (drop at (take g.mark_count g.critical_versions)) g.run_count) g.run_count) →
+    pub cut_done : (g.run_count ≡ 0 → ⊥) → f < g.run_count → (at : ℕ) → at < length (marks (view g)) → get_or (marks (view g)) at 0 ≡ f →
+        (p : Put) (l : List ℕ) →
+        (p, l) ≡ put_ranges (blank, lent) (join_on (get_or (marks (view g)) at g.run_count) (ranges_from (drop at (marks (view g))) g.run_count) g.run_count) →
         (written_of p, l) ≡ cut_of g f lent
     unfolding cut_outcome first_of put_ranges cut_from
-    cut_done z h m at q p l e =
+    cut_done z h at b q p l e =
         put-writing 3 range_words words_three (cut_from (view g) f) lent p l (e ∙ ap (λ (rs : List HistoryRange). put_ranges (blank, lent) rs) joined) ∙
         sym (outcome_is (Ok tt)
-        (rw (not-broken g held, runs-view g held, lt-ltb 0 g.run_count (omega arith), lt-leb g.run_count f h, rw marks_list at m)))
+        (rw (not-broken g held, runs-view g held, lt-ltb 0 g.run_count (omega arith), lt-leb g.run_count f h, m)))
       where
-        up : Up 0 (take g.mark_count g.critical_versions) g.run_count
-        up = subst₂ (λ (ms : List ℕ) (n : ℕ). Up 0 ms n) (sym marks_list) (runs-view g held) (marks-rise (view g))
+        m : mem f (marks (view g)) ≡ true
+        m = rw (← q) (get_d_mem (marks (view g)) at 0 b)
 
-        joined : join_on (get_or (take g.mark_count g.critical_versions) at g.run_count)
-            (ranges_from (drop at (take g.mark_count g.critical_versions)) g.run_count) g.run_count ≡ cut_from (view g) f
+        up : Up 0 (marks (view g)) g.run_count
+        up = rw (runs-view g held) at (marks-rise (view g))
+
+        joined : join_on (get_or (marks (view g)) at g.run_count) (ranges_from (drop at (marks (view g))) g.run_count) g.run_count ≡ cut_from (view g) f
         joined =
-            ap (λ (k : ℕ). join_on (get_or (take g.mark_count g.critical_versions) k g.run_count)
-            (ranges_from (drop k (take g.mark_count g.critical_versions)) g.run_count) g.run_count) q ∙
-            (cut_written g.critical_versions g.mark_count f g.run_count
-            (omega (arith, (facts g held).marked, (facts g held).sized.critical_versions)) up m ∙
-            ap₂ (λ (ms : List ℕ) (n : ℕ). join_ranges (ranges_from (filter (λ m. leb f m) ms) n)) marks_list (sym (runs-view g held)))
+            cut_written (marks (view g)) f g.run_count at up b q ∙
+            ap (λ (n : ℕ). join_ranges (ranges_from (filter (λ m. leb f m) (marks (view g))) n)) (sym (runs-view g held))

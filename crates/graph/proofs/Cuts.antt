@@ -6,17 +6,20 @@ use mathlib.Core.List.{List, [], ◌∷◌, ◌++◌}
 use Prim.Native.Nat.{ℕ, zero, suc, ◌+◌, ◌<◌, ◌≤◌}
 use native.Mathlib.Numerals.{add-one}
 use native.Mathlib.Omega.{arith}
-use lib.ListN.{length, take, drop, get_or, length-take}
-use lib.Seq.{drop-nil, get_or-take, get_or-drop}
+use lib.ListN.{length, drop, get_or}
+use lib.Seq.{drop-nil, get_or-drop}
 use lib.Dec.{leb, ltb, eqb}
-use borrow.Author.Tests.{lt-ltb, le-ltb, le-leb, lt-leb, ne_eqb, eqb-true, ltb-true}
-use Rattle.lists.specs.Lists.{bit, filter, count, mem, occurs, rising}
-use Rattle.lists.specs.Scans.{last_at_most}
-use Rattle.lists.proofs.Truth.{lt_or_le, eq_or-not, false_true, or_cases}
-use Rattle.lists.proofs.Counts.{mem-occurs, count_without}
-use Rattle.lists.proofs.Scanning.{last-count}
-use Rattle.lists.proofs.Rising.{Up, none_below}
+use borrow.Author.Tests.{lt-ltb, le-ltb, le-leb, lt-leb, eq-eqb, eqb-true}
+use Rattle.lists.specs.Lists.{filter, mem}
+use Rattle.lists.proofs.Truth.{lt_or_le, false_true, not_so}
+use Rattle.lists.proofs.Rising.{Up}
 use Rattle.model.specs.Cut.{HistoryRange, linear, concurrent, ranges_from, join_linear, join_ranges}
+use Rattle.std.proofs.Common.{Some, None, position}
+use Rattle.std.specs.List.{position_or_len}
+use Rattle.std.proofs.lemmas.Grind.{common_steps}
+use Rattle.std.proofs.lemmas.List.Sums.{fails_before_first}
+use Rattle.lists.proofs.Members.{mem_index}
+use Rattle.std.proofs.lemmas.List.Quantifiers.{position-Some}
 use Rattle.graph.specs.Cutting.{pending, join_on}
 
 -- a Linear from f before ranges from a on that are joined already, if it has a run
@@ -106,78 +109,45 @@ up_drop zero lo xs n h = up_lower lo 0 xs n (omega arith) h
 up_drop (suc i) lo [] n h = omega arith
 up_drop (suc i) lo (x ∷ xs) n h = up_drop i (suc x) xs n h.1
 
-up_rising : (lo : ℕ) (xs : List ℕ) (n : ℕ) → Up lo xs n → rising xs ≡ true
-unfolding rising
-up_rising lo [] n h = refl
-up_rising lo (x ∷ []) n h = refl
-up_rising lo (x ∷ y ∷ ys) n h = rw (lt-ltb x y h.1.0) (up_rising (suc x) (y ∷ ys) n h.1)
-
-up_member : (lo : ℕ) (xs : List ℕ) (n f : ℕ) → Up lo xs n → mem f xs ≡ true → (lo ≤ f) × (get_or xs 0 0 ≤ f) × (0 < length xs)
-unfolding mem
-up_member lo [] n f h m = false_true m
-up_member lo (x ∷ xs) n f h m = go (or_cases (eqb f x) (mem f xs) m) (λ q. up_member (suc x) xs n f h.1 q)
-  where
-    go : (eqb f x ≡ true) ⊎ (mem f xs ≡ true) → (mem f xs ≡ true → (suc x ≤ f) × (get_or xs 0 0 ≤ f) × (0 < length xs)) → (lo ≤ f) × (x ≤ f) × (0 < suc (length xs))
-    go (inl e) ih = let k : f ≡ x = eqb-true f x e in (omega (arith, h.0), omega arith, omega arith)
-    go (inr e) ih = let k : suc x ≤ f = (ih e).0 in (omega (arith, h.0), omega arith, omega arith)
+up_at : (lo : ℕ) (xs : List ℕ) (n k : ℕ) → Up lo xs n → k < length xs → lo ≤ get_or xs k 0
+up_at lo [] n k h b = absurd (omega arith)
+up_at lo (x ∷ xs) n zero h b = h.0
+up_at lo (x ∷ xs) n (suc k) h b = omega (arith, h.0, up_at (suc x) xs n k h.1 (omega arith))
 
 filter-all : (lo : ℕ) (xs : List ℕ) (n f : ℕ) → Up lo xs n → f ≤ lo → filter (λ m. leb f m) xs ≡ xs
 unfolding filter
 filter-all lo [] n f h le = refl
 filter-all lo (x ∷ xs) n f h le = rw (le-leb f x (omega (arith, h.0))) (ap (λ (l : List ℕ). x ∷ l) (filter-all (suc x) xs n f h.1 (omega (arith, h.0))))
 
-filter-place : (lo : ℕ) (xs : List ℕ) (n f k : ℕ) → Up lo xs n → mem f xs ≡ true → suc k ≡ count (λ s. leb s f) xs → filter (λ m. leb f m) xs ≡ drop k xs
-unfolding mem filter count
-filter-place lo [] n f k h m e = false_true m
-filter-place lo (x ∷ xs) n f k h m e = go (eq_or-not f x) k e (λ j q r. filter-place (suc x) xs n f j h.1 q r)
-  where
-    go : (f ≡ x) ⊎ (f ≡ x → ⊥) → (k : ℕ) → suc k ≡ bit (leb x f) + count (λ s. leb s f) xs →
-        ((j : ℕ) → mem f xs ≡ true → suc j ≡ count (λ s. leb s f) xs → filter (λ m. leb f m) xs ≡ drop j xs) →
-        cond (leb f x) (x ∷ filter (λ m. leb f m) xs) (filter (λ m. leb f m) xs) ≡ drop k (x ∷ xs)
-    go (inl q) zero e ih = rw (le-leb f x (omega arith)) (ap (λ (l : List ℕ). x ∷ l) (filter-all (suc x) xs n f h.1 (omega arith)))
-    go (inl q) (suc k) e ih = absurd (omega (arith, ap bit (le-leb x f (omega arith)), none_below (suc x) xs n h.1 f (omega arith), e))
-    go (inr q) k e ih = rest k e
-      where
-        later : mem f xs ≡ true
-        later = rw (ne_eqb f x q) at m
-
-        above : suc x ≤ f
-        above = (up_member (suc x) xs n f h.1 later).0
-
-        rest : (k : ℕ) → suc k ≡ bit (leb x f) + count (λ s. leb s f) xs →
-            cond (leb f x) (x ∷ filter (λ m. leb f m) xs) (filter (λ m. leb f m) xs) ≡ drop k (x ∷ xs)
-        rest zero e = absurd (omega (arith, ap bit (le-leb x f (omega (arith, above))), e, some))
-          where
-            some : 0 < count (λ s. leb s f) xs
-            some = omega (arith, count_without (λ s. leb s f) f xs (le-leb f f (omega arith)), ltb-true 0 (occurs f xs) (sym (mem-occurs f xs) ∙ later))
-        rest (suc k) e = rw (lt-leb f x (omega (arith, above))) (ih k later (omega (arith, ap bit (le-leb x f (omega (arith, above))), e)))
-
-pub cut_place : (xs : List ℕ) (n f end : ℕ) → n ≤ length xs → Up 0 (take n xs) end → mem f (take n xs) ≡ true →
-    filter (λ m. leb f m) (take n xs) ≡ drop (last_at_most xs f n) (take n xs)
-cut_place xs n f end fits up m =
-    filter-place 0 (take n xs) end f (last_at_most xs f n) up m
-    (last-count xs n f (up_rising 0 (take n xs) end up) fits some (omega (arith, k.1, get_or-take n xs 0 0 some)))
-  where
-    k : (0 ≤ f) × (get_or (take n xs) 0 0 ≤ f) × (0 < length (take n xs))
-    k = up_member 0 (take n xs) end f up m
-
-    some : 0 < n
-    some = omega (arith, k.2, length-take n xs)
+filter_at : (lo : ℕ) (xs : List ℕ) (n f k : ℕ) → Up lo xs n → k < length xs → get_or xs k 0 ≡ f → filter (λ m. leb f m) xs ≡ drop k xs
+unfolding filter
+filter_at lo [] n f k h b e = absurd (omega arith)
+filter_at lo (x ∷ xs) n f zero h b e = rw (le-leb f x (omega arith)) (ap (λ (l : List ℕ). x ∷ l) (filter-all (suc x) xs n f h.1 (omega arith)))
+filter_at lo (x ∷ xs) n f (suc k) h b e =
+    rw (lt-leb f x (omega (arith, up_at (suc x) xs n k h.1 (omega arith)))) (filter_at (suc x) xs n f k h.1 (omega arith) e)
 
 -- The ranges that the code writes are those of the cut
-pub cut_written : (xs : List ℕ) (n f end : ℕ) → n ≤ length xs → Up 0 (take n xs) end → mem f (take n xs) ≡ true →
-    join_on (get_or (take n xs) (last_at_most xs f n) end) (ranges_from (drop (last_at_most xs f n) (take n xs)) end) end ≡
-    join_ranges (ranges_from (filter (λ m. leb f m) (take n xs)) end)
-cut_written xs n f end fits up m =
-    ap (λ (k : ℕ). join_on k (ranges_from (drop at ms) end) end) first ∙
-    (cut_joined (drop at ms) end (up_drop at 0 ms end up) ∙
-    ap (λ (l : List ℕ). join_ranges (ranges_from l end)) (sym (cut_place xs n f end fits up m)))
+pub cut_written : (ms : List ℕ) (f end k : ℕ) → Up 0 ms end → k < length ms → get_or ms k 0 ≡ f →
+    join_on (get_or ms k end) (ranges_from (drop k ms) end) end ≡ join_ranges (ranges_from (filter (λ m. leb f m) ms) end)
+cut_written ms f end k up h e =
+    ap (λ (j : ℕ). join_on j (ranges_from (drop k ms) end) end) first ∙
+    (cut_joined (drop k ms) end (up_drop k 0 ms end up) ∙
+    ap (λ (l : List ℕ). join_ranges (ranges_from l end)) (sym (filter_at 0 ms end f k up h e)))
   where
-    at : ℕ
-    at = last_at_most xs f n
+    first : get_or ms k end ≡ get_or (drop k ms) 0 end
+    first = ap (λ (j : ℕ). get_or ms j end) (omega arith) ∙ sym (get_or-drop k ms 0 end)
 
-    ms : List ℕ
-    ms = take n xs
+-- A run that stands at a place, and one that stands at none
+pub placed : (f : ℕ) (ms : List ℕ) (k : ℕ) → position (λ m. eqb m f) ms ≡ Some k → (k < length ms) × (get_or ms k 0 ≡ f)
+placed f ms k e =
+    let w = position-Some (λ m. eqb m f) ms k 0 e in
+    (w.0, eqb-true (get_or ms k 0) f w.1)
 
-    first : get_or ms at end ≡ get_or (drop at ms) 0 end
-    first = ap (λ (k : ℕ). get_or ms k end) (omega arith) ∙ sym (get_or-drop at ms 0 end)
+pub unplaced : (f : ℕ) (ms : List ℕ) → position (λ m. eqb m f) ms ≡ None → mem f ms ≡ false
+unplaced f ms e = not_so (mem f ms) (λ m. none (mem_index f 0 ms m))
+  where
+    far : length ms ≤ position_or_len (λ m. eqb m f) ms
+    far = grind (arith, common_steps)
+
+    none : (j : ℕ) × (j < length ms) × (get_or ms j 0 ≡ f) → ⊥
+    none w = false_true (sym (fails_before_first (λ m. eqb m f) ms w.0 0 (omega (arith, far, w.1))) ∙ eq-eqb (get_or ms w.0 0) f w.2)

@@ -2,19 +2,14 @@
 use mathlib.Core.Path.{◌≡◌, refl, sym, ap, ◌∙◌}
 use mathlib.Core.Bool.{Bool, true, false}
 use mathlib.Core.List.{List, [], ◌∷◌, ◌++◌, map, append_assoc}
-use Prim.Native.Nat.{ℕ, ◌+◌, ◌-◌, ◌<◌, ◌≤◌}
-use native.Mathlib.Omega.{arith}
-use lib.ListN.{length, take, drop, get_or, length-take, get_or-eq_default}
-use lib.Seq.{get_or-take}
+use Prim.Native.Nat.{ℕ, ◌+◌, ◌<◌, ◌≤◌}
+use lib.ListN.{length, drop, get_or}
 use lib.Dec.{eqb}
-use borrow.Author.Tests.{lt-ltb, le-ltb, eq-eqb, ne_eqb, eqb-true}
-use Rattle.lists.proofs.Truth.{bool_iff}
-use Rattle.lists.proofs.Members.{get_d_any}
+use borrow.Author.Tests.{lt-ltb, le-ltb}
 use Rattle.model.specs.Cut.{HistoryRange, concurrent, range_words, ranges_from}
 use Rattle.model.specs.declared.record.EventRunIndex.{EventRunIndex}
-use Rattle.graph.specs.declared.cut.Put.{Put}
-use Rattle.graph.specs.declared.cut.Cutting.{Cutting}
-use Rattle.graph.specs.Cutting.{put, put_all, pending, join_on, put_ranges, closed, cut_on}
+use Rattle.graph.specs.Records.{Put, put, put_all}
+use Rattle.graph.specs.Cutting.{Cutting, pending, join_on, put_ranges, closed, cut_on}
 use Rattle.graph.proofs.Writing.{put-append}
 use Rattle.graph.proofs.Cuts.{ranges-next, ranges-none}
 
@@ -80,42 +75,19 @@ cut_next w ms i end h =
     cut_step w (get_or ms i 0) (get_or ms (i + 1) end) (ranges_from (drop (i + 1) ms) end) end ∙
     ap (λ (rs : List (ℕ × ℕ)). cut_rest w rs end) (sym (ranges-next ms i end h))
 
-cut_last : (w : Cutting × List ℕ) (ms : List ℕ) (i end : ℕ) → length ms ≤ i →
+-- and ends with what is pending
+pub cut_end : (w : Cutting × List ℕ) (ms : List ℕ) (i end : ℕ) → length ms ≤ i →
     put_ranges (w.0.put, w.1) (pending w.0.first.0 end) ≡ cut_rest w (ranges_from (drop i ms) end) end
 unfolding cut_rest join_on
-cut_last w ms i end h = ap (λ (rs : List (ℕ × ℕ)). cut_rest w rs end) (sym (ranges-none ms i end h))
+cut_end w ms i end h = ap (λ (rs : List (ℕ × ℕ)). cut_rest w rs end) (sym (ranges-none ms i end h))
 
-module _ (xs : List ℕ) (n end : ℕ) (fits : n ≤ length xs) where
-  -- The mark at a place, or the end past them
-  pub mark_in : (i : ℕ) → i < n → get_or xs i 0 ≡ get_or (take n xs) i end
-  mark_in i h = sym (get_or-take n xs i 0 h) ∙ get_d_any (take n xs) i 0 end (omega (arith, length-take n xs))
+-- The loop begins with the first mark pending
+pub cut_begin : (p : Put) (l ms : List ℕ) (i end : ℕ) (k : EventRunIndex) → k.0 ≡ get_or ms i end →
+    cut_rest (record { put = p; first = k }, l) (ranges_from (drop i ms) end) end ≡ put_ranges (p, l) (join_on (get_or ms i end) (ranges_from (drop i ms) end) end)
+unfolding cut_rest
+cut_begin p l ms i end k e = ap (λ (f : ℕ). put_ranges (p, l) (join_on f (ranges_from (drop i ms) end) end)) e
 
-  pub mark_out : (i : ℕ) → n ≤ i → end ≡ get_or (take n xs) i end
-  mark_out i h = sym (get_or-eq_default (take n xs) end (omega (arith, length-take n xs)))
-
-  -- The loop begins with the first mark pending, goes on range by range, and ends with what is pending
-  pub cut_begin : (p : Put) (l : List ℕ) (i : ℕ) (k : EventRunIndex) → k.0 ≡ get_or (take n xs) i end →
-      cut_rest (record { put = p; first = k }, l) (ranges_from (drop i (take n xs)) end) end ≡
-      put_ranges (p, l) (join_on (get_or (take n xs) i end) (ranges_from (drop i (take n xs)) end) end)
-  unfolding cut_rest
-  cut_begin p l i k e = ap (λ (f : ℕ). put_ranges (p, l) (join_on f (ranges_from (drop i (take n xs)) end) end)) e
-
-  pub cut_turn : (w : Cutting × List ℕ) (i b : ℕ) → i < n → b ≡ get_or (take n xs) (i + 1) end →
-      cut_rest (cut_on w (get_or xs i 0) b) (ranges_from (drop (i + 1) (take n xs)) end) end ≡ cut_rest w (ranges_from (drop i (take n xs)) end) end
-  cut_turn w i b h e =
-      ap (λ (k : ℕ). cut_rest (cut_on w (get_or xs i 0) k) (ranges_from (drop (i + 1) (take n xs)) end) end) e ∙
-      (ap (λ (k : ℕ). cut_rest (cut_on w k (get_or (take n xs) (i + 1) end)) (ranges_from (drop (i + 1) (take n xs)) end) end) (sym (get_or-take n xs i 0 h)) ∙
-      cut_next w (take n xs) i end (omega (arith, length-take n xs)))
-
-  pub cut_end : (w : Cutting × List ℕ) (i : ℕ) → n ≤ i →
-      put_ranges (w.0.put, w.1) (pending w.0.first.0 end) ≡ cut_rest w (ranges_from (drop i (take n xs)) end) end
-  cut_end w i h = cut_last w (take n xs) i end (omega (arith, length-take n xs))
-
--- A range has just one run
-pub single_no : (a b : ℕ) → b ≤ a → false ≡ eqb b (a + 1)
-single_no a b h = sym (ne_eqb b (a + 1) (λ e. omega arith))
-
-pub single_is : (a b : ℕ) → a < b → eqb (b - a) 1 ≡ eqb b (a + 1)
-single_is a b h = bool_iff (eqb (b - a) 1) (eqb b (a + 1))
-    (λ e. eq-eqb b (a + 1) (omega (arith, eqb-true (b - a) 1 e)))
-    (λ e. eq-eqb (b - a) 1 (omega (arith, eqb-true b (a + 1) e)))
+-- goes on range by range
+pub cut_turn : (w : Cutting × List ℕ) (ms : List ℕ) (i b end : ℕ) → i < length ms → b ≡ get_or ms (i + 1) end →
+    cut_rest (cut_on w (get_or ms i 0) b) (ranges_from (drop (i + 1) ms) end) end ≡ cut_rest w (ranges_from (drop i ms) end) end
+cut_turn w ms i b end h e = ap (λ (k : ℕ). cut_rest (cut_on w (get_or ms i 0) k) (ranges_from (drop (i + 1) ms) end) end) e ∙ cut_next w ms i end h

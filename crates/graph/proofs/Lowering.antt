@@ -12,7 +12,6 @@ use Rattle.lists.specs.Lists.{all, filter, mem, least}
 use Rattle.lists.proofs.Truth.{lt_not, and_true}
 use Rattle.lists.proofs.Members.{get_d_mem, all_both, mem-first, mem-rest}
 use Rattle.lists.proofs.Passing.{passing}
-use Rattle.lists.proofs.Pads.{get_pad}
 use Rattle.model.specs.declared.record.CausalGraph.{CausalGraph}
 use Rattle.model.specs.Graph.{Graph, runs, start, marked, marks}
 use Rattle.model.specs.Record.{view}
@@ -21,7 +20,7 @@ use Rattle.model.specs.Push.{new_seen, joined, lowered}
 use Rattle.model.proofs.Lasting.{marks_list, joined-start}
 use Rattle.model.proofs.FormedJoins.{joined-runs}
 use Rattle.graph.specs.Loops.{lower_all}
-use Rattle.graph.proofs.Views.{runs-view, marks-view, start-view, marks-pad}
+use Rattle.graph.proofs.Views.{runs-view, start-view}
 
 -- The lowest of those that pass, one after another
 
@@ -72,30 +71,22 @@ lower_lost a formed ps n =
     lower-is a.starts (new_seen a ps) (min (runs a) a.changed) (λ r. not (mem r (marks (joined a ps n)))) (marks a)
     (λ r m. ap not (joined_mark a formed ps n r m) ∙ sym (unfold start in lt_not (new_seen a ps) (start a r)))
 
--- Turns, in the code's words
+-- Turns
 module _ (g : CausalGraph) (good : Held g) where
-  mark_at : (k : ℕ) → get_or g.critical_versions k 0 ≡ get_or (marks (view g)) k 0
-  mark_at k = ap (λ (x : List ℕ). get_or x k 0) (marks-pad g good) ∙ get_pad 512 (marks (view g)) k
-
-  pub mark_in : (k : ℕ) → k < g.mark_count → get_or g.critical_versions k 0 < g.run_count
-  mark_in k h =
-      let l : k < length (marks (view g)) = omega (arith, marks-view g good) in
-      omega (arith, mark_at k, runs-view g good, (mark_run (view g) (get_or (marks (view g)) k 0) (get_d_mem (marks (view g)) k 0 l)).0)
+  pub mark_in : (k : ℕ) → k < length (marks (view g)) → get_or (marks (view g)) k 0 < g.run_count
+  mark_in k h = omega (arith, runs-view g good, (mark_run (view g) (get_or (marks (view g)) k 0) (get_d_mem (marks (view g)) k 0 h)).0)
 
   pub lower-step :
       (s d i d' : ℕ) →
-      i < g.mark_count →
-      d' ≡ cond (ltb s (get_or g.starts (get_or g.critical_versions i 0) 0)) (min d (get_or g.critical_versions i 0)) d →
-      lower_all (view g).starts s d (drop i (marks (view g))) ≡ lower_all (view g).starts s d' (drop (i + 1) (marks (view g)))
+      i < length (marks (view g)) →
+      d' ≡ cond (ltb s (get_or g.starts (get_or (marks (view g)) i 0) 0)) (min d (get_or (marks (view g)) i 0)) d →
+      lower_all (view g).starts s d' (drop (i + 1) (marks (view g))) ≡ lower_all (view g).starts s d (drop i (marks (view g)))
   unfolding lower_all
   lower-step s d i d' h e =
-      let l : i < length (marks (view g)) = omega (arith, marks-view g good) in
-      let v : get_or (view g).starts (get_or g.critical_versions i 0) 0 ≡ get_or g.starts (get_or g.critical_versions i 0) 0 =
-      unfold start in start-view g good (get_or g.critical_versions i 0) (omega (arith, mark_in i h)) in
-      rw (add-one i, drop-cons (marks (view g)) i 0 l, e, ← mark_at i, ← v)
+      let v : get_or (view g).starts (get_or (marks (view g)) i 0) 0 ≡ get_or g.starts (get_or (marks (view g)) i 0) 0 =
+      unfold start in start-view g good (get_or (marks (view g)) i 0) (omega (arith, mark_in i h)) in
+      sym (rw (add-one i, drop-cons (marks (view g)) i 0 h, e, ← v))
 
-  pub lower_end : (s d i : ℕ) → g.mark_count ≤ i → lower_all (view g).starts s d (drop i (marks (view g))) ≡ d
+  pub lower_end : (s d i : ℕ) → length (marks (view g)) ≤ i → lower_all (view g).starts s d (drop i (marks (view g))) ≡ d
   unfolding lower_all
-  lower_end s d i h =
-      let l : length (marks (view g)) ≤ i = omega (arith, marks-view g good) in
-      rw (drop_of_length-le (marks (view g)) l)
+  lower_end s d i h = rw (drop_of_length-le (marks (view g)) h)

@@ -108,3 +108,7 @@ side-view g good e = go (lt_or_le e (first_held (view g))) (lt_or_le e (len (vie
         ap in_run (sym (containing-view g good e h k)) ∙ sym (side-run (view g) e h k)
     go (inr h) (inr k) =
         in_unknown g.starts g.run_count e (omega (arith, first-view g good)) (omega (arith, len-view g good)) ∙ sym (side-unknown (view g) e h k)
+
+-- so an answer by the graph is one by the arrays
+pub by_starts : (g : CausalGraph) → Held g → (e : ℕ) → {a : Containing} → a ≡ containing_at (side (view g) e) → a ≡ containing_at (side_in g.starts g.run_count e)
+by_starts g good e q = q ∙ ap containing_at (sym (side-view g good e))

@@ -1,47 +1,39 @@
 -- The ways out of a push, each as one law from the tests on the way to the record that the call gives; and what a new run needs, from
 -- the tests that it passed. Assumes nothing.
-use mathlib.Core.Path.{◌≡◌, refl, sym, ap, ◌∙◌}
-use mathlib.Core.Bool.{Bool, true, false, not, cond, ◌&&◌}
+use mathlib.Core.Path.{◌≡◌, sym, ap, ◌∙◌}
+use mathlib.Core.Bool.{Bool, true, false, not, cond}
 use mathlib.Core.List.{List, [], ◌∷◌}
 use Prim.Native.Nat.{ℕ, ◌+◌, ◌-◌, ◌<◌, ◌≤◌, ◌^◌}
 use native.Mathlib.Omega.{arith}
-use lib.ListN.{length, get_or, take}
+use lib.ListN.{length}
 use lib.Dec.{ltb, eqb}
-use borrow.Author.Tests.{lt-ltb, le-ltb, ltb-true, ltb-false, ne_eqb, eq-eqb}
-use Rattle.lists.specs.Lists.{filter, mem, same, rising}
+use borrow.Author.Tests.{lt-ltb, le-ltb, ltb-false, ne_eqb, eq-eqb}
+use Rattle.lists.specs.Lists.{filter, mem, rising}
 use Rattle.model.specs.declared.record.CausalGraph.{CausalGraph}
 use Rattle.model.specs.declared.answers.Refusal.{Refusal}
 use Rattle.model.specs.declared.answers.Refusal.TheVariants.{Broken, NoEvents, NotRising, UnknownEvent, TooManyEvents, TooManyRuns, TooManyEntries, FrontierTooLong}
 use Rattle.model.specs.Refusals.{first_of, Outcome}
 use Rattle.model.specs.Graph.{Graph, runs, len, entries, Side, side, is_known, held, all_known, extends}
 use Rattle.model.specs.Record.{view, store}
-use Rattle.model.specs.Broken.{broken, Held, WithinLimits}
+use Rattle.model.specs.Broken.{broken, Held}
 use Rattle.model.specs.Split.{splits, split_after}
 use Rattle.model.specs.Push.{staying, grown, joined, lowered, push, push_outcome, pushed, push_refused, push_held_of, push_of}
-use Rattle.lists.proofs.Counts.{count_same, filter-length, all_none}
+use Rattle.lists.proofs.Counts.{count_same, all_none}
 use Rattle.model.proofs.Stored.{view-store, held-store}
 use Rattle.model.proofs.FormedReads.{first-len}
 use Rattle.model.proofs.Siding.{known-below}
 use Rattle.model.proofs.FormedSplitAll.{SplitAll, splits-frontier}
-use Rattle.model.proofs.FormedPush.{Accepted, push_grows, push_joins, extends-runs, extends-parents, pushed-splits, held_same}
+use Rattle.model.proofs.FormedPush.{Accepted, push-formed, push-limits, push_grows, push_joins, extends-runs, extends-parents, pushed-splits, held_same}
 use Rattle.graph.specs.declared.pushing.ParentCounts.{ParentCounts}
 use Rattle.graph.specs.Loops.{side_in, count_parents, Room, Joins}
-use Rattle.graph.proofs.Extending.{extends-view}
 use Rattle.graph.proofs.SplitParts.{splits_in}
 use Rattle.graph.proofs.Owning.{held-counted}
 use Rattle.graph.proofs.Placing.{side-view}
-use Rattle.graph.proofs.Views.{runs-view, entries-view, frontier_list}
+use Rattle.graph.proofs.Views.{runs-view, entries-view}
 use Rattle.std.specs.Prelude.{Ok, Err}
 use Rattle.model.specs.Answers.{Pushed}
 
--- The test for the last event number, with no overflow
-pub far_test : (s n : ℕ) → s ≤ 4294967295 → ltb (4294967295 - s) n ≡ ltb 4294967295 (s + n)
-far_test s n h = go (ltb (4294967295 - s) n) refl
-  where
-    go : (t : Bool) → ltb (4294967295 - s) n ≡ t → t ≡ ltb 4294967295 (s + n)
-    go true e = sym (lt-ltb 4294967295 (s + n) (omega (arith, ltb-true (4294967295 - s) n e)))
-    go false e = sym (le-ltb 4294967295 (s + n) (omega (arith, ltb-false (4294967295 - s) n e)))
-
+-- The test for the last event number
 pub far_passed : (s n : ℕ) → ltb 4294967295 (s + n) ≡ false → s + n < 2 ^ 32
 far_passed s n e = omega (arith, ltb-false 4294967295 (s + n) e)
 
@@ -119,25 +111,23 @@ pub record Known (g : CausalGraph) (ps : List ℕ) (n start : ℕ) (c : ParentCo
   pub events : start + n < 2 ^ 32
   pub counted : c ≡ count_parents g.starts g.run_count ps
 
-pub known_of : (g : CausalGraph) (ps : List ℕ) (n start : ℕ) (c : ParentCounts) →
+pub known_of : (g : CausalGraph) → Held g → (ps : List ℕ) (n : ℕ) (c : ParentCounts) → {start : ℕ} → start ≡ len (view g) →
     record {
-      held : Held g;
-      start_value : start ≡ len (view g);
-      ps_value : rising ps ≡ true;
-      ps_value_2 : all_known (view g) ps ≡ true;
-      n_nonzero : 0 < n;
-      n_bound : start + n < 2 ^ 32;
-      counts_value : c ≡ count_parents g.starts g.run_count ps;
+      rising : rising ps ≡ true;
+      known : all_known (view g) ps ≡ true;
+      some_events : 0 < n;
+      events_fit : len (view g) + n < 2 ^ 32;
+      counted : c ≡ count_parents g.starts g.run_count ps;
     } →
     Known g ps n start c
-known_of g ps n start c p = record {
-  holds = p.held;
-  at_end = p.start_value;
-  rises = p.ps_value;
-  known = p.ps_value_2;
-  some = p.n_nonzero;
-  events = p.n_bound;
-  counted = p.counts_value;
+known_of g good ps n c e p = record {
+  holds = good;
+  at_end = e;
+  rises = p.rising;
+  known = p.known;
+  some = p.some_events;
+  events = rw e p.events_fit;
+  counted = p.counted;
 }
 
 module _ {g : CausalGraph} {ps : List ℕ} {n start : ℕ} {c : ParentCounts} (k : Known g ps n start c) where
@@ -147,10 +137,7 @@ module _ {g : CausalGraph} {ps : List ℕ} {n start : ℕ} {c : ParentCounts} (k
   events-len : ltb 4294967295 (len (view g) + n) ≡ false
   events-len = le-ltb 4294967295 (len (view g) + n) (omega (arith, k.at_end, k.events))
 
-  -- The test and the counts of the code are the graph's
-  pub extends_are : {b : Bool} → b ≡ (ltb 0 g.run_count && same ps ((get_or g.starts g.run_count 0 - 1) ∷ [])) → b ≡ extends (view g) ps
-  extends_are e = e ∙ extends-view g k.holds ps
-
+  -- The counts of the code are the graph's
   pub splits_are : c.splits ≡ splits (view g) ps
   unfolding count_parents
   splits_are = ap (λ (x : ParentCounts). x.splits) k.counted ∙ splits_in g k.holds ps
@@ -167,13 +154,25 @@ module _ {g : CausalGraph} {ps : List ℕ} {n start : ℕ} {c : ParentCounts} (k
   unfolding push_outcome first_of
   grown_outcome x = rw (ne_eqb n 0 some-not, k.rises, k.known, events-len, x)
 
+  grown_push : {e : Bool} (h : CausalGraph) → e ≡ extends (view g) ps → e ≡ true → h ≡ store (grown (view g) ((len (view g) - 1) ∷ []) n) →
+      (h ≡ store (push (view g) ps n)) × (push_outcome (view g) ps n ≡ Ok tt)
+  grown_push h e t f =
+      let x : extends (view g) ps ≡ true = sym e ∙ t in (
+        f ∙ ap (λ (qs : List ℕ). store (grown (view g) qs n)) (sym (extends-parents (view g) ps x)) ∙ ap store (sym (push_grows (view g) ps n x)),
+        grown_outcome x,
+      )
+
   pub grown-out : {e : Bool} (h : CausalGraph) → e ≡ extends (view g) ps → e ≡ true → h ≡ store (grown (view g) ((len (view g) - 1) ∷ []) n) →
       taken_by h start n ≡ push_held_of g ps n
-  grown-out h e t f =
-      let x : extends (view g) ps ≡ true = sym e ∙ t in
-      let q : h ≡ store (push (view g) ps n) =
-      f ∙ ap (λ (qs : List ℕ). store (grown (view g) qs n)) (sym (extends-parents (view g) ps x)) ∙ ap store (sym (push_grows (view g) ps n x)) in
-      taken_out_lem g ps n start k.at_end h q (grown_outcome x)
+  grown-out h e t f = let w = grown_push h e t f in taken_out_lem g ps n start k.at_end h w.0 w.1
+
+  -- A push that is taken leaves a held graph
+  pushed-held : (h : CausalGraph) → h ≡ store (push (view g) ps n) → push_outcome (view g) ps n ≡ Ok tt → Held h
+  pushed-held h q e =
+      rw q (held-store (push (view g) ps n) (push-formed (view g) k.holds.formed ps n e) (push-limits (view g) k.holds.formed k.holds.limits ps n e))
+
+  pub grown-held : {e : Bool} (h : CausalGraph) → e ≡ extends (view g) ps → e ≡ true → h ≡ store (grown (view g) ((len (view g) - 1) ∷ []) n) → Held h
+  grown-held h e t f = let w = grown_push h e t f in pushed-held h w.0 w.1
 
   -- The tests of the code for refusals 6 to 8, as the definition has them
   runs_test : {b : Bool} → b ≡ ltb 512 (g.run_count + 1 + c.splits) → ltb 512 (runs (view g) + splits (view g) ps + 1) ≡ b
@@ -188,14 +187,10 @@ module _ {g : CausalGraph} {ps : List ℕ} {n start : ℕ} {c : ParentCounts} (k
       omega (arith, entries-view g k.holds, splits_are, held_are) in
       ap (ltb 2048) q ∙ sym e
 
-  left-count : {left : List ℕ} → left ≡ filter (λ e. not (mem e ps)) (take g.frontier_count g.frontier) →
+  left-count : {left : List ℕ} → left ≡ filter (λ e. not (mem e ps)) (view g).frontier →
       length left ≡ length (staying (view g) ps)
   unfolding staying
-  left-count e = ap length (rw (frontier_list g k.holds) e)
-
-  pub left-fits : {left : List ℕ} → left ≡ filter (λ e. not (mem e ps)) (take g.frontier_count g.frontier) → length left ≤ 512
-  unfolding staying
-  left-fits e = omega (arith, left-count e, filter-length (λ e. not (mem e ps)) (view g).frontier, k.holds.limits.frontier)
+  left-count e = ap length e
 
   -- Refusals 6 to 8
   pub too_many_runs : {e b : Bool} → e ≡ extends (view g) ps → e ≡ false → b ≡ ltb 512 (g.run_count + 1 + c.splits) → b ≡ true →
@@ -221,7 +216,7 @@ module _ {g : CausalGraph} {ps : List ℕ} {n start : ℕ} {c : ParentCounts} (k
 
   pub frontier_too_long : {e b d : Bool} {left : List ℕ} → e ≡ extends (view g) ps → e ≡ false → b ≡ ltb 512 (g.run_count + 1 + c.splits) → b ≡ false →
       d ≡ ltb 2048 (g.entry_count + c.splits + c.held) → d ≡ false →
-      left ≡ filter (λ e. not (mem e ps)) (take g.frontier_count g.frontier) → 512 < length left + 1 →
+      left ≡ filter (λ e. not (mem e ps)) (view g).frontier → 512 < length left + 1 →
       refused_by g FrontierTooLong ≡ push_held_of g ps n
   frontier_too_long e t b u d v f w =
       let long : 512 < length (staying (view g) ps) + 1 = omega (arith, left-count f) in
@@ -239,7 +234,7 @@ pub record NewRun (g : CausalGraph) (ps : List ℕ) (n start : ℕ) (c : ParentC
 pub new-run : {g : CausalGraph} {ps : List ℕ} {n start : ℕ} {c : ParentCounts} → Known g ps n start c → {e b d : Bool} {left : List ℕ} →
     e ≡ extends (view g) ps → e ≡ false → b ≡ ltb 512 (g.run_count + 1 + c.splits) → b ≡ false →
     d ≡ ltb 2048 (g.entry_count + c.splits + c.held) → d ≡ false →
-    left ≡ filter (λ e. not (mem e ps)) (take g.frontier_count g.frontier) → length left + 1 ≤ 512 →
+    left ≡ filter (λ e. not (mem e ps)) (view g).frontier → length left + 1 ≤ 512 →
     NewRun g ps n start c
 new-run {g} {ps} k e t b u d v f w = record {
   known = k;
@@ -267,14 +262,6 @@ module _ {g : CausalGraph} {ps : List ℕ} {n start : ℕ} {c : ParentCounts} (r
   after : SplitAll (view g) (held (view g) ps)
   after = pushed-splits (view g) r.known.holds.formed ps n accepted
 
-  after-limits : WithinLimits (split_after (view g) (held (view g) ps))
-  unfolding splits
-  after-limits = record {
-    runs = omega (arith, after.more_runs, r.for_runs);
-    entries = omega (arith, after.more_entries, r.for_entries);
-    frontier = omega (arith, ap length (splits-frontier (view g) (held (view g) ps)), r.known.holds.limits.frontier);
-  }
-
   after_joins : Joins (split_after (view g) (held (view g) ps)) ps n
   unfolding splits staying
   after_joins = record {
@@ -296,9 +283,6 @@ module _ {g : CausalGraph} {ps : List ℕ} {n start : ℕ} {c : ParentCounts} (r
     parted_view : view h ≡ split_after (view g) (held (view g) ps)
     parted_view = ap view parted ∙ view-store (split_after (view g) (held (view g) ps)) after.formed
 
-    pub parted_held : Held h
-    parted_held = rw parted (held-store (split_after (view g) (held (view g) ps)) after.formed after-limits)
-
     pub parted_len : start ≡ len (view h)
     parted_len = r.known.at_end ∙ sym after.same_len ∙ ap len (sym parted_view)
 
@@ -306,8 +290,11 @@ module _ {g : CausalGraph} {ps : List ℕ} {n start : ℕ} {c : ParentCounts} (r
     parted_joins = rw parted_view after_joins
 
     -- A new run
+    joined_push : (j : CausalGraph) → j ≡ store (lowered (view h) (joined (view h) ps n)) → j ≡ store (push (view g) ps n)
+    joined_push j e = e ∙ ap (λ (a : Graph). store (lowered a (joined a ps n))) parted_view ∙ ap store (sym (push_joins (view g) ps n r.new))
+
     pub joined-out : (j : CausalGraph) → j ≡ store (lowered (view h) (joined (view h) ps n)) → taken_by j start n ≡ push_held_of g ps n
-    joined-out j e =
-        let q : j ≡ store (push (view g) ps n) =
-        e ∙ ap (λ (a : Graph). store (lowered a (joined a ps n))) parted_view ∙ ap store (sym (push_joins (view g) ps n r.new)) in
-        taken_out_lem g ps n start r.known.at_end j q new_outcome
+    joined-out j e = taken_out_lem g ps n start r.known.at_end j (joined_push j e) new_outcome
+
+    pub joined-held : (j : CausalGraph) → j ≡ store (lowered (view h) (joined (view h) ps n)) → Held j
+    joined-held j e = pushed-held r.known j (joined_push j e) new_outcome

@@ -4,7 +4,7 @@ use mathlib.Core.Path.{◌≡◌, refl, sym, ap, ◌∙◌}
 use mathlib.Core.Logic.{◌⊎◌, inl, inr}
 use mathlib.Core.Bool.{Bool, true, false, cond, not}
 use mathlib.Core.List.{List, [], ◌∷◌}
-use Prim.Native.Nat.{ℕ, suc, ◌+◌, ◌≤◌, ◌<◌, ◌^◌}
+use Prim.Native.Nat.{ℕ, suc, ◌+◌, ◌≤◌, ◌<◌}
 use native.Mathlib.Numerals.{add-one}
 use native.Mathlib.Omega.{arith}
 use lib.ListN.{length, get_or}
@@ -23,7 +23,7 @@ use Rattle.model.specs.Split.{split, ends, split_after, splits}
 use Rattle.model.proofs.FormedReads.{start_mono, containing_in}
 use Rattle.model.proofs.Siding.{side-run, held-between}
 use Rattle.model.proofs.FormedSplitAll.{ends-inside}
-use Rattle.graph.specs.Loops.{Room, Parts, parts_of, split_in, side_in, needs_in, after_in, Long, SplitFits, AfterFits, with_parts}
+use Rattle.graph.specs.Loops.{Room, Parts, parts_of, split_in, side_in, needs_in, after_in, Long, SplitFits, AfterFits, with_arrays, with_parts, marked}
 use Rattle.graph.proofs.Views.{facts, runs-view, marks-view, start-view, containing-view, marks-pad}
 use Rattle.graph.proofs.Placing.{Found, found_in, side-view}
 use Rattle.graph.proofs.Testing.{marks-used}
@@ -175,16 +175,41 @@ module _ (g : CausalGraph) (x : Parts) (good : Held (with_parts g x)) where
         go true e =
             ap (with_parts g) (sym (after_yes x _ p _ refl e refl)) ∙ with_split p (placed (with_parts g x) good p room (sym needs_here ∙ e))
 
--- The loop over the parents
-pub parts-start : (g : CausalGraph) → Held g → (ps : List ℕ) → Room (view g) ps → Going ps g (with_parts g (parts_of g)) 0
-parts-start g good ps room = rw (with_own g good) (going_start ps g good room)
+-- The record itself as the arrays
 
-pub parts_on : (ps : List ℕ) (g : CausalGraph) (x y : Parts) (i : ℕ) → i < length ps → Going ps g (with_parts g x) i → y ≡ after_in x (get_or ps i 0) →
-    Going ps g (with_parts g y) (i + 1)
-parts_on ps g x y i h s e =
-    going_on ps g (with_parts g x) (with_parts g y) i h s (ap (with_parts g) e ∙ after-stored g x s.is_held_lem (get_or ps i 0) (going_one ps g (with_parts g x) i h s))
+-- its own arrays are no change
+pub own_arrays : (g : CausalGraph) → g ≡ with_arrays g (parts_of g)
+unfolding with_arrays
+own_arrays g = refl
 
--- `changed_from` of a record that is held fits
-pub changed-fits : (g : CausalGraph) (x : Parts) → Held (with_parts g x) → x.counts.changed < 2 ^ 32
-unfolding with_parts view
-changed-fits g x good = omega (arith, good.formed.changed, runs-view (with_parts g x) good, (facts (with_parts g x) good).runs)
+marked-arrays : (g : CausalGraph) (x : Parts) → marked (with_arrays g x) ≡ with_parts g x
+unfolding marked with_arrays with_parts
+marked-arrays g x = refl
+
+-- one split
+pub split-marked : (g : CausalGraph) → Held g → (r at : ℕ) → r < g.run_count → {h : CausalGraph} → h ≡ with_arrays g (split_in (parts_of g) r at) →
+    marked h ≡ store (split (view g) r at)
+split-marked g good r at h e = ap marked e ∙ marked-arrays g (split_in (parts_of g) r at) ∙ split_parts g good r at h
+
+-- the loop over the parents
+pub marked-start : (g : CausalGraph) → Held g → (ps : List ℕ) → Room (view g) ps → Going ps g (marked g) 0
+unfolding marked
+marked-start g good ps room = rw (with_own g good) (going_start ps g good room)
+
+pub marked-runs : (h : CausalGraph) → Held (marked h) → h.run_count ≤ 512
+unfolding marked
+marked-runs h good = (with_long h (parts_of h) good).runs
+
+pub marked-fits : (ps : List ℕ) (g h : CausalGraph) (i : ℕ) → i < length ps → Going ps g (marked h) i → AfterFits (parts_of h) (get_or ps i 0)
+unfolding marked
+marked-fits ps g h i b s = after-fits h (parts_of h) s.is_held_lem (get_or ps i 0) (going_one ps g (with_parts h (parts_of h)) i b s)
+
+marked-after : (ps : List ℕ) (g h : CausalGraph) (i : ℕ) → i < length ps → Going ps g (marked h) i →
+    with_parts h (after_in (parts_of h) (get_or ps i 0)) ≡ store (split_after (view (marked h)) (held (view (marked h)) (get_or ps i 0 ∷ [])))
+unfolding marked
+marked-after ps g h i b s = after-stored h (parts_of h) s.is_held_lem (get_or ps i 0) (going_one ps g (with_parts h (parts_of h)) i b s)
+
+pub marked_on : (ps : List ℕ) (g h k : CausalGraph) (i : ℕ) → i < length ps → Going ps g (marked h) i →
+    k ≡ with_arrays h (after_in (parts_of h) (get_or ps i 0)) → Going ps g (marked k) (i + 1)
+marked_on ps g h k i b s e =
+    going_on ps g (marked h) (marked k) i b s (ap marked e ∙ marked-arrays h (after_in (parts_of h) (get_or ps i 0)) ∙ marked-after ps g h i b s)

@@ -3,9 +3,8 @@ use mathlib.Core.Path.{◌≡◌, refl, sym, ap, ◌∙◌}
 use mathlib.Core.Bool.{Bool, true, false, not}
 use Prim.Native.Nat.{ℕ, suc, ◌+◌, ◌<◌, ◌≤◌}
 use native.Mathlib.Omega.{arith}
-use lib.ListN.{take, get_or}
+use lib.ListN.{get_or}
 use borrow.Author.Tests.{lt-ltb, le-ltb, eq-eqb, ne_eqb}
-use Rattle.lists.specs.Lists.{mem}
 use Rattle.lists.proofs.Truth.{false_true}
 use Rattle.model.specs.declared.record.CausalGraph.{CausalGraph}
 use Rattle.model.specs.declared.answers.Refusal.TheVariants.{Broken, TooManyRuns, TooManyEntries}
@@ -17,10 +16,10 @@ use Rattle.model.specs.Broken.{broken, Held}
 use Rattle.model.specs.Split.{split}
 use Rattle.model.specs.Start.{Starting, answers, splitting, alone, starting_in, starting, split_outcome, told, start_refused, start_held_of, start_run_at_of, taken, take_held_of, take_changed_from_of}
 use Rattle.model.proofs.Siding.{run-told}
-use Rattle.model.proofs.FormedCalls.{starting-out, starting_in_lem, in_there, in_alone, in_splits}
+use Rattle.model.proofs.Stored.{held-store}
+use Rattle.model.proofs.FormedCalls.{start-formed, start-limits, starting-out, starting_in_lem, in_there, in_alone, in_splits}
 use Rattle.model.proofs.Sides.{sides}
-use Rattle.model.proofs.Lasting.{marks_list as marks-mem}
-use Rattle.graph.proofs.Views.{runs-view, entries-view, tips_view, marks-view, start-view, marks_list, starts-pad, heads-pad, parents-pad, frontier-pad, seen-pad, marks-pad}
+use Rattle.graph.proofs.Views.{runs-view, entries-view, tips_view, marks-view, start-view, starts-pad, heads-pad, parents-pad, frontier-pad, seen-pad, marks-pad}
 use Rattle.std.specs.Prelude.{Ok, Err}
 use Rattle.model.specs.Answers.{Started, Taken}
 
@@ -141,10 +140,12 @@ module _ (g : CausalGraph) (held : Held g) (at run : ℕ) (there : side (view g)
           ap (λ (r : ℕ). told (store (split (view g) r at)) true) (sym is-run) ∙
           splits g at parts (split_done (view g) (omega (arith, runs-view g held)) (omega (arith, entries-view g held)))
 
--- A run is marked exactly if it is among the marks
-pub marked-mem : (g : CausalGraph) → Held g → (run : ℕ) → run < g.run_count →
-    mem run (take g.mark_count g.critical_versions) ≡ marked (view g) run
-marked-mem g held run h = ap (mem run) (sym (marks_list g held)) ∙ marks-mem (view g) run (omega (arith, runs-view g held))
+      -- and the graph is held again
+      pub split-held : g.run_count < 512 → g.entry_count < 2048 → (h : CausalGraph) → h ≡ store (split (view g) run at) → Held h
+      split-held m n h e =
+          let done = split_done (view g) (omega (arith, runs-view g held)) (omega (arith, entries-view g held)) in
+          rw (e, ← is-run) (held-store (split (view g) (containing (view g) at) at) (start-formed (view g) held.formed at parts)
+          (start-limits (view g) held.formed held.limits at parts done))
 
 -- A run alone: marked, and the last or before a marked one
 module _ (g : Graph) (r : ℕ) where

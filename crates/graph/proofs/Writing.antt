@@ -4,47 +4,37 @@ use mathlib.Core.Bool.{Bool, true, false, cond}
 use mathlib.Core.List.{List, [], ◌∷◌, ◌++◌, map, append_assoc}
 use Prim.Native.Nat.{ℕ, zero, suc, ◌+◌, ◌*◌, ◌/◌, ◌<◌, ◌≤◌}
 use native.Mathlib.Nat.{div-mul-le_self, suc-mul, zero-mul, zero-add}
-use native.Mathlib.Numerals.{add-one, add-two}
+use native.Mathlib.Numerals.{add-one}
 use native.Mathlib.Omega.{arith}
-use lib.ListN.{length, take, drop, set, length-append, length-drop, length-map}
-use lib.Seq.{sets-eq, set_split, append_snoc, take_all, take-nil, take_at, drop-append-add, drop-drop}
+use lib.ListN.{length, take, drop, length-append, length-drop, length-map}
+use lib.Seq.{take_all, take-nil, take_at, drop-append-add, drop-drop}
 use lib.Dec.{ltb, leb-suc-suc}
-use borrow.Author.Tests.{lt-ltb, le-ltb, eq-eqb, ne_eqb}
-use Rattle.lists.specs.Lists.{bit, concat}
+use borrow.Author.Tests.{lt-ltb, le-ltb}
+use Rattle.lists.specs.Lists.{concat}
 use Rattle.lists.specs.Areas.{over}
 use Rattle.model.specs.declared.answers.Written.{Written}
 use Rattle.model.specs.declared.answers.Refusal.TheVariants.{ListTooShort}
 use Rattle.model.specs.Cut.{writing}
-use Rattle.graph.specs.declared.cut.Put.{Put}
-use Rattle.graph.specs.Cutting.{blank, put, put_all, written_of}
+use Rattle.graph.specs.Records.{Put, blank, put, put_all, written_of}
 use Rattle.std.specs.Prelude.{Ok, Err}
 
 -- Where a record goes
 module _ (size k : ℕ) (l ws : List ℕ) where
   -- one did not fit before
-  pub put-after : (s : ℕ) → (s ≡ 0 → ⊥) → put size (record { count = k; short = s }, l) ws ≡ (record { count = k; short = 1 }, l)
+  put-after : put size (record { count = k; short = true }, l) ws ≡ (record { count = k; short = true }, l)
   unfolding put
-  put-after s h = rw (ne_eqb s 0 h)
+  put-after = refl
 
   -- it does not fit
-  pub put-none : (s : ℕ) → s ≡ 0 → length l / size ≤ k → put size (record { count = k; short = s }, l) ws ≡ (record { count = k; short = 1 }, l)
+  put-none : length l / size ≤ k → put size (record { count = k; short = false }, l) ws ≡ (record { count = k; short = true }, l)
   unfolding put
-  put-none s e h = rw (eq-eqb s 0 e, le-ltb k (length l / size) h)
+  put-none h = rw (le-ltb k (length l / size) h)
 
   -- it fits
-  pub put_one_lem : (s : ℕ) → s ≡ 0 → k < length l / size →
-      put size (record { count = k; short = s }, l) ws ≡ (record { count = k + 1; short = 0 }, take (k * size) l ++ ws ++ drop (k * size + size) l)
+  put_one_lem : k < length l / size →
+      put size (record { count = k; short = false }, l) ws ≡ (record { count = k + 1; short = false }, take (k * size) l ++ ws ++ drop (k * size + size) l)
   unfolding put
-  put_one_lem s e h = rw (eq-eqb s 0 e, lt-ltb k (length l / size) h)
-
--- Three words, one after the other, are a record
-pub three_words : (l : List ℕ) (at a b c : ℕ) → at + 3 ≤ length l →
-    set (set (set l at a) (at + 1) b) (at + 2) c ≡ take at l ++ (a ∷ b ∷ c ∷ []) ++ drop (at + 3) l
-three_words l at a b c h = rw (add-one at, add-two at) (sets-eq (a ∷ b ∷ c ∷ []) l at h)
-
--- A word is a record
-pub one_word : (l : List ℕ) (at a : ℕ) → at < length l → set l at a ≡ take (at * 1) l ++ (a ∷ []) ++ drop (at * 1 + 1) l
-one_word l at a h = let e : at * 1 ≡ at = omega arith in rw (e, add-one at) (set_split l at a h ∙ sym (append_snoc (take at l) a (drop (suc at) l)))
+  put_one_lem h = rw (lt-ltb k (length l / size) h)
 
 -- Some records, and then others
 pub put-append : (size : ℕ) (w : Put × List ℕ) (xs ys : List (List ℕ)) → put_all size w (xs ++ ys) ≡ put_all size (put_all size w xs) ys
@@ -52,12 +42,12 @@ unfolding put_all
 put-append size w [] ys = refl
 put-append size w (x ∷ xs) ys = put-append size (put size w x) xs ys
 
-short-stays : (size k : ℕ) (l : List ℕ) (rs : List (List ℕ)) → put_all size (record { count = k; short = 1 }, l) rs ≡ (record { count = k; short = 1 }, l)
+short-stays : (size k : ℕ) (l : List ℕ) (rs : List (List ℕ)) → put_all size (record { count = k; short = true }, l) rs ≡ (record { count = k; short = true }, l)
 unfolding put_all
 short-stays size k l [] = refl
-short-stays size k l (r ∷ rs) = rw (put-after size k l r 1 (λ e. omega arith)) (short-stays size k l rs)
+short-stays size k l (r ∷ rs) = rw (put-after size k l r) (short-stays size k l rs)
 
-put_eq : {n m s t : ℕ} {l k : List ℕ} → n ≡ m → s ≡ t → l ≡ k → ◌≡◌ {A = Put × List ℕ} (record { count = n; short = s }, l) (record { count = m; short = t }, k)
+put_eq : {n m : ℕ} {s t : Bool} {l k : List ℕ} → n ≡ m → s ≡ t → l ≡ k → ◌≡◌ {A = Put × List ℕ} (record { count = n; short = s }, l) (record { count = m; short = t }, k)
 put_eq p q e = λ i. (record { count = p i; short = q i }, e i)
 
 over_more : (a b l : List ℕ) → a ++ over b (drop (length a) l) ≡ over (a ++ b) l
@@ -65,7 +55,7 @@ unfolding over
 over_more a b l = rw (length-append a b, ← drop-drop (length b) (length a) l, append_assoc a b)
 
 -- what is answered of them
-written_eq : (n : ℕ) (t : Bool) (l : List ℕ) → ◌≡◌ {A = Written × List ℕ} (written_of (record { count = 0 + n; short = bit t }), l)
+written_eq : (n : ℕ) (t : Bool) (l : List ℕ) → ◌≡◌ {A = Written × List ℕ} (written_of (record { count = 0 + n; short = t }), l)
     (record { count = n; outcome = cond t (Err ListTooShort) (Ok tt) }, l)
 unfolding written_of
 written_eq n true l = rw (zero-add n)
@@ -75,18 +65,18 @@ written_eq n false l = rw (zero-add n)
 module _ {A : Type 0} (size : ℕ) (f : A → List ℕ) (same : (x : A) → length (f x) ≡ size) where
   -- after k records, with room for j more
   put-room : (xs : List A) (j k : ℕ) (front rest : List ℕ) → length front ≡ k * size → j * size ≤ length rest → length (front ++ rest) / size ≡ k + j →
-      put_all size (record { count = k; short = 0 }, front ++ rest) (map f xs) ≡
-      (record { count = k + length (take j (map f xs)); short = bit (ltb j (length (map f xs))) }, front ++ over (concat (take j (map f xs))) rest)
+      put_all size (record { count = k; short = false }, front ++ rest) (map f xs) ≡
+      (record { count = k + length (take j (map f xs)); short = ltb j (length (map f xs)) }, front ++ over (concat (take j (map f xs))) rest)
   unfolding put_all concat over
-  put-room [] j k front rest e h r = rw (take-nil j) (put_eq (omega arith) (ap bit (sym (le-ltb j 0 (omega arith)))) refl)
+  put-room [] j k front rest e h r = rw (take-nil j) (put_eq (omega arith) (sym (le-ltb j 0 (omega arith))) refl)
   put-room (x ∷ xs) zero k front rest e h r =
-      ap (λ (w : Put × List ℕ). put_all size w (map f xs)) (put-none size k (front ++ rest) (f x) 0 refl (omega arith)) ∙
-      (short-stays size k (front ++ rest) (map f xs) ∙ put_eq (omega arith) (ap bit (sym (lt-ltb 0 (suc (length (map f xs))) (omega arith)))) refl)
+      ap (λ (w : Put × List ℕ). put_all size w (map f xs)) (put-none size k (front ++ rest) (f x) (omega arith)) ∙
+      (short-stays size k (front ++ rest) (map f xs) ∙ put_eq (omega arith) (sym (lt-ltb 0 (suc (length (map f xs))) (omega arith))) refl)
   put-room (x ∷ xs) (suc j) k front rest e h r =
-      ap (λ (w : Put × List ℕ). put_all size w (map f xs)) (put_one_lem size k (front ++ rest) (f x) 0 refl (omega arith)) ∙
-      (ap (λ (l : List ℕ). put_all size (record { count = k + 1; short = 0 }, l) (map f xs)) moved ∙
+      ap (λ (w : Put × List ℕ). put_all size w (map f xs)) (put_one_lem size k (front ++ rest) (f x) (omega arith)) ∙
+      (ap (λ (l : List ℕ). put_all size (record { count = k + 1; short = false }, l) (map f xs)) moved ∙
       (put-room xs j (k + 1) (front ++ f x) (drop (length (f x)) rest) longer left whole ∙
-      put_eq (omega arith) (ap bit (sym (leb-suc-suc (suc j) (length (map f xs)))))
+      put_eq (omega arith) (sym (leb-suc-suc (suc j) (length (map f xs))))
       (append_assoc front (f x) (over (concat (take j (map f xs))) (drop (length (f x)) rest)) ∙ ap (λ (l : List ℕ). front ++ l) (over_more (f x) (concat (take j (map f xs))) rest))))
     where
       size_in_lem : size + j * size ≤ length rest

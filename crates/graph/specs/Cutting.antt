@@ -1,31 +1,14 @@
--- What the writers into lent lists compute, record by record, and the cut from left to right. Assumes nothing.
-use Rattle.std.specs.Prelude.{true, false, cond, ◌&&◌, List, [], ◌∷◌, ◌++◌, map, ℕ, ◌+◌, ◌*◌, ◌/◌, length, take, drop, ltb, eqb, Ok, Err}
-use Rattle.model.specs.declared.answers.Written.{Written}
-use Rattle.model.specs.declared.answers.Refusal.TheVariants.{ListTooShort}
+-- The cut from left to right. Assumes nothing.
+use Rattle.std.specs.Prelude.{true, false, cond, List, [], ◌∷◌, ◌++◌, map, ℕ, ◌+◌, ltb, eqb}
+use Rattle.model.specs.declared.record.EventRunIndex.{EventRunIndex}
 use Rattle.model.specs.Cut.{HistoryRange, linear, concurrent, range_words}
-use Rattle.graph.specs.declared.cut.Put.{Put}
-use Rattle.graph.specs.declared.cut.Cutting.{Cutting}
+use Rattle.graph.specs.declared.records.Records.{Records}
+use Rattle.graph.specs.Records.{Put, put_all, state}
 
--- One record of `size` words after the others, or none where it does not fit or one before it did not
-unfoldable pub put : ℕ → Put × List ℕ → List ℕ → Put × List ℕ
-put size w ws =
-    cond
-    (eqb w.0.short 0 && ltb w.0.count (length w.1 / size))
-    (record { count = w.0.count + 1; short = 0 }, take (w.0.count * size) w.1 ++ ws ++ drop (w.0.count * size + size) w.1)
-    (record { count = w.0.count; short = 1 }, w.1)
-
--- Records in turn
-unfoldable pub put_all : ℕ → Put × List ℕ → List (List ℕ) → Put × List ℕ
-put_all size w [] = w
-put_all size w (r ∷ rs) = put_all size (put size w r) rs
-
--- Nothing written yet
-abbrev pub blank : Put
-blank = record { count = 0; short = 0 }
-
--- What a call answers after its last record
-unfoldable pub written_of : Put → Written
-written_of p = record { count = p.count; outcome = cond (eqb p.short 0) (Ok tt) (Err ListTooShort) }
+-- What was written, and where the Linear begins that is not written yet
+pub record Cutting : Type 0 where
+  pub put : Put
+  pub first : EventRunIndex
 
 -- The Linear from f to a, if it has a run
 unfoldable pub pending : ℕ → ℕ → List HistoryRange
@@ -51,3 +34,7 @@ closed w a b = put_ranges (w.0.put, w.1) (pending w.0.first.0 a ++ (concurrent a
 -- One range more
 unfoldable pub cut_on : Cutting × List ℕ → ℕ → ℕ → Cutting × List ℕ
 cut_on w a b = cond (eqb b (a + 1)) w (record { put = (closed w a b).0; first = record { 0 = b } }, (closed w a b).1)
+
+-- What was written by the records, with the Linear's begin
+abbrev pub cutting : EventRunIndex → Records → Cutting × List ℕ
+cutting first w = (record { put = (state w).0; first = first }, (state w).1)

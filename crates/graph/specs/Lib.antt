@@ -2,3 +2,5 @@
 pub mod Loops
 pub mod Cutting
 pub mod Rows
+pub mod Records
+pub mod Counts

@@ -11,7 +11,6 @@ use Rattle.model.specs.Split.{splits}
 use Rattle.model.specs.Push.{staying}
 use Rattle.graph.specs.declared.pushing.Own.{Own}
 use Rattle.graph.specs.declared.pushing.ParentCounts.{ParentCounts}
-use Rattle.graph.specs.declared.splitting.Counts.{Counts}
 
 -- the least number, and the largest u32 of none
 unfoldable pub lowest : List ℕ → ℕ
@@ -23,6 +22,12 @@ unfoldable pub marks_of : ℕ → List ℕ → List ℕ → List ℕ
 marks_of r [] ss = []
 marks_of r (x ∷ xs) [] = []
 marks_of r (x ∷ xs) (s ∷ ss) = cond (all (λ t. leb x t) (s ∷ ss)) (r ∷ marks_of (r + 1) xs ss) (marks_of (r + 1) xs ss)
+
+-- what splits change of a record beside its arrays: the counts of runs and entries, and the first run that may have changed
+pub record Counts : Type 0 where
+  pub runs : ℕ
+  pub entries : ℕ
+  pub changed : ℕ
 
 -- the arrays of a record that a split changes, and its counts
 pub record Parts : Type 0 where
@@ -98,6 +103,22 @@ pub record AfterFits (x : Parts) (p : ℕ) : Type 0 where
   pub long : Long x
   pub fits : needs_in x.starts x.counts.runs p ≡ true → SplitFits x (last_at_most x.starts p x.counts.runs)
 
+-- a record with other such arrays and counts, its marks left as they were
+unfoldable pub with_arrays : CausalGraph → Parts → CausalGraph
+with_arrays g x = record {
+  starts = x.starts;
+  parent_starts = x.heads;
+  parents = x.parents;
+  frontier = g.frontier;
+  seen_prefix_len = x.seen;
+  critical_versions = g.critical_versions;
+  run_count = x.counts.runs;
+  entry_count = x.counts.entries;
+  frontier_count = g.frontier_count;
+  mark_count = g.mark_count;
+  changed_from = record { 0 = x.counts.changed };
+}
+
 -- a record with other such arrays and counts, and their marks
 unfoldable pub with_parts : CausalGraph → Parts → CausalGraph
 with_parts g x =
@@ -115,6 +136,10 @@ with_parts g x =
       mark_count = length marks;
       changed_from = record { 0 = x.counts.changed };
     }
+
+-- a record with the marks that its starts and seen lengths give
+unfoldable pub marked : CausalGraph → CausalGraph
+marked g = with_parts g (parts_of g)
 
 -- rising parents, and room for their splits and a run more
 pub record Room (g : Graph) (ps : List ℕ) : Type 0 where
@@ -143,13 +168,6 @@ add_own starts seen n t p =
 unfoldable pub own_all : List ℕ → List ℕ → ℕ → List ℕ × Own → List ℕ → List ℕ × Own
 own_all starts seen n t [] = t
 own_all starts seen n t (p ∷ ps) = own_all starts seen n (add_own starts seen n t p) ps
-
--- the arrays' lengths
-pub record OwnFits (starts seen : List ℕ) (n : ℕ) (items : List ℕ) : Type 0 where
-  pub starts_long : length starts ≡ max_starts
-  pub seen_long : length seen ≡ max_runs
-  pub few : n ≤ max_runs
-  pub items_long : length items ≡ max_entries
 
 -- the lowest of d and the runs of a list that start past s
 unfoldable pub lower_all : List ℕ → ℕ → ℕ → List ℕ → ℕ

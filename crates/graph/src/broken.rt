@@ -1,160 +1,161 @@
-// The test of a graph value, clause by clause of 01's sentence. The arrays are lent, never copied.
-ghost use Rattle.std.specs.Prelude.{◌≡◌, not, ◌&&◌, ◌||◌, ◌+◌, ◌<◌, ◌≤◌, length, get_or, take, drop, eqb, ltb};
-ghost use Rattle.lists.specs.Lists.{same};
-ghost use Rattle.lists.specs.Areas.{zeros, climbs};
-ghost use Rattle.model.specs.Limits.{max_entries, max_frontier, max_runs};
+// The test of a graph value, clause by clause of 01's sentence. The graph is lent, never copied.
+ghost use Rattle.std.specs.Prelude.{◌≡◌, ◌||◌, ◌+◌, eqb};
 ghost use Rattle.model.specs.Broken;
-ghost use Rattle.model.specs.Broken.{frontier_fits};
-ghost use Rattle.graph.specs.Loops.{marks_of};
+ghost use Rattle.graph.specs.Counts.{CountsFit};
 
-use model::{CausalGraph, EventIndex, MAX_ENTRIES, MAX_FRONTIER, MAX_RUNS};
+use model::{CausalGraph, MAX_ENTRIES, MAX_FRONTIER, MAX_RUNS};
 
 // "a count passes its limit"
-fn over_limit(runs: usize, entries: usize, tips: usize, marked: usize) -> bool
-    ensures { result ≡ (ltb max_runs runs || ltb max_entries entries || ltb max_frontier tips || ltb max_runs marked) }
+#[tactic(auto, unfolding(model::specs::Broken::over_limit))]
+fn over_limit(g: &CausalGraph) -> bool
+    ensures { result ≡ Broken.over_limit g.now }
 {
-    if MAX_RUNS < runs {
-        return true;
-    }
-    if MAX_ENTRIES < entries {
-        return true;
-    }
-    if MAX_FRONTIER < tips {
-        return true;
-    }
-    MAX_RUNS < marked
+    MAX_RUNS < g.run_count
+        || MAX_ENTRIES < g.entry_count
+        || MAX_FRONTIER < g.frontier_count
+        || MAX_RUNS < g.mark_count
+}
+
+// "starts are not rising"
+#[tactic(auto, unfolding(model::specs::Broken::bad_starts, model::specs::Record::view))]
+fn bad_starts(g: &CausalGraph) -> bool
+    requires { CountsFit g.now }
+    ensures { result ≡ Broken.bad_starts g.now }
+{
+    !lists::is_rising(&g.starts[..g.run_count + 1])
 }
 
 // "the parent groups do not cover the entries in run order"
-fn bad_groups(heads: &[u32], runs: usize, entries: usize) -> bool
-    requires { runs < length heads.now }
-    ensures { result ≡ not (eqb (get_or heads.now 0 0) 0 && climbs entries (take (runs + 1) heads.now)) }
+#[tactic(auto, unfolding(model::specs::Broken::bad_groups))]
+fn bad_groups(g: &CausalGraph) -> bool
+    requires { CountsFit g.now }
+    ensures { result ≡ Broken.bad_groups g.now }
 {
-    if heads[0] != 0 {
+    if g.parent_starts[0] != 0 {
         return true;
     }
-    !lists::is_climb(&heads[..runs + 1], entries)
+    !lists::is_climb(&g.parent_starts[..g.run_count + 1], g.entry_count)
 }
 
-// Whether event b comes just after event a.
-pub(crate) fn is_next(a: EventIndex, b: EventIndex) -> bool
-    ensures { result ≡ eqb (a.0 + 1) b.0 }
+// That, or "a run's parents are not strictly rising and below it"
+fn bad_parents(g: &CausalGraph) -> bool
+    requires { CountsFit g.now }
+    ensures { result ≡ (Broken.bad_groups g.now || Broken.bad_parents g.now) }
 {
-    if b.0 <= a.0 {
+    if bad_groups(g) {
+        return true;
+    }
+    !lists::groups_fit(
+        &g.parent_starts[..g.run_count + 1],
+        &g.parents[..g.entry_count],
+    )
+}
+
+// Whether b comes just after a, which are events or runs.
+pub(crate) fn is_next(a: u32, b: u32) -> bool
+    ensures { result ≡ eqb (a + 1) b }
+{
+    if b <= a {
         return false;
     }
-    b.0 - a.0 == 1
+    b - a == 1
 }
 
 // "the frontier is not rising and below `len` (its last is `len`-1 where there are runs)"
-fn bad_frontier(frontier: &[u32], tips: usize, runs: usize, len: EventIndex) -> bool
-    requires { tips ≤ length frontier.now }
-    ensures { result ≡ not (frontier_fits runs len.0 (take tips frontier.now)) }
+fn bad_frontier(g: &CausalGraph) -> bool
+    requires { CountsFit g.now }
+    ensures { result ≡ Broken.bad_frontier g.now }
 {
-    let held = &frontier[..tips];
-    if !lists::is_rising(held) {
+    let len = g.starts[g.run_count];
+    let frontier = &g.frontier[..g.frontier_count];
+    if !lists::is_rising(frontier) {
         return true;
     }
-    if !lists::all_below(held, len.0) {
+    if !lists::all_below(frontier, len) {
         return true;
     }
-    if runs == 0 {
+    if g.run_count == 0 {
         return false;
     }
-    if tips == 0 {
+    let Some(last) = frontier.last() else {
         return true;
-    }
-    !is_next(EventIndex(frontier[tips - 1]), len)
+    };
+    !is_next(*last, len)
 }
 
-// Whether the marks are not those that the starts and the seen lengths give.
-fn bad_marks<'a>(
-    starts: &'a [u32],
-    seen: &'a [u32],
-    runs: usize,
-    marks: &'a [u32],
-    marked: usize,
-) -> bool
-    requires runs_le_max_runs { runs ≤ max_runs }
-    requires runs_in_bounds { runs < length starts.now }
-    requires runs_in_bounds_2 { runs ≤ length seen.now }
-    requires marked_in_bounds { marked ≤ length marks.now }
-    ensures { result ≡ not (same (take marked marks.now) (marks_of 0 (take (runs + 1) starts.now) (take runs seen.now))) }
+// "a seen length is below first held or above its run's start"
+#[tactic(auto, unfolding(model::specs::Broken::bad_seen, model::specs::Record::view))]
+fn bad_seen(g: &CausalGraph) -> bool
+    requires { CountsFit g.now }
+    ensures { result ≡ Broken.bad_seen g.now }
 {
-    let k = crate::marks::marks_of(starts, seen, runs);
-    &marks[..marked] != k.as_slice()
+    !lists::is_between(
+        g.starts[0],
+        &g.starts[..g.run_count + 1],
+        &g.seen_prefix_len[..g.run_count],
+    )
 }
 
-// Whether some place past a count is not 0.
-fn bad_padding(
-    starts: &[u32],
-    heads: &[u32],
-    parents: &[u32],
-    frontier: &[u32],
-    seen: &[u32],
-    marks: &[u32],
-) -> bool
-    ensures { result ≡ not (
-        zeros starts.now &&
-        zeros heads.now &&
-        zeros parents.now &&
-        zeros frontier.now &&
-        zeros seen.now &&
-        zeros marks.now
+// "the marks are not the set below"
+fn bad_marks(g: &CausalGraph) -> bool
+    requires { CountsFit g.now }
+    ensures { result ≡ Broken.bad_marks g.now }
+{
+    let marks = crate::marks::marks_of(&g.starts, &g.seen_prefix_len, g.run_count);
+    &g.critical_versions[..g.mark_count] != marks.as_slice()
+}
+
+// "`changed_from` passes the run count"
+#[tactic(auto, unfolding(model::specs::Broken::bad_changed))]
+fn bad_changed(g: &CausalGraph) -> bool
+    ensures { result ≡ Broken.bad_changed g.now }
+{
+    let changed = g.changed_from;
+    g.run_count < changed.0 as usize
+}
+
+// "a place past a count is not 0"
+#[tactic(auto, unfolding(model::specs::Broken::bad_padding))]
+fn bad_padding(g: &CausalGraph) -> bool
+    requires { CountsFit g.now }
+    ensures { result ≡ Broken.bad_padding g.now }
+{
+    !(lists::is_zero(&g.starts[g.run_count + 1..])
+        && lists::is_zero(&g.parent_starts[g.run_count + 1..])
+        && lists::is_zero(&g.parents[g.entry_count..])
+        && lists::is_zero(&g.frontier[g.frontier_count..])
+        && lists::is_zero(&g.seen_prefix_len[g.run_count..])
+        && lists::is_zero(&g.critical_versions[g.mark_count..]))
+}
+
+// What the sentence says but for the limits.
+fn bad_arrays(g: &CausalGraph) -> bool
+    requires { CountsFit g.now }
+    ensures { result ≡ (
+        Broken.bad_starts g.now ||
+        (Broken.bad_groups g.now || Broken.bad_parents g.now) ||
+        Broken.bad_frontier g.now ||
+        Broken.bad_seen g.now ||
+        Broken.bad_marks g.now ||
+        Broken.bad_changed g.now ||
+        Broken.bad_padding g.now
         ) }
 {
-    !(lists::is_zero(starts)
-        && lists::is_zero(heads)
-        && lists::is_zero(parents)
-        && lists::is_zero(frontier)
-        && lists::is_zero(seen)
-        && lists::is_zero(marks))
+    bad_starts(g)
+        || bad_parents(g)
+        || bad_frontier(g)
+        || bad_seen(g)
+        || bad_marks(g)
+        || bad_changed(g)
+        || bad_padding(g)
 }
 
 // Whether a graph is broken.
 pub fn is_broken(g: CausalGraph) -> bool
     ensures { result ≡ Broken.broken g }
 {
-    if over_limit(g.run_count, g.entry_count, g.frontier_count, g.mark_count) {
+    if over_limit(&g) {
         return true;
     }
-    let runs = g.run_count;
-    let first = g.starts[0];
-    let len = g.starts[runs];
-    if !lists::is_rising(&g.starts[..runs + 1]) {
-        return true;
-    }
-    if bad_groups(&g.parent_starts, runs, g.entry_count) {
-        return true;
-    }
-    if !lists::groups_fit(&g.parent_starts[..runs + 1], &g.parents[..g.entry_count]) {
-        return true;
-    }
-    if bad_frontier(&g.frontier, g.frontier_count, runs, EventIndex(len)) {
-        return true;
-    }
-    if !lists::is_between(first, &g.starts[..runs + 1], &g.seen_prefix_len[..runs]) {
-        return true;
-    }
-    if bad_marks(
-        &g.starts,
-        &g.seen_prefix_len,
-        runs,
-        &g.critical_versions,
-        g.mark_count,
-    ) {
-        return true;
-    }
-    let changed = g.changed_from;
-    if runs < changed.0 as usize {
-        return true;
-    }
-    bad_padding(
-        &g.starts[runs + 1..],
-        &g.parent_starts[runs + 1..],
-        &g.parents[g.entry_count..],
-        &g.frontier[g.frontier_count..],
-        &g.seen_prefix_len[runs..],
-        &g.critical_versions[g.mark_count..],
-    )
+    bad_arrays(&g)
 }

@@ -7,6 +7,7 @@ ghost use Rattle.model.specs.Record.{store};
 ghost use Rattle.model.specs.Fresh;
 ghost use Rattle.model.specs.Fresh.{new_of, after_of};
 
+use crate::held::refused;
 use lists::MAX_KEPT;
 use model::{CausalGraph, Changed, EventIndex, EventRunIndex, MAX_FRONTIER, Refusal};
 
@@ -43,11 +44,11 @@ fn fresh_held(events: EventIndex, frontier: &[u32]) -> CausalGraph
     }
 }
 
+// A graph of no events.
 pub fn new() -> CausalGraph
     ensures { result ≡ new_of }
 {
-    let nothing = [0u32; 1];
-    fresh_held(EventIndex(0), &nothing[0..0])
+    fresh_held(EventIndex(0), &[])
 }
 
 // A graph of the events after the first `events`, which every later event has seen and whose frontier is `frontier`.
@@ -55,22 +56,13 @@ pub fn after(events: EventIndex, frontier: &[u32]) -> Changed<()>
     ensures { result ≡ after_of events.0 frontier.now }
 {
     if !lists::is_rising(frontier) {
-        return Changed {
-            graph: new(),
-            answer: Err(Refusal::NotRising),
-        };
+        return refused(new(), Refusal::NotRising);
     }
     if !lists::all_below(frontier, events.0) {
-        return Changed {
-            graph: new(),
-            answer: Err(Refusal::UnknownEvent),
-        };
+        return refused(new(), Refusal::UnknownEvent);
     }
     if MAX_FRONTIER < frontier.len() {
-        return Changed {
-            graph: new(),
-            answer: Err(Refusal::FrontierTooLong),
-        };
+        return refused(new(), Refusal::FrontierTooLong);
     }
     Changed {
         graph: fresh_held(events, frontier),

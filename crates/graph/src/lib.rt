@@ -11,5 +11,6 @@ pub mod lookups;
 pub mod marks;
 pub mod pushing;
 pub mod ranges;
+pub mod records;
 mod splitting;
 pub mod starting;

@@ -87,17 +87,16 @@ pub(crate) fn containing_in(starts: &[u32], runs: usize, event: EventIndex) -> C
 pub fn containing(g: CausalGraph, event: EventIndex) -> Result<Containing, Refusal>
     ensures { result ≡ containing_of g event.0 }
 {
-    let g = HeldGraph::of(g)?.graph;
-    Ok(containing_in(&g.starts, g.run_count, event))
+    let g = HeldGraph::of(g)?;
+    Ok(g.containing(event))
 }
 
 // The number of events, including those before the first held one.
 pub fn len(g: CausalGraph) -> Result<EventIndex, Refusal>
     ensures { result ≡ len_of g }
 {
-    let g = HeldGraph::of(g)?.graph;
-    let runs = g.run_count;
-    Ok(EventIndex(g.starts[runs]))
+    let g = HeldGraph::of(g)?;
+    Ok(g.len())
 }
 
 // Whether there are no runs.
@@ -124,8 +123,8 @@ pub fn frontier(g: CausalGraph) -> Result<FrontierEvents, Refusal>
 pub fn extends_last_event(g: CausalGraph, parents: &[u32]) -> Result<bool, Refusal>
     ensures { result ≡ extends_last_event_of g parents.now }
 {
-    let g = HeldGraph::of(g)?.graph;
-    Ok(crate::pushing::does_extend(g, parents))
+    let g = HeldGraph::of(g)?;
+    Ok(crate::pushing::does_extend(&g, parents))
 }
 
 pub fn first_held_event(g: CausalGraph) -> Result<EventIndex, Refusal>

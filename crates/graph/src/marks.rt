@@ -1,10 +1,10 @@
 // The marks of a graph, in two linear passes.
 ghost use Rattle.std.specs.Prelude.{◌≡◌, ℕ, ◌+◌, ◌<◌, ◌≤◌, get_or, length, take, drop};
 ghost use Rattle.model.specs.Limits.{max_runs};
-ghost use Rattle.graph.specs.Loops.{lowest, marks_of};
+ghost use Rattle.graph.specs.Loops.{lowest, marks_of, marked};
 
 use lists::Kept;
-use model::{MAX_LEN, MAX_RUNS};
+use model::{CausalGraph, MAX_LEN, MAX_RUNS};
 
 // The least seen length from each run on.
 fn lows(seen: &[u32], n: usize) -> [u32; MAX_RUNS]
@@ -23,8 +23,8 @@ fn lows(seen: &[u32], n: usize) -> [u32; MAX_RUNS]
 
 // The runs of which every run from it on has seen at least its start.
 pub fn marks_of<'a>(starts: &'a [u32], seen: &'a [u32], n: usize) -> Kept
-    requires n_in_bounds { n < length starts.now }
-    requires n_in_bounds_2 { n ≤ length seen.now }
+    requires starts_cover { n < length starts.now }
+    requires seen_covers { n ≤ length seen.now }
     requires n_le_max_runs { n ≤ max_runs }
     ensures { result ≡ marks_of 0 (take (n + 1) starts.now) (take n seen.now) }
 {
@@ -34,4 +34,14 @@ pub fn marks_of<'a>(starts: &'a [u32], seen: &'a [u32], n: usize) -> Kept
         marks.push_if(starts[i] <= low[i], i as u32);
     }
     marks
+}
+
+// Puts the marks that a record's starts and seen lengths give.
+pub(crate) fn mark(g: &mut CausalGraph)
+    requires { g.old.run_count ≤ max_runs }
+    ensures { g.new ≡ marked g.old }
+{
+    let marks = marks_of(&g.starts, &g.seen_prefix_len, g.run_count);
+    g.mark_count = marks.len();
+    g.critical_versions = marks.into_array();
 }

@@ -1,32 +1,31 @@
 // What a walk asks of a range before anything is written, in one test of the graph.
-ghost use Rattle.std.specs.Prelude.{◌≡◌};
+ghost use Rattle.std.specs.Prelude.{◌≡◌, Ok, Err, IfOk, IfErr};
 ghost use Rattle.model.specs.Walk.{range_outcome};
 
+use crate::held::HeldGraph;
 use model::{CausalGraph, EventRunIndex, Refusal};
 
-// Whether a graph is not broken, a range of its runs lies inside it, and `known` is at most the range's length: refusals 1, 9, 12.
-// Where the outcome is Done the graph is held, so its arrays may be read as they are.
+// The graph, where it is not broken, a range of its runs lies inside it, and `known` is at most the range's length: else refusals 1, 9, 12.
 pub fn range_outcome(
     g: CausalGraph,
     first: EventRunIndex,
     end: EventRunIndex,
     known: u32,
-) -> Result<(), Refusal>
-    ensures { result ≡ range_outcome g first.0 end.0 known }
+) -> Result<HeldGraph, Refusal>
+    ensures inside { IfOk result (λ h. (h.graph ≡ g) × (range_outcome g first.0 end.0 known ≡ Ok tt)) }
+    ensures refused { IfErr result (λ r. range_outcome g first.0 end.0 known ≡ Err r) }
 {
-    if crate::broken::is_broken(g) {
-        return Err(Refusal::Broken);
-    }
+    let held = HeldGraph::of(g)?;
     let from = first.0;
     let to = end.0;
     if to < from {
         return Err(Refusal::Outside);
     }
-    if g.run_count < to as usize {
+    if held.graph.run_count < to as usize {
         return Err(Refusal::Outside);
     }
     if to - from < known {
         return Err(Refusal::KnownTooLong);
     }
-    Ok(())
+    Ok(held)
 }

@@ -1,167 +1,99 @@
-// A run split in two, and each held parent's run split after it.
-ghost use Rattle.std.specs.Prelude.{◌≡◌, cond, eqb, ◌+◌, ◌<◌, ◌≤◌, ◌^◌, min};
+// A run split in two, and each held parent's run split after it, in the record's own arrays.
+ghost use Rattle.std.specs.Prelude.{◌≡◌, cond, eqb, ◌<◌};
 ghost use Rattle.model.specs.Limits.{max_entries, max_runs};
 ghost use Rattle.model.specs.Graph.{held};
 ghost use Rattle.model.specs.Record.{view, store};
-ghost use Rattle.model.specs.Broken.{Held};
 ghost use Rattle.model.specs.Split;
 ghost use Rattle.model.specs.Split.{split, split_after};
-ghost use Rattle.graph.specs.Loops.{Room, parts, SplitFits, split_in, AfterFits, after_in, with_parts};
+ghost use Rattle.graph.specs.Loops.{Room, parts_of, SplitFits, split_in, AfterFits, after_in, with_arrays};
 
-use model::{
-    CausalGraph, Containing, EventIndex, EventRunIndex, MAX_ENTRIES, MAX_RUNS, MAX_STARTS,
-};
+use crate::held::HeldGraph;
+use model::{CausalGraph, Containing, EventIndex, EventRunIndex};
 
-// What a split run's second part has seen: all before it, if the first had.
-fn seen_from(s: EventIndex, start: EventIndex, at: EventIndex) -> EventIndex
-    ensures { result.0 ≡ cond (eqb s.0 start.0) at.0 s.0 }
+// What is seen up to `end`, if all before `start` is, else just what is: "seen after" a run, and what a split run's second part has seen.
+pub(crate) fn seen_up_to(seen: EventIndex, start: EventIndex, end: EventIndex) -> EventIndex
+    ensures { result.0 ≡ cond (eqb seen.0 start.0) end.0 seen.0 }
 {
-    if s.0 == start.0 { at } else { s }
+    if seen.0 == start.0 {
+        return end;
+    }
+    seen
 }
 
-// What splits change of a record beside its arrays, in one width: the counts of runs and entries, and the first run that may have changed.
-#[derive(Clone, Copy)]
-pub(crate) struct Counts {
-    pub(crate) runs: usize,
-    pub(crate) entries: usize,
-    pub(crate) changed: usize,
-}
-
-// Splits a run so that a new one starts at `at`: a place is taken up in each array.
-fn split_in(
-    starts: &mut [u32],
-    heads: &mut [u32],
-    parents: &mut [u32],
-    seen: &mut [u32],
-    c: Counts,
-    run: EventRunIndex,
-    at: EventIndex,
-) -> Counts
-    requires { SplitFits (parts starts.old heads.old parents.old seen.old c) run.0 }
-    ensures { parts starts.new heads.new parents.new seen.new result ≡
-        split_in (parts starts.old heads.old parents.old seen.old c) run.0 at.0 }
+// Splits a run so that a new one starts at `at`: a place is taken up in each array. The marks are left as they were.
+fn split_in(g: &mut CausalGraph, run: EventRunIndex, at: EventIndex)
+    requires { SplitFits (parts_of g.old) run.0 }
+    ensures { g.new ≡ with_arrays g.old (split_in (parts_of g.old) run.0 at.0) }
 {
-    let runs = c.runs;
-    let entries = c.entries;
+    let runs = g.run_count;
+    let entries = g.entry_count;
+    let was = g.changed_from;
     let place = run.0 as usize;
     let next = place + 1;
-    let later = heads[next];
-    let second = seen_from(EventIndex(seen[place]), EventIndex(starts[place]), at);
-    lists::insert_and_grow(&mut starts[..runs + 2], next, at.0, 0, 0);
-    lists::insert_and_grow(&mut heads[..runs + 2], next, later, 0, 1);
-    lists::insert_and_grow(&mut parents[..entries + 1], later as usize, run.0, run.0, 1);
-    lists::insert_and_grow(&mut seen[..runs + 1], next, second.0, 0, 0);
-    Counts {
-        runs: runs + 1,
-        entries: entries + 1,
-        changed: place.min(c.changed),
-    }
-}
-
-// The record with other arrays and counts, and their marks.
-fn with_parts(
-    g: CausalGraph,
-    starts: [u32; MAX_STARTS],
-    heads: [u32; MAX_STARTS],
-    parents: [u32; MAX_ENTRIES],
-    seen: [u32; MAX_RUNS],
-    c: Counts,
-) -> CausalGraph
-    requires runs_le_max_runs { c.runs ≤ max_runs }
-    requires changed_bound { c.changed < 2 ^ 32 }
-    ensures { result ≡ with_parts g (parts starts heads parents seen c) }
-{
-    let marks = crate::marks::marks_of(&starts, &seen, c.runs);
-    let changed = EventRunIndex(c.changed as u32);
-    let mut h = g;
-    h.starts = starts;
-    h.parent_starts = heads;
-    h.parents = parents;
-    h.seen_prefix_len = seen;
-    h.run_count = c.runs;
-    h.entry_count = c.entries;
-    h.mark_count = marks.len();
-    h.critical_versions = marks.into_array();
-    h.changed_from = changed;
-    h
+    let later = g.parent_starts[next];
+    let second = seen_up_to(
+        EventIndex(g.seen_prefix_len[place]),
+        EventIndex(g.starts[place]),
+        at,
+    );
+    lists::insert_and_grow(&mut g.starts[..runs + 2], next, at.0, 0, 0);
+    lists::insert_and_grow(&mut g.parent_starts[..runs + 2], next, later, 0, 1);
+    lists::insert_and_grow(
+        &mut g.parents[..entries + 1],
+        later as usize,
+        run.0,
+        run.0,
+        1,
+    );
+    lists::insert_and_grow(&mut g.seen_prefix_len[..runs + 1], next, second.0, 0, 0);
+    g.run_count = runs + 1;
+    g.entry_count = entries + 1;
+    g.changed_from = EventRunIndex(run.0.min(was.0));
 }
 
 // Splits a run so that a new one starts at `at`.
-pub(crate) fn split_run(g: CausalGraph, run: EventRunIndex, at: EventIndex) -> CausalGraph
-    requires held { Held g }
-    requires run_bound { run.0 < g.run_count }
-    requires run_count_bound { g.run_count < max_runs }
-    requires entry_count_bound { g.entry_count < max_entries }
-    ensures { result ≡ store (split (view g) run.0 at.0) }
+pub(crate) fn split_run(g: &HeldGraph, run: EventRunIndex, at: EventIndex) -> CausalGraph
+    requires run_bound { run.0 < g.now.graph.run_count }
+    requires run_count_bound { g.now.graph.run_count < max_runs }
+    requires entry_count_bound { g.now.graph.entry_count < max_entries }
+    ensures { result ≡ store (split (view g.now.graph) run.0 at.0) }
 {
-    let mut starts = g.starts;
-    let mut heads = g.parent_starts;
-    let mut parents = g.parents;
-    let mut seen = g.seen_prefix_len;
-    let was = g.changed_from;
-    let c = Counts {
-        runs: g.run_count,
-        entries: g.entry_count,
-        changed: was.0 as usize,
-    };
-    let d = split_in(&mut starts, &mut heads, &mut parents, &mut seen, c, run, at);
-    with_parts(g, starts, heads, parents, seen, d)
+    let mut h = g.graph;
+    split_in(&mut h, run, at);
+    crate::marks::mark(&mut h);
+    h
 }
 
 // Splits the run of a held parent after it, unless a run or the graph ends there.
-fn split_after(
-    starts: &mut [u32],
-    heads: &mut [u32],
-    parents: &mut [u32],
-    seen: &mut [u32],
-    c: Counts,
-    p: EventIndex,
-) -> Counts
-    requires { AfterFits (parts starts.old heads.old parents.old seen.old c) p.0 }
-    ensures { parts starts.new heads.new parents.new seen.new result ≡
-        after_in (parts starts.old heads.old parents.old seen.old c) p.0 }
+fn split_after(g: &mut CausalGraph, p: EventIndex)
+    requires { AfterFits (parts_of g.old) p.0 }
+    ensures { g.new ≡ with_arrays g.old (after_in (parts_of g.old) p.0) }
 {
-    let Containing::Run(run) = crate::lookups::containing_in(starts, c.runs, p) else {
-        return c;
+    let starts = &g.starts[..];
+    let Containing::Run(run) = crate::lookups::containing_in(starts, g.run_count, p) else {
+        return;
     };
     let next = run.0 as usize + 1;
-    if crate::broken::is_next(p, EventIndex(starts[next])) {
-        return c;
+    let end = starts[next];
+    let after = EventIndex(p.0 + 1);
+    if !crate::broken::is_next(p.0, end) {
+        split_in(g, run, after);
     }
-    split_in(starts, heads, parents, seen, c, run, EventIndex(p.0 + 1))
 }
 
 // Splits the runs of held parents after them, one parent after another. `splits` is how many of them split a run.
-pub(crate) fn split_all(g: CausalGraph, ps: &[u32], splits: usize) -> CausalGraph
-    requires held { Held g }
-    requires room { Room (view g) ps.now }
-    requires splits_value { splits ≡ Split.splits (view g) ps.now }
-    ensures { result ≡ store (split_after (view g) (held (view g) ps.now)) }
+pub(crate) fn split_all(g: HeldGraph, ps: &[u32], splits: usize) -> HeldGraph
+    requires room { Room (view g.graph) ps.now }
+    requires splits_value { splits ≡ Split.splits (view g.graph) ps.now }
+    ensures { result.graph ≡ store (split_after (view g.graph) (held (view g.graph) ps.now)) }
 {
     if splits == 0 {
         return g;
     }
-    let mut starts = g.starts;
-    let mut heads = g.parent_starts;
-    let mut parents = g.parents;
-    let mut seen = g.seen_prefix_len;
-    let was = g.changed_from;
-    let mut c = Counts {
-        runs: g.run_count,
-        entries: g.entry_count,
-        changed: was.0 as usize,
-    };
-    let mut i = 0;
-    while i < ps.len() {
-        c = split_after(
-            &mut starts,
-            &mut heads,
-            &mut parents,
-            &mut seen,
-            c,
-            EventIndex(ps[i]),
-        );
-        i += 1;
+    let mut h = g.graph;
+    for p in ps {
+        split_after(&mut h, EventIndex(*p));
     }
-    with_parts(g, starts, heads, parents, seen, c)
+    crate::marks::mark(&mut h);
+    HeldGraph { graph: h }
 }

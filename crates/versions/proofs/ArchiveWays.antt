@@ -29,8 +29,7 @@ use Rattle.model.specs.Archive.{seen_by_later, archive_points, archive_points_of
 use Rattle.model.proofs.Stored.{not-broken}
 use Rattle.model.proofs.FormedReads.{start_mono, start-less}
 use Rattle.model.proofs.Archiving.{Parted, point_parted}
-use Rattle.graph.specs.declared.cut.Put.{Put}
-use Rattle.graph.specs.Cutting.{blank, put_all, written_of}
+use Rattle.graph.specs.Records.{Put, blank, put_all, written_of}
 use Rattle.graph.specs.Loops.{marks_of}
 use Rattle.graph.proofs.Views.{facts, runs-view, start-view, starts-pad}
 use Rattle.graph.proofs.Writing.{put-writing}

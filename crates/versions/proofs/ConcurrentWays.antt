@@ -23,8 +23,7 @@ use Rattle.model.specs.Cut.{unwritten}
 use Rattle.model.specs.History.{at}
 use Rattle.model.specs.Beside.{concurrent_run, concurrency_list, concurrency_outcome, concurrency_list_of}
 use Rattle.model.proofs.Stored.{not-broken}
-use Rattle.graph.specs.declared.cut.Put.{Put}
-use Rattle.graph.specs.Cutting.{blank, put_all, written_of}
+use Rattle.graph.specs.Records.{Put, blank, put_all, written_of}
 use Rattle.versions.specs.Flags.{flag_down, flag_up, free, Flags}
 use Rattle.graph.proofs.Views.{facts, runs-view}
 use Rattle.graph.proofs.Writing.{words_fit}

@@ -17,8 +17,7 @@ use Rattle.lists.specs.Lists.{bit, any, filter, count, from, upto, below}
 use Rattle.lists.proofs.Members.{all_get_d, filter_agree}
 use Rattle.lists.proofs.Counts.{mem-from}
 use Rattle.lists.proofs.Bounds.{below_of, below_at}
-use Rattle.graph.specs.declared.cut.Put.{Put}
-use Rattle.graph.specs.Cutting.{put, put_all}
+use Rattle.graph.specs.Records.{Put, put, put_all}
 use Rattle.graph.specs.Rows.{row, Rows}
 use Rattle.versions.specs.Flags.{flag_all, flag_parents, flag_down, flag_child, flag_up, free}
 

@@ -3,8 +3,7 @@ use mathlib.Core.Path.{◌≡◌, sym, ap}
 use mathlib.Core.List.{List, [], ◌∷◌, map}
 use Prim.Native.Nat.{ℕ, ◌+◌, ◌<◌, ◌≤◌}
 use lib.ListN.{length, drop, get_or}
-use Rattle.graph.specs.declared.cut.Put.{Put}
-use Rattle.graph.specs.Cutting.{put, put_all}
+use Rattle.graph.specs.Records.{Put, put, put_all}
 use Rattle.versions.proofs.Passes.{left-first, left_none, item_below}
 
 -- A start for each of some runs, a word each

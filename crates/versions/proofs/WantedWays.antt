@@ -26,8 +26,7 @@ use Rattle.model.specs.HeldEvents.{held_events}
 use Rattle.model.specs.Wanted.{events_in, ranges, wanted_parents, wanted_outcome, wanted_parents_of}
 use Rattle.model.proofs.Stored.{not-broken}
 use Rattle.model.proofs.FormedReads.{start_mono}
-use Rattle.graph.specs.declared.cut.Put.{Put}
-use Rattle.graph.specs.Cutting.{blank, put_all, written_of}
+use Rattle.graph.specs.Records.{Put, blank, put_all, written_of}
 use Rattle.graph.proofs.Views.{facts, runs-view, start-view, first-view, len-view}
 use Rattle.graph.proofs.Writing.{words_fit}
 use Rattle.versions.specs.Ranges.{words_within, clear_in, Ends, flag_marked, marked_whole, is_top, tops, Starts}

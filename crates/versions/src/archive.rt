@@ -7,13 +7,12 @@ ghost use Rattle.model.specs.Graph.{runs, start};
 ghost use Rattle.model.specs.Record.{view};
 ghost use Rattle.model.specs.Broken.{Held};
 ghost use Rattle.model.specs.Archive.{seen_by_later, archive_points_of};
-ghost use Rattle.graph.specs.Cutting.{blank, put_all};
+ghost use Rattle.graph.specs.Records.{state, same_list, put_all};
 ghost use Rattle.versions.specs.Parents.{parents_in, runs_in};
 ghost use Rattle.versions.specs.Heads.{noted, note_all, first_children, is_head, highest_by, whole_in, HeadsFit, HeadCounts, SeenLengths};
 
 use crate::rows::ParentRows;
-use crate::words::put_one;
-use graph::cut::Put;
+use graph::records::Records;
 use lists::Kept;
 use model::{CausalGraph, EventRunIndex, MAX_RUNS, Refusal, Written};
 
@@ -128,16 +127,14 @@ fn seen_lengths(
 
 // The starts of some runs, a word each.
 #[tactic(auto, using(crate::proofs::Points::writing), unfolding(crate::proofs::Points::points_of))]
-fn put_points(starts: &[u32], points: &[u32], list: &mut [u32]) -> Put
+fn put_points(starts: &[u32], points: &[u32], out: &mut Records)
     requires { below (length starts.now) points.now ≡ true }
-    ensures { (result, list.new) ≡ put_all 1 (blank, list.old)
-        (map (λ m. get_or starts.now m 0 ∷ []) points.now) }
+    ensures same_list { same_list out.new out.old }
+    ensures written { state out.new ≡ put_all 1 (state out.old) (map (λ m. get_or starts.now m 0 ∷ []) points.now) }
 {
-    let mut p = Put { count: 0, short: 0 };
     for q in points {
-        p = put_one(list, p, starts[*q as usize]);
+        out.put([starts[*q as usize]]);
     }
-    p
 }
 
 // The runs that start at archive points.
@@ -159,8 +156,9 @@ fn archive_held(g: &CausalGraph, list: &mut [u32]) -> Written
     ensures { (result, list.new) ≡ archive_points_of g.now list.old }
 {
     let points = point_runs(g);
-    let p = put_points(&g.starts, points.as_slice(), list);
-    graph::cut::written(p)
+    let mut out = Records::over(list);
+    put_points(&g.starts, points.as_slice(), &mut out);
+    out.written()
 }
 
 // The archive points into `list`, rising.

@@ -6,13 +6,12 @@ ghost use Rattle.model.specs.Limits.{max_runs};
 ghost use Rattle.model.specs.Record.{view};
 ghost use Rattle.model.specs.Broken.{Held};
 ghost use Rattle.model.specs.Beside.{concurrency_list_of};
-ghost use Rattle.graph.specs.Cutting.{blank, put, put_all};
+ghost use Rattle.graph.specs.Records.{state, same_list, put, put_all};
 ghost use Rattle.versions.specs.Parents.{parents_in, runs_in};
 ghost use Rattle.versions.specs.Flags.{flag_all, flag_parents, flag_down, flagged, flag_child, flag_up, free, Flags};
 
 use crate::rows::ParentRows;
-use crate::words::put_one;
-use graph::cut::Put;
+use graph::records::Records;
 use model::{CausalGraph, EventRunIndex, MAX_RUNS, Refusal, Written};
 
 // Flags some runs.
@@ -118,27 +117,25 @@ fn count_free(flags: &[u32]) -> usize
 }
 
 // Writes a run if it has no flag.
-fn put_free(list: &mut [u32], p: Put, run: EventRunIndex, flag: u32) -> Put
-    ensures { (result, list.new) ≡ cond (eqb flag 0) (put 1 (p, list.old) (run.0 ∷ [])) (p, list.old) }
+fn put_free(out: &mut Records, run: EventRunIndex, flag: u32)
+    ensures same_list { same_list out.new out.old }
+    ensures written { state out.new ≡ cond (eqb flag 0) (put 1 (state out.old) (run.0 ∷ [])) (state out.old) }
 {
     if flag == 0 {
-        return put_one(list, p, run.0);
+        out.put([run.0]);
     }
-    p
 }
 
 // The runs that have no flag, a word each.
 #[tactic(auto, using(crate::proofs::Passes::freeing))]
-fn put_all_free(flags: &[u32], list: &mut [u32]) -> Put
+fn put_all_free(flags: &[u32], out: &mut Records)
     requires { length flags.now ≤ max_runs }
-    ensures { (result, list.new) ≡ put_all 1 (blank, list.old)
-        (map (λ q. q ∷ []) (free flags.now (length flags.now))) }
+    ensures same_list { same_list out.new out.old }
+    ensures written { state out.new ≡ put_all 1 (state out.old) (map (λ q. q ∷ []) (free flags.now (length flags.now))) }
 {
-    let mut p = Put { count: 0, short: 0 };
     for (q, flag) in flags.iter().enumerate() {
-        p = put_free(list, p, EventRunIndex(q as u32), *flag);
+        put_free(out, EventRunIndex(q as u32), *flag);
     }
-    p
 }
 
 // `concurrent_runs` on a graph that is known not to be broken.
@@ -161,8 +158,9 @@ fn concurrent_held(g: &CausalGraph, run: EventRunIndex, list: &mut [u32]) -> Wri
             outcome: Err(Refusal::ListTooShort),
         };
     }
-    let p = put_all_free(&flags[..n], list);
-    graph::cut::written(p)
+    let mut out = Records::over(list);
+    put_all_free(&flags[..n], &mut out);
+    out.written()
 }
 
 // The runs that are neither ancestor nor descendant of `run`, nor `run` itself, into `list`, rising.

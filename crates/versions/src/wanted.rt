@@ -15,6 +15,7 @@ use crate::concurrent::flag_all;
 use crate::ranges::EventRanges;
 use crate::rows::ParentRows;
 use crate::words::put_all;
+use graph::records::Records;
 use lists::Kept;
 use model::{CausalGraph, EventIndex, EventRunIndex, MAX_RUNS, Refusal, Written};
 
@@ -114,8 +115,9 @@ fn wanted_held(g: &CausalGraph, ranges: EventRanges, list: &mut [u32]) -> Writte
             outcome: Err(Refusal::ListTooShort),
         };
     }
-    let p = put_all(found.as_slice(), list);
-    graph::cut::written(p)
+    let mut out = Records::over(list);
+    put_all(found.as_slice(), &mut out);
+    out.written()
 }
 
 // The parents to push so that the new event has seen the events of `ranges` (first and end, exclusive, of each in turn), and no others,

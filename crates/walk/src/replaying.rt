@@ -1,6 +1,5 @@
 // Full replay: the ranges of the cut, one after another.
 ghost use Rattle.std.specs.Prelude.{◌≡◌, ◌+◌, ◌-◌, ◌*◌, ◌<◌, ◌≤◌, ◌^◌, false, length};
-ghost use Rattle.model.specs.Broken.{Held};
 ghost use Rattle.model.specs.Replay.{replay_of};
 ghost use Rattle.walk.specs.Ranges.{ArraysOf, range_at};
 ghost use Rattle.walk.specs.Walked.{ranged, unwritten, replay_on, replay_all};
@@ -9,7 +8,8 @@ ghost use Rattle.walk.specs.CutRecords.{range_by, ranges_in, Tiled};
 use crate::areas::Areas;
 use crate::walking;
 use crate::walking::Ranged;
-use model::{CausalGraph, EventRunIndex, MAX_RUNS, Refusal, Walked};
+use graph::held::HeldGraph;
+use model::{CausalGraph, EventRunIndex, MAX_RUNS, Walked};
 use moves::writing;
 use moves::writing::{Kind, Out};
 use tables::words::get;
@@ -87,26 +87,25 @@ fn replay_all(
 }
 
 // Full replay of a graph that is known not to be broken.
-pub fn replay_held(g: CausalGraph, rows: &mut [u32], steps: &mut [u32]) -> Walked
-    requires { Held g }
-    ensures { (result, rows.new, steps.new) ≡ replay_of g rows.old steps.old }
+pub fn replay_held(g: &HeldGraph, rows: &mut [u32], steps: &mut [u32]) -> Walked
+    ensures { (result, rows.new, steps.new) ≡ replay_of g.now.graph rows.old steps.old }
 {
     // Three words for each range, of which there are at most as many as runs.
     let mut cut = [0; 3 * MAX_RUNS];
     let w = graph::cut::cut_held(g, EventRunIndex(0), &mut cut);
-    walking::walked(replay_all(w.count, &cut, &g, rows, steps))
+    walking::walked(replay_all(w.count, &cut, &g.graph, rows, steps))
 }
 
 // Full replay: rows of each range into `rows`, all steps into `steps`.
 pub fn replay(g: CausalGraph, rows: &mut [u32], steps: &mut [u32]) -> Walked
     ensures { (result, rows.new, steps.new) ≡ replay_of g rows.old steps.old }
 {
-    if graph::broken::is_broken(g) {
-        return Walked {
+    match HeldGraph::of(g) {
+        Ok(held) => replay_held(&held, rows, steps),
+        Err(r) => Walked {
             count: 0,
             moved: 0,
-            outcome: Err(Refusal::Broken),
-        };
+            outcome: Err(r),
+        },
     }
-    replay_held(g, rows, steps)
 }

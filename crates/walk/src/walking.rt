@@ -1,7 +1,6 @@
 // `walk` over a range of runs.
 ghost use Rattle.std.specs.Prelude.{◌≡◌, ◌+◌, ◌-◌, ◌*◌, ◌<◌, ◌≤◌, ◌^◌, false, max, min};
 ghost use Rattle.model.specs.Record.{view};
-ghost use Rattle.model.specs.Broken.{Held};
 ghost use Rattle.model.specs.Walk.{walk_of, walk_range};
 ghost use Rattle.walk.specs.Ranges.{ArraysOf, range_at};
 ghost use Rattle.walk.specs.Walked.{unwritten, walked_in, walked_of};
@@ -9,6 +8,7 @@ ghost use Rattle.walk.specs.Walked.{unwritten, walked_in, walked_of};
 use crate::areas::Areas;
 use crate::given::Given;
 use crate::visiting;
+use graph::held::HeldGraph;
 use graph::ranges;
 use model::{CausalGraph, EventRunIndex, Refusal, Walked};
 use moves::writing::Out;
@@ -105,7 +105,7 @@ pub(crate) fn walked(r: Ranged) -> Walked
 
 // `walk` on a graph that is known not to be broken and a range inside it.
 fn walk_held(
-    g: CausalGraph,
+    g: &HeldGraph,
     a: EventRunIndex,
     b: EventRunIndex,
     known: u32,
@@ -113,9 +113,8 @@ fn walk_held(
     rows: &mut [u32],
     steps: &mut [u32],
 ) -> Walked
-    requires held { Held g }
-    requires inside { (a.0 ≤ b.0) × (b.0 ≤ g.run_count) × (known ≤ b.0 - a.0) }
-    ensures { (result, rows.new, steps.new) ≡ walk_range (view g) a.0 b.0 known first rows.old steps.old }
+    requires { (a.0 ≤ b.0) × (b.0 ≤ g.now.graph.run_count) × (known ≤ b.0 - a.0) }
+    ensures { (result, rows.new, steps.new) ≡ walk_range (view g.now.graph) a.0 b.0 known first rows.old steps.old }
 {
     let out = Out {
         count: 0,
@@ -123,7 +122,7 @@ fn walk_held(
         short: false,
     };
     let mut areas = Areas::new();
-    walked(walk_range(out, a, b, known, first, &g, rows, steps, &mut areas))
+    walked(walk_range(out, a, b, known, first, &g.graph, rows, steps, &mut areas))
 }
 
 // The walk over the runs from `first_run` up to `end_run`: rows into `rows`, steps into `steps`.
@@ -138,13 +137,12 @@ pub fn walk(
 ) -> Walked
     ensures { (result, rows.new, steps.new) ≡ walk_of g first_run.0 end_run.0 known first rows.old steps.old }
 {
-    let o = ranges::range_outcome(g, first_run, end_run, known);
-    match o {
+    match ranges::range_outcome(g, first_run, end_run, known) {
+        Ok(held) => walk_held(&held, first_run, end_run, known, first, rows, steps),
         Err(r) => Walked {
             count: 0,
             moved: 0,
             outcome: Err(r),
         },
-        Ok(()) => walk_held(g, first_run, end_run, known, first, rows, steps),
     }
 }

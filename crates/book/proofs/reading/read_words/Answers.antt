@@ -9,11 +9,11 @@ pub returns-in_default : goal.returns-in_default
 unfolding book_read
 returns-in_default c = header_cut _ _ _ c.in_default.ensures c.new.ensures c.answered.ensures
 
-pub pushes-requires : goal.pushes-requires
-pushes-requires c = rw c.after-made.ensures (after-held _ _)
+pub known-requires : goal.known-requires
+known-requires c = rw c.after-made.ensures (after-held _ _)
 
 pub returns-in-Ok : goal.returns-in-Ok
-returns-in-Ok c = c.pushes.ensures ∙ header_done _ _ _ _ _ c.in-Some.ensures _ c.after-made.ensures c.in-Ok.is
+returns-in-Ok c = (rw c.known.ensures at c.pushes.ensures) ∙ header_done _ _ _ _ _ c.in-Some.ensures _ c.after-made.ensures c.in-Ok.is
 
 pub returns-in-Err : goal.returns-in-Err
 unfolding book_read

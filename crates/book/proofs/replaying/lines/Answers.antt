@@ -6,7 +6,7 @@ use Rattle.book.proofs.Whole.{line_printed, lines_whole, lines_refused}
 use Rattle.book.proofs.replaying.lines.Goals as goal
 
 pub returns-in-Ok : goal.returns-in-Ok
-returns-in-Ok c = c.replay_lines.ensures ∙ ap (λ (ls : List Line). printing ls c.args.out.now) (lines_whole c.args.read c.in-Ok.is)
+returns-in-Ok c = (rw c.known.ensures at c.replay_lines.ensures) ∙ ap (λ (ls : List Line). printing ls c.args.out.now) (lines_whole c.args.read c.in-Ok.is)
 
 pub returns-in-Err : goal.returns-in-Err
 returns-in-Err c =

@@ -4,15 +4,15 @@ use Rattle.book.proofs.Whole.{count_fits, replay_printed}
 use Rattle.book.proofs.replaying.replay_lines.Goals as goal
 
 pub overflow_mul-words : goal.overflow_mul-words
-overflow_mul-words c = let h = count_fits c.args.g c.requires _ _ _ c.replay_held-walked.ensures in search rules
+overflow_mul-words c = let h = count_fits c.args.g.now.graph c.args.g.now.held _ _ _ c.replay_held-walked.ensures in search rules
 
 pub slice_bounds-steps-end : goal.slice_bounds-steps-end
-slice_bounds-steps-end c = let h = count_fits c.args.g c.requires _ _ _ c.replay_held-walked.ensures in search rules
+slice_bounds-steps-end c = let h = count_fits c.args.g.now.graph c.args.g.now.held _ _ _ c.replay_held-walked.ensures in search rules
 
 pub slice_bounds-put_steps-end : goal.slice_bounds-put_steps-end
-slice_bounds-put_steps-end c = let h = count_fits c.args.g c.requires _ _ _ c.replay_held-walked.ensures in search rules
+slice_bounds-put_steps-end c = let h = count_fits c.args.g.now.graph c.args.g.now.held _ _ _ c.replay_held-walked.ensures in search rules
 
 pub returns : goal.returns
 returns c =
-    replay_printed c.args.g c.requires _ _ _ c.replay_held-walked.ensures
+    replay_printed c.args.g.now.graph c.args.g.now.held _ _ _ c.replay_held-walked.ensures
     c.args.out.now _ _ _ _ _ _ c.new-printed.ensures c.put_steps.ensures c.last_line.ensures c.put.ensures

@@ -1,29 +1,30 @@
--- `graph::cut::cut_from` meets its contract. The loop's invariant: what is left, written from here, is the whole. The measure is what is left of `n`. Assumes nothing.
-use mathlib.Core.Path.{refl, ◌∙◌, ap}
-use mathlib.Core.List.{List}
-use Prim.Native.Nat.{ℕ, ◌+◌}
-use lib.ListN.{drop, take}
+-- `graph::cut::cut_from` meets its contract: a turn of the loop is a range more. Assumes nothing.
+use Rattle.std.proofs.Common.{ap, ◌∙◌, List, ℕ, ◌+◌, drop}
 use Rattle.model.specs.Cut.{ranges_from}
-use Rattle.graph.specs.declared.cut.Cutting.{Cutting}
+use Rattle.graph.specs.Records.{state}
+use Rattle.graph.specs.Cutting.{Cutting, cutting}
 use Rattle.graph.proofs.Joining.{cut_rest, cut_begin, cut_turn, cut_end}
 use Rattle.graph.proofs.cut.cut_from.Goals as goal
 
-pub loop-i-init : goal.loop-i-init
-loop-i-init c = (refl, refl)
-
 pub loop-i-preserved : goal.loop-i-preserved
 loop-i-preserved c =
-    let a = c.args in
-    let p = c.requires in
     let l = c.loop-i in
-    (c.cut_on-s.auto.list ∙ l.invariant.0, ap (λ (w : Cutting × List ℕ). cut_rest w (ranges_from (drop (l.i + 1) (take a.n a.marks.now)) a.end.0) a.end.0) c.cut_on-s.ensures ∙ (cut_turn a.marks.now a.n a.end.0 (p) (l.s, l.list) l.i c.mark_at.result.0 c.loop-i-test.true c.mark_at.ensures ∙ l.invariant.1))
+    let ms = c.args.marks.now in
+    let end = c.args.end.0 in
+    record {
+      same_list = c.cut_on-first.ensures.same_list ∙ l.invariant.same_list;
+      rest =
+          ap (λ (w : Cutting × List ℕ). cut_rest w (ranges_from (drop (l.i + 1) ms) end) end) c.cut_on-first.ensures.written
+          ∙ cut_turn (cutting l.first l.out) ms l.i c.mark_at.result.0 end c.loop-i-test.true c.mark_at.ensures
+          ∙ l.invariant.rest;
+    }
 
-pub shape_of-list : goal.shape_of-list
-shape_of-list c = c.put_linear.auto.list ∙ c.loop-i.invariant.0
-
-pub returns : goal.returns
-returns c =
+pub returns-clause-written : goal.returns-clause-written
+returns-clause-written c =
     let a = c.args in
-    let p = c.requires in
     let l = c.loop-i in
-    c.put_linear.ensures ∙ (cut_end a.marks.now a.n a.end.0 (p) (l.s, l.list) l.i c.loop-i-test.false ∙ (l.invariant.1 ∙ cut_begin a.marks.now a.n a.end.0 (p) _ _ a.from c.mark_at-head.result c.mark_at-head.ensures))
+    let w = state a.out.now in
+    c.put_linear.ensures.written
+    ∙ cut_end (cutting l.first l.out) a.marks.now l.i a.end.0 c.loop-i-test.false
+    ∙ l.invariant.rest
+    ∙ cut_begin w.0 w.1 a.marks.now a.from a.end.0 c.mark_at-first.result c.mark_at-first.ensures

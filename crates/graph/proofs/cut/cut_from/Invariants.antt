@@ -1,13 +1,13 @@
--- `graph::cut::cut_from` meets its contract. The loop's invariant: what is left, written from here, is the whole. The measure is what is left of `n`. Assumes nothing.
-use mathlib.Core.Path.{◌≡◌}
-use Prim.Native.Nat.{◌-◌}
-use lib.ListN.{length, drop, take}
+-- `graph::cut::cut_from` meets its contract. The loop's invariant: what is left, written from here, is the whole. Assumes nothing.
+use Rattle.std.proofs.Common.{◌≡◌, drop}
 use Rattle.model.specs.Cut.{ranges_from}
+use Rattle.graph.specs.Records.{same_list}
+use Rattle.graph.specs.Cutting.{cutting}
 use Rattle.graph.proofs.Joining.{cut_rest}
 use Rattle.graph.proofs.cut.cut_from.Given as goal
 
 abbrev pub invariant-loop-i : goal.invariant-loop-i
-invariant-loop-i l = (length l.list ≡ length l.initial.list) × (cut_rest (l.s, l.list) (ranges_from (drop l.i (take l.n l.marks)) l.end.0) l.end.0 ≡ cut_rest (l.initial.s, l.initial.list) (ranges_from (drop l.initial.i (take l.n l.marks)) l.end.0) l.end.0)
-
-abbrev pub decreases-loop-i : goal.decreases-loop-i
-decreases-loop-i l = l.n - l.i
+invariant-loop-i l = record {
+  same_list : same_list l.out l.initial.out;
+  rest : cut_rest (cutting l.first l.out) (ranges_from (drop l.i l.marks) l.end.0) l.end.0 ≡ cut_rest (cutting l.initial.first l.initial.out) (ranges_from (drop l.from l.marks) l.end.0) l.end.0;
+}

@@ -1,14 +1,16 @@
 -- `graph::cut::cut_on` meets its contract: a single run goes on with the Linear, any other range closes it. Assumes nothing.
-use mathlib.Core.Path.{sym, ◌∙◌}
+use Rattle.std.proofs.Common.{sym, ◌∙◌, ◌+◌}
+use Rattle.lists.proofs.Truth.{eqb_sym}
+use Rattle.graph.specs.Cutting.{cutting}
 use Rattle.graph.proofs.Joining.{on_single, on_closed}
 use Rattle.graph.proofs.cut.cut_on.Goals as goal
 
-pub returns-then-is_single : goal.returns-then-is_single
-returns-then-is_single c =
+pub returns-then-is_next-clause-written : goal.returns-then-is_next-clause-written
+returns-then-is_next-clause-written c =
     let a = c.args in
-    sym (on_single (a.s, a.list.now) a.a.0 a.b.0 (sym c.is_single.ensures ∙ c.if-is_single.true))
+    sym (on_single (cutting a.first a.out.now) a.a.0 a.b.0 (eqb_sym a.b.0 (a.a.0 + 1) ∙ sym c.is_next.ensures ∙ c.if-is_next.true))
 
-pub returns : goal.returns
-returns c =
+pub returns-clause-written : goal.returns-clause-written
+returns-clause-written c =
     let a = c.args in
-    on_closed (a.s, a.list.now) a.a.0 a.b.0 (sym c.is_single.ensures ∙ c.if-is_single.false) _ _ _ _ c.put_linear-p.ensures c.put_three-q.ensures
+    on_closed (cutting a.first a.out.now) a.a.0 a.b.0 (eqb_sym a.b.0 (a.a.0 + 1) ∙ sym c.is_next.ensures ∙ c.if-is_next.false) _ _ _ _ c.put_linear.ensures.written c.put.ensures.written

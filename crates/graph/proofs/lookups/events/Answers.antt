@@ -1,9 +1,7 @@
 -- `graph::lookups::events` meets its contract: its two tests are those of the definition, and its reads are those of the graph. Assumes nothing.
-use mathlib.Core.Path.{sym, ◌∙◌}
 use Prim.Native.Nat.{suc}
 use native.Mathlib.Omega.{arith}
 use native.Mathlib.Numerals.{add-one}
-use borrow.Author.Rules.{rules}
 use borrow.Author.Tests.{le-leb, lt-leb}
 use Rattle.model.specs.Graph.{runs}
 use Rattle.model.specs.Record.{view}

@@ -1,8 +1,7 @@
 -- `graph::lookups::extends_last_event` meets its contract: refused where the graph is broken; else the graph is held. Assumes nothing.
-use mathlib.Core.Path.{refl, sym, ◌∙◌}
-use borrow.Author.Rules.{rules}
-use Rattle.model.specs.Lookups.{extends_last_event_of}
+use Rattle.std.proofs.Common.{refl}
 use Rattle.std.proofs.lemmas.Result.{err_from_is_err_and}
+use Rattle.model.specs.Lookups.{extends_last_event_of}
 use Rattle.graph.proofs.Looking.{look_broken, look_done}
 use Rattle.graph.proofs.lookups.extends_last_event.Goals as goal
 
@@ -13,12 +12,9 @@ returns-in_err-g c =
     let e = c.in_err-g.ensures.err in
     rw (p.1, p.2, e.0, look_broken c.args.g e.1)
 
-pub does_extend-requires : goal.does_extend-requires
-does_extend-requires c = c.in_ok-g.field-0.held
-
 pub returns : goal.returns
 unfolding extends_last_event_of
 returns c =
-    let k = c.in_ok-g.field-0 in
+    let k = c.in_ok-g.g in
     let same = c.in_ok-g.ensures.ok in
     rw (← same.0) (rw (look_done k.graph same.1 _ refl, c.does_extend.ensures))

@@ -22,4 +22,4 @@ pub returns : goal.returns
 returns c =
     let a = c.args in
     let e : c.loop-i.i ≡ a.n = omega arith in
-    c.loop-i.invariant ∙ ap (marked_by a.n a.starts.now a.seen.now) e ∙ marked_end a.n a.starts.now a.seen.now c.requires.n_in_bounds c.requires.n_in_bounds_2
+    c.loop-i.invariant ∙ ap (marked_by a.n a.starts.now a.seen.now) e ∙ marked_end a.n a.starts.now a.seen.now c.requires.starts_cover c.requires.seen_covers

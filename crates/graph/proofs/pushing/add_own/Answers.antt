@@ -1,46 +1,45 @@
 -- `graph::pushing::add_own` meets its contract: nothing for a parent that lies in no run, else its run is put in place. Assumes nothing.
-use Prim.Native.Nat.{◌+◌}
-use native.Mathlib.Omega.{arith}
-use mathlib.Core.Path.{ap}
+use Rattle.std.proofs.Common.{arith, ap, ◌+◌}
 use Rattle.lists.specs.Lists.{bit}
 use Rattle.graph.specs.Loops.{side_in}
-use Rattle.graph.proofs.Placing.{found, found_held, told-out}
+use Rattle.graph.proofs.Views.{facts}
+use Rattle.graph.proofs.Placing.{found, found_held, told-out, by_starts}
 use Rattle.graph.proofs.Owning.{own_no, own_yes}
 use Rattle.graph.proofs.pushing.add_own.Goals as goal
 
 pub returns-in_default : goal.returns-in_default
 returns-in_default c =
-    let a = c.args in
-    own_no a.starts.now a.seen.now a.runs (a.items.now, a.t) a.p.0
-    (told-out (side_in a.starts.now a.runs a.p.0) c.containing_in.ensures c.in_default.not-Run)
+    let k = c.args.g.now in
+    let g = k.graph in
+    let p = c.args.p.0 in
+    own_no g.starts g.seen_prefix_len g.run_count (c.args.items.now, c.args.t) p
+    (told-out (side_in g.starts g.run_count p) (by_starts g k.held p c.containing.ensures) c.in_default.not-Run)
 
-pub bounds-seen-place : goal.bounds-seen-place
-bounds-seen-place c =
-    let a = c.args in
-    let w = c.requires.own_fits in
-    omega (arith, (found a.starts.now a.runs a.p.0 c.in-Run.run' c.containing_in.ensures c.in-Run.is).low, w.seen_long, w.few)
+pub bounds-g-place : goal.bounds-g-place
+bounds-g-place c =
+    let k = c.args.g.now in
+    omega (arith, (found k.graph.starts k.graph.run_count c.args.p.0 c.in-Run.run' (by_starts k.graph k.held c.args.p.0 c.containing.ensures) c.in-Run.is).low, (facts k.graph k.held).runs)
 
-pub bounds-starts-place : goal.bounds-starts-place
-bounds-starts-place c =
-    let a = c.args in
-    let w = c.requires.own_fits in
-    omega (arith, (found a.starts.now a.runs a.p.0 c.in-Run.run' c.containing_in.ensures c.in-Run.is).low, w.starts_long, w.few)
+pub bounds-g-place-2 : goal.bounds-g-place-2
+bounds-g-place-2 c =
+    let k = c.args.g.now in
+    omega (arith, (found k.graph.starts k.graph.run_count c.args.p.0 c.in-Run.run' (by_starts k.graph k.held c.args.p.0 c.containing.ensures) c.in-Run.is).low, (facts k.graph k.held).runs)
 
-pub bounds-starts-next : goal.bounds-starts-next
-bounds-starts-next c =
-    let a = c.args in
-    let w = c.requires.own_fits in
-    omega (arith, (found a.starts.now a.runs a.p.0 c.in-Run.run' c.containing_in.ensures c.in-Run.is).low, w.starts_long, w.few)
+pub bounds-g-next : goal.bounds-g-next
+bounds-g-next c =
+    let k = c.args.g.now in
+    omega (arith, (found k.graph.starts k.graph.run_count c.args.p.0 c.in-Run.run' (by_starts k.graph k.held c.args.p.0 c.containing.ensures) c.in-Run.is).low, (facts k.graph k.held).runs)
 
 pub bounds-items-n : goal.bounds-items-n
 bounds-items-n c =
-    let a = c.args in
-    let w = c.requires in
-    omega (arith, ap bit (found_held (found a.starts.now a.runs a.p.0 c.in-Run.run' c.containing_in.ensures c.in-Run.is)), w.p_bound, w.own_fits.items_long)
+    let k = c.args.g.now in
+    omega (arith, ap bit (found_held (found k.graph.starts k.graph.run_count c.args.p.0 c.in-Run.run' (by_starts k.graph k.held c.args.p.0 c.containing.ensures) c.in-Run.is)), c.requires)
 
 pub returns : goal.returns
 returns c =
-    let a = c.args in
-    own_yes a.starts.now a.seen.now a.runs a.items.now a.t _ a.p.0 _ _
-    (found a.starts.now a.runs a.p.0 c.in-Run.run' c.containing_in.ensures c.in-Run.is) c.seen_after-after.ensures
-    (λ i. record { count = a.t.count + 1; seen = record { 0 = c.max.ensures i } })
+    let k = c.args.g.now in
+    let g = k.graph in
+    let t = c.args.t in
+    own_yes g.starts g.seen_prefix_len g.run_count c.args.items.now t _ c.args.p.0 _ _
+    (found g.starts g.run_count c.args.p.0 c.in-Run.run' (by_starts g k.held c.args.p.0 c.containing.ensures) c.in-Run.is) c.seen_up_to-after.ensures
+    (λ i. record { count = t.count + 1; seen = record { 0 = c.max.ensures i } })

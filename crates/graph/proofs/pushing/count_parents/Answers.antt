@@ -1,50 +1,33 @@
--- `graph::pushing::count_parents` meets its contract. The loop's invariant: no count is above `i`, and with those of the rest they are the
--- counts of all the parents. The measure is what is left of the parents. Assumes nothing.
-use mathlib.Core.Path.{sym, ap, ◌∙◌}
-use Prim.Native.Nat.{◌+◌}
-use native.Mathlib.Omega.{arith}
-use lib.ListN.{drop, get_or}
+-- `graph::pushing::count_parents` meets its contract: a turn counts one parent more. Assumes nothing.
+use Rattle.std.proofs.Common.{arith, sym, ap, ◌∙◌, ◌+◌, drop, get_or}
 use Rattle.graph.specs.declared.pushing.ParentCounts.{ParentCounts}
 use Rattle.graph.specs.Loops.{count_parents}
 use Rattle.graph.proofs.Counting.{plus_counts, count_most, counts_start, counts-next, counts_end}
 use Rattle.graph.proofs.pushing.count_parents.Goals as goal
 
-pub loop-i-init : goal.loop-i-init
-loop-i-init c =
-    let a = c.args in (omega arith, (omega arith, (omega arith, (omega arith, counts_start a.starts.now a.runs a.ps.now))))
+pub loop-p-init : goal.loop-p-init
+loop-p-init c =
+    let g = c.args.g.now.graph in
+    record { unknown = omega arith; held = omega arith; splits = omega arith; all = counts_start g.starts g.run_count c.args.ps.now }
 
-pub count_parent-t-requires : goal.count_parent-t-requires
-count_parent-t-requires c =
-    let v = c.loop-i.invariant in
-    let h = c.loop-i-test.true in
-    record { runs_le_max_runs = c.requires.runs_le_max_runs; starts_len = c.requires.starts_len; unknown_bound = omega (arith, v); held_bound = omega (arith, v); splits_bound = omega (arith, v) }
-
-pub loop-i-preserved : goal.loop-i-preserved
-loop-i-preserved c =
-    let a = c.args in
-    let l = c.loop-i in
-    let p = get_or a.ps.now l.i 0 in
-    let m = count_most a.starts.now a.runs l.t p in
+pub loop-p-preserved : goal.loop-p-preserved
+loop-p-preserved c =
+    let g = c.args.g.now.graph in
+    let l = c.loop-p in
+    let ps = c.args.ps.now in
+    let m = count_most g.starts g.run_count l.t (get_or ps l.p-index 0) in
     let e = c.count_parent-t.ensures in
-    let u = ap (λ (x : ParentCounts). x.unknown) e in
-    let v = ap (λ (x : ParentCounts). x.held) e in
-    let w = ap (λ (x : ParentCounts). x.splits) e in (
-      omega arith,
-      (
-        omega (arith, u, m.0, l.invariant.1.0),
-        (
-          omega (arith, v, m.1.0, l.invariant.1.1.0),
-          (
-            omega (arith, w, m.1.1, l.invariant.1.1.1.0),
-            ap (λ (x : ParentCounts). plus_counts x (count_parents a.starts.now a.runs (drop (l.i + 1) a.ps.now))) e
-                ∙ counts-next a.starts.now a.runs a.ps.now l.t l.i c.loop-i-test.true ∙ l.invariant.1.1.1.1,
-          ),
-        ),
-      ),
-    )
+    record {
+      unknown = omega (arith, ap (λ (x : ParentCounts). x.unknown) e, m.0, l.invariant.unknown);
+      held = omega (arith, ap (λ (x : ParentCounts). x.held) e, m.1.0, l.invariant.held);
+      splits = omega (arith, ap (λ (x : ParentCounts). x.splits) e, m.1.1, l.invariant.splits);
+      all =
+          ap (λ (x : ParentCounts). plus_counts x (count_parents g.starts g.run_count (drop (l.p-index + 1) ps))) e
+          ∙ counts-next g.starts g.run_count ps l.t l.p-index c.loop-p-test.true ∙ l.invariant.all;
+    }
 
 pub returns : goal.returns
 returns c =
-    let a = c.args in
-    let l = c.loop-i in
-    sym (counts_end a.starts.now a.runs a.ps.now l.t l.i c.loop-i-test.false) ∙ l.invariant.1.1.1.1
+    let g = c.args.g.now.graph in
+    let l = c.loop-p in
+    sym (counts_end g.starts g.run_count c.args.ps.now l.t l.p-index c.loop-p-test.false) ∙ l.invariant.all

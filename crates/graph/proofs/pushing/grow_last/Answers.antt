@@ -1,31 +1,30 @@
-use native.Mathlib.Omega.{arith}
+-- `graph::pushing::grow_last` meets its contract: the last start and the last of the frontier are set. Assumes nothing.
+use Rattle.std.proofs.Common.{arith}
 use Rattle.graph.proofs.Views.{facts}
 use Rattle.graph.proofs.Extending.{some_tip, grown-stored}
 use Rattle.graph.proofs.pushing.grow_last.Goals as goal
 
 pub overflow_cast-runs : goal.overflow_cast-runs
-overflow_cast-runs c = omega (arith, (facts c.args.g c.requires.held).runs)
+overflow_cast-runs c = omega (arith, (facts c.args.g.now.graph c.args.g.now.held).runs)
 
 pub offset_bounds-h-runs : goal.offset_bounds-h-runs
-offset_bounds-h-runs c = omega (arith, (facts c.args.g c.requires.held).runs)
+offset_bounds-h-runs c = omega (arith, (facts c.args.g.now.graph c.args.g.now.held).runs)
 
 pub bounds-h-runs : goal.bounds-h-runs
-bounds-h-runs c = omega (arith, (facts c.args.g c.requires.held).runs)
+bounds-h-runs c = omega (arith, (facts c.args.g.now.graph c.args.g.now.held).runs)
 
 pub overflow_sub-h-2 : goal.overflow_sub-h-2
-overflow_sub-h-2 c = omega (arith, some_tip c.args.g c.requires.held c.requires.run_count_nonzero)
+overflow_sub-h-2 c = omega (arith, some_tip c.args.g.now.graph c.args.g.now.held c.requires.some_runs)
 
 pub offset_bounds-h-tips : goal.offset_bounds-h-tips
-offset_bounds-h-tips c = omega (arith, (facts c.args.g c.requires.held).tips)
+offset_bounds-h-tips c = omega (arith, (facts c.args.g.now.graph c.args.g.now.held).tips)
 
 pub bounds-h-tips : goal.bounds-h-tips
 bounds-h-tips c =
-    let a = c.args in
-    let p = c.requires in
-    omega (arith, (facts a.g p.held).tips, some_tip a.g p.held p.run_count_nonzero)
+    let k = c.args.g.now in
+    omega (arith, (facts k.graph k.held).tips, some_tip k.graph k.held c.requires.some_runs)
 
 pub returns : goal.returns
 returns c =
-    let a = c.args in
-    let p = c.requires in
-    grown-stored a.g p.held p.run_count_nonzero a.n a.start.0 _ p.start_value c.min.ensures
+    let k = c.args.g.now in
+    grown-stored k.graph k.held c.requires.some_runs c.args.n c.len.result.0 _ c.len.ensures c.min.ensures

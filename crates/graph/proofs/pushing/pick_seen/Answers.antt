@@ -4,7 +4,7 @@ use Rattle.lists.proofs.Scanning.{same-pointwise}
 use Rattle.graph.proofs.pushing.pick_seen.Goals as goal
 
 pub returns-then-eq : goal.returns-then-eq
-returns-then-eq c = rw (← same-pointwise, sym c.eq.ensures ∙ c.if-eq.true)
+returns-then-eq c = rw (← c.frontier.ensures, ← same-pointwise, sym c.eq.ensures ∙ c.if-eq.true)
 
 pub returns : goal.returns
-returns c = rw (← same-pointwise, sym c.eq.ensures ∙ c.if-eq.false)
+returns c = rw (← c.frontier.ensures, ← same-pointwise, sym c.eq.ensures ∙ c.if-eq.false)

@@ -1,17 +1,14 @@
 -- `graph::pushing::push` meets its contract: a broken graph is refused, and one that is not broken is held. Assumes nothing.
-use mathlib.Core.Path.{sym, ◌∙◌}
-use Rattle.model.proofs.Stored.{held_of}
+use Rattle.std.proofs.Common.{◌∙◌}
 use Rattle.graph.proofs.PushWays.{broken-out, unbroken-out}
-use borrow.Author.Rules.{rules}
 use Rattle.graph.proofs.pushing.push.Goals as goal
 
-pub returns-then-is_broken : goal.returns-then-is_broken
-returns-then-is_broken c = let a = c.args in broken-out a.g a.parents.now a.len (sym c.is_broken.ensures ∙ c.if-is_broken.true)
+pub returns-in-Ok : goal.returns-in-Ok
+returns-in-Ok c =
+    let e = c.in-Ok.ensures.ok in
+    rw (← e.0) (c.push_held-answer.ensures ∙ unbroken-out c.in-Ok.held.graph c.args.parents.now c.args.len e.1)
 
-pub push_held-requires : goal.push_held-requires
-push_held-requires c = held_of c.args.g (search rules) (sym c.is_broken.ensures ∙ c.if-is_broken.false)
-
-pub returns : goal.returns
-returns c =
-    let a = c.args in
-    c.push_held.ensures ∙ unbroken-out a.g a.parents.now a.len (sym c.is_broken.ensures ∙ c.if-is_broken.false)
+pub returns-in-Err : goal.returns-in-Err
+returns-in-Err c =
+    let e = c.in-Err.ensures.err in
+    rw (c.refused.ensures, e.0) (broken-out c.args.g c.args.parents.now c.args.len e.1)

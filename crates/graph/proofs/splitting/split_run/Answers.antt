@@ -1,25 +1,21 @@
--- `graph::splitting::split_run` meets its contract: the fields are copied out once, split in place, and the record is made once. Assumes nothing.
-use mathlib.Core.Path.{◌∙◌, ap}
-use native.Mathlib.Omega.{arith}
-use Rattle.graph.specs.Loops.{Parts, with_parts}
-use Rattle.graph.proofs.SplitParts.{fits_of, split_parts}
+-- `graph::splitting::split_run` meets its contract: the record is copied once, split in place, and its marks are made once. Assumes nothing.
+use Rattle.std.proofs.Common.{arith, ap, ◌∙◌}
+use Rattle.model.specs.declared.record.CausalGraph.{CausalGraph}
+use Rattle.graph.specs.Loops.{with_arrays}
+use Rattle.graph.proofs.SplitParts.{fits_of, split-marked}
 use Rattle.graph.proofs.splitting.split_run.Goals as goal
 
-pub split_in-d-requires : goal.split_in-d-requires
-split_in-d-requires c =
-    let a = c.args in
+pub split_in-requires : goal.split_in-requires
+split_in-requires c =
+    let k = c.args.g.now in
     let p = c.requires in
-    fits_of a.g p.held a.run.0 p.run_bound p.run_count_bound p.entry_count_bound
+    fits_of k.graph k.held c.args.run.0 p.run_bound p.run_count_bound p.entry_count_bound
 
-pub with_parts-requires : goal.with_parts-requires
-with_parts-requires c =
-    let a = c.args in
-    let p = c.requires in
-    let e = c.split_in-d.ensures in
-    record { runs_le_max_runs = omega (arith, ap (λ (x : Parts). x.counts.runs) e, p.run_count_bound); changed_bound = omega (arith, ap (λ (x : Parts). x.counts.changed) e, p.run_bound, p.run_count_bound) }
+pub mark-requires : goal.mark-requires
+unfolding with_arrays
+mark-requires c = omega (arith, ap (λ (x : CausalGraph). x.run_count) c.split_in.ensures, c.requires.run_count_bound)
 
 pub returns : goal.returns
 returns c =
-    let a = c.args in
-    let p = c.requires in
-    c.with_parts.ensures ∙ ap (with_parts a.g) c.split_in-d.ensures ∙ split_parts a.g p.held a.run.0 a.at.0 p.run_bound
+    let k = c.args.g.now in
+    c.mark.ensures ∙ split-marked k.graph k.held c.args.run.0 c.args.at.0 c.requires.run_bound c.split_in.ensures

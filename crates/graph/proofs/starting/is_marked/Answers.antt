@@ -1,18 +1,12 @@
 -- `graph::starting::is_marked` meets its contract: a run is among the marks exactly if it is marked. Assumes nothing.
-use mathlib.Core.Path.{◌∙◌}
-use native.Mathlib.Omega.{arith}
+use Rattle.std.proofs.Common.{arith, ◌∙◌}
 use Rattle.lists.proofs.Scanning.{mem-list_any}
-use Rattle.graph.proofs.Views.{facts}
-use Rattle.graph.proofs.StartWays.{marked-mem}
+use Rattle.model.specs.Record.{view}
+use Rattle.model.proofs.Lasting.{marks_list}
+use Rattle.graph.proofs.Views.{runs-view}
 use Rattle.graph.proofs.starting.is_marked.Goals as goal
-
-pub shared_ref_as_front-contains : goal.shared_ref_as_front-contains
-shared_ref_as_front-contains c =
-    let f = facts c.args.g c.requires.held in
-    omega (arith, f.marked, f.sized.critical_versions)
 
 pub returns : goal.returns
 returns c =
-    let p = c.requires in
-    let a = c.args in
-    c.contains.ensures.value ∙ mem-list_any _ _ ∙ marked-mem a.g p.held a.run.0 p.run_bound
+    let k = c.args.g.now in
+    c.contains.ensures.value ∙ mem-list_any c.args.run.0 c.marks.result.now ∙ rw c.marks.ensures (marks_list (view k.graph) c.args.run.0 (omega (arith, runs-view k.graph k.held, c.requires)))

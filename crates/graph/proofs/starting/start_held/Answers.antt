@@ -1,28 +1,24 @@
 -- `graph::starting::start_held` meets its contract: in no run it is told false. Assumes nothing.
-use mathlib.Core.Path.{sym, ap, ◌∙◌}
-use Rattle.model.specs.Graph.{is_held}
+use Rattle.std.proofs.Common.{sym, ◌∙◌}
+use Rattle.model.specs.Graph.{side}
+use Rattle.model.specs.Record.{view}
 use Rattle.model.specs.Start.{told}
-use Rattle.graph.specs.Loops.{side_in}
-use Rattle.graph.proofs.Views.{facts}
-use Rattle.graph.proofs.Placing.{found, told-out, side-view}
+use Rattle.graph.proofs.Placing.{told-run, told-out}
 use Rattle.graph.proofs.StartWays.{start_outside}
 use Rattle.graph.proofs.starting.start_held.Goals as goal
-
-pub containing_in-requires : goal.containing_in-requires
-containing_in-requires c =
-    let f = facts c.args.g c.requires in
-    record { runs_le_max_runs = f.runs; starts_len = f.sized.starts }
 
 pub returns-in_default : goal.returns-in_default
 unfolding told
 returns-in_default c =
-    let g = c.args.g in
+    let k = c.args.g.now in
+    let g = k.graph in
     let at = c.args.at.0 in
     start_outside g at
-    (ap is_held (sym (side-view g c.requires at)) ∙ told-out (side_in g.starts g.run_count at) c.containing_in.ensures c.in_default.not-Run)
+    (told-out (side (view g) at) c.containing.ensures c.in_default.not-Run)
 
 pub start_in-requires : goal.start_in-requires
 start_in-requires c =
-    let g = c.args.g in
+    let k = c.args.g.now in
+    let g = k.graph in
     let at = c.args.at.0 in
-    record { held = c.requires; at_value = sym (side-view g c.requires at) ∙ (found g.starts g.run_count at c.in-Run.run' c.containing_in.ensures c.in-Run.is).there }
+    told-run (side (view g) at) c.in-Run.run' (sym c.containing.ensures ∙ c.in-Run.is)

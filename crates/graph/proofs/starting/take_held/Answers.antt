@@ -5,7 +5,7 @@ use Rattle.graph.proofs.StartWays.{take-taken}
 use Rattle.graph.proofs.starting.take_held.Goals as goal
 
 pub overflow_cast-none : goal.overflow_cast-none
-overflow_cast-none c = omega (arith, facts c.args.g c.requires)
+overflow_cast-none c = omega (arith, facts c.args.g.graph c.args.g.held)
 
 pub returns : goal.returns
-returns c = take-taken c.args.g c.requires
+returns c = take-taken c.args.g.graph c.args.g.held

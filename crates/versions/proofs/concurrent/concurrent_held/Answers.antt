@@ -1,7 +1,8 @@
 -- `versions::concurrent::concurrent_held` meets its contract: each way out of the concurrency list is one law. Assumes nothing.
-use Rattle.std.proofs.Common.{◌≤◌, ℕ, List, [], ◌∷◌, map, length, length-take, ◌∙◌, ap, arith}
+use Rattle.std.proofs.Common.{rules, ◌≡◌, ◌≤◌, ℕ, List, [], ◌∷◌, map, length, length-take, ◌∙◌, ap, arith}
 use Rattle.graph.proofs.Views.{facts}
-use Rattle.graph.specs.Cutting.{blank, put_all}
+use Rattle.graph.specs.Records.{blank, put_all}
+use Rattle.model.specs.Beside.{concurrency_list_of}
 use Rattle.versions.proofs.Passes.{free_counted, free_part}
 use Rattle.versions.proofs.ConcurrentWays.{concurrent_outside, concurrent_short, concurrent_done}
 use Rattle.versions.proofs.concurrent.concurrent_held.Goals as goal
@@ -28,6 +29,10 @@ returns c =
     let flags = c.flags_of-flags in
     let fits : g.run_count ≤ length flags.result = omega (arith, (facts g c.requires).runs) in
     let count = free_counted flags.result g.run_count fits in
-    let put = c.put_all_free-p.ensures ∙ ap (λ (qs : List ℕ). put_all 1 (blank, c.args.list.now) (map (λ q. q ∷ []) qs)) (free_part flags.result g.run_count fits) in
+    let done = (rw c.over-out.ensures.begun at c.put_all_free.ensures.written)
+    ∙ ap (λ (qs : List ℕ). put_all 1 (blank, c.args.list.now) (map (λ q. q ∷ []) qs)) (free_part flags.result g.run_count fits) in
+    let all : (c.written.result, c.put_all_free.new.out.list.now) ≡ concurrency_list_of g c.args.run.0 c.args.list.now =
     rw c.written.ensures (concurrent_done g c.args.run.0 c.args.list.now c.requires c.if-n-run.false flags.result flags.ensures
-    (omega (arith, count, c.count_free.ensures, c.if-list-count_free.false)) _ _ put)
+    (omega (arith, count, c.count_free.ensures, c.if-list-count_free.false)) _ _ done) in
+    let back : (x : List ℕ) → x ≡ c.put_all_free.new.out.list.now → (c.written.result, x) ≡ concurrency_list_of g c.args.run.0 c.args.list.now = λ x e. rw e all in
+    search (rules, back)

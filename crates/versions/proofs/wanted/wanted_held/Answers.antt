@@ -1,6 +1,7 @@
 -- `versions::wanted::wanted_held` meets its contract: 17 where a range begins inside a run or a parent run is not whole, 11, or done. Assumes nothing.
-use Rattle.std.proofs.Common.{◌≤◌, length, sym, ◌∙◌, arith}
+use Rattle.std.proofs.Common.{rules, ◌≡◌, ◌≤◌, List, ℕ, length, sym, ◌∙◌, arith}
 use Rattle.graph.proofs.Views.{facts}
+use Rattle.model.specs.Wanted.{wanted_parents_of}
 use Rattle.versions.specs.Parents.{parents_in}
 use Rattle.versions.proofs.WantedWays.{starts_of, wanted_inside, wanted_parted, wanted_short, wanted_done}
 use Rattle.versions.proofs.wanted.wanted_held.Goals as goal
@@ -48,6 +49,10 @@ returns c =
     let ends = c.marked_ends-ends in
     let clear = sym c.all_clear.ensures ∙ c.if-not-all_clear.false in
     let long : a.g.now.run_count ≤ length ends.result = omega (arith, (facts a.g.now p.held).runs) in
+    let done = rw (c.as_slice.ensures, c.over-out.ensures.begun) at c.put_all.ensures.written in
+    let all : (c.written.result, c.put_all.new.out.list.now) ≡ wanted_parents_of a.g.now a.ranges.words.now a.list.now =
     rw c.written.ensures (wanted_done a.g.now a.ranges.words.now a.list.now p.held a.ranges.paired p.events_held clear ends.result ends.ensures long
     (parents_in all.result) all.ensures.parents c.flag_marked-flags.result c.flag_marked-flags.ensures
-    (sym c.all_whole.ensures ∙ c.if-not-all_whole.false) c.top_events-found.result c.top_events-found.ensures (omega (arith, c.len.ensures.value, c.if-list-len.false)) _ _ (rw c.as_slice.ensures at c.put_all-p.ensures))
+    (sym c.all_whole.ensures ∙ c.if-not-all_whole.false) c.top_events-found.result c.top_events-found.ensures (omega (arith, c.len.ensures.value, c.if-list-len.false)) _ _ done) in
+    let back : (x : List ℕ) → x ≡ c.put_all.new.out.list.now → (c.written.result, x) ≡ wanted_parents_of a.g.now a.ranges.words.now a.list.now = λ x e. rw e all in
+    search (rules, back)

@@ -1,6 +1,6 @@
--- `graph::pushing::seen_after` meets its contract, by the test's two cases. Assumes nothing.
+-- `graph::splitting::seen_up_to` meets its contract, by the test's two cases. Assumes nothing.
 use borrow.Author.Tests.{eq-eqb, ne_eqb}
-use Rattle.graph.proofs.pushing.seen_after.Goals as goal
+use Rattle.graph.proofs.splitting.seen_up_to.Goals as goal
 
 pub returns-then-seen-start : goal.returns-then-seen-start
 returns-then-seen-start c = rw (eq-eqb _ _ c.if-seen-start.true)
