@@ -2,11 +2,11 @@
 use crate::limits::{MAX_ENTRIES, MAX_FRONTIER, MAX_RUNS, MAX_STARTS};
 
 // An event's number, in the order in which this replica learned of it.
-#[derive(Clone, Copy)]
+#[derive(Clone, Copy, Debug, PartialEq, Eq, PartialOrd, Ord)]
 pub struct EventIndex(pub u32);
 
 // A run's position among the graph's runs, which shifts when an earlier run splits.
-#[derive(Clone, Copy)]
+#[derive(Clone, Copy, Debug, PartialEq, Eq, PartialOrd, Ord)]
 pub struct EventRunIndex(pub u32);
 
 // An event graph: each event's parents, without its operation. Arrays hold bare numbers; every place past a count is 0.
