@@ -1,11 +1,10 @@
 -- The words that bytes begin with: how many, the next of them, those that are left after some. Assumes nothing.
-use Rattle.std.proofs.Common.{◌≡◌, refl, sym, ◌∙◌, ap, List, [], ◌∷◌, ◌++◌, ℕ, zero, suc, ◌+◌, ◌-◌, ◌*◌, ◌/◌, ◌<◌, ◌≤◌, length, get_or, take, drop, append_assoc, append-nil, add-one, arith, drop-cons, length-drop, Bool, true, false, subst}
+use Rattle.std.proofs.Common.{◌≡◌, refl, sym, ◌∙◌, ap, List, [], ◌∷◌, ◌++◌, ℕ, zero, suc, ◌+◌, ◌-◌, ◌*◌, ◌/◌, ◌<◌, ◌≤◌, length, get_or, take, drop, append_assoc, append-nil, add-one, arith}
+use Rattle.std.proofs.Common.{drop-cons, length-drop, Bool, true, false, subst, set, ltb, drop-drop, get_or-drop}
 use Rattle.std.proofs.Math.Option.{none, some, none-ne-some, some-injective}
 use Rattle.std.specs.Int.{w32, from_le_bytes}
 use Rattle.std.specs.List.{IsSplitAt}
-use lib.ListN.{set}
-use lib.Dec.{ltb}
-use lib.Seq.{drop-drop, get_or-drop, set_at}
+use lib.Seq.{set_at}
 use Rattle.model.specs.Book.{word, words_of, take_words}
 use Rattle.std.proofs.lemmas.List.{drop_all}
 use Rattle.model.proofs.BookWords.{Parted, taken, cut_off}

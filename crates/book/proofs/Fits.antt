@@ -1,17 +1,11 @@
 -- Lines put into a lent buffer one after the other: what they leave, in closed form. Assumes nothing.
-use mathlib.Core.Path.{◌≡◌, refl, sym, ◌∙◌, ap}
-use mathlib.Core.Bool.{Bool, true, false}
-use mathlib.Core.List.{List, [], ◌∷◌, ◌++◌, map, append_assoc}
-use Prim.Native.Nat.{ℕ, ◌+◌, ◌-◌, ◌<◌, ◌≤◌}
-use native.Mathlib.Omega.{arith}
-use lib.ListN.{length, get_or, take, drop, length-append, length-drop}
-use lib.Seq.{take-append_seam, drop-append-add, drop-drop}
-use lib.Dec.{ltb}
-use borrow.Author.Tests.{lt-ltb, le-ltb, le-leb, lt-leb, ltb-true}
+use Rattle.std.proofs.Common.{◌≡◌, refl, sym, ◌∙◌, ap, Bool, true, false, List, [], ◌∷◌, ◌++◌, map, append_assoc, ℕ, ◌+◌, ◌-◌, ◌<◌, ◌≤◌, arith, length, get_or, take, drop, length-append}
+use Rattle.std.proofs.Common.{length-drop, drop-drop, ltb, lt-ltb, le-ltb, le-leb, ltb-true, ◌⊎◌, inl, inr}
+use lib.Seq.{take-append_seam, drop-append-add}
+use borrow.Author.Tests.{lt-leb}
 use Rattle.lists.specs.Lists.{concat}
 use Rattle.lists.specs.Areas.{over, fitting}
 use Rattle.lists.proofs.Truth.{lt_or_le, bool_iff}
-use mathlib.Core.Logic.{◌⊎◌, inl, inr}
 use Rattle.model.specs.Reader.{decoded}
 use Rattle.model.specs.Print.{Line as PrintLine, text}
 use Rattle.book.specs.declared.printing.Printed.{Printed}

@@ -1,11 +1,6 @@
 -- The run numbers in a replay's steps are at most the run count. Assumes nothing.
-use mathlib.Core.Bool.{Bool, true, false, not, ◌&&◌}
-use mathlib.Core.List.{List, [], ◌∷◌, ◌++◌, map}
+use Rattle.std.proofs.Common.{Bool, true, false, not, ◌&&◌, List, [], ◌∷◌, ◌++◌, map, ℕ, zero, suc, ◌+◌, ◌-◌, ◌<◌, ◌≤◌, max, arith, length, take, ltb, eqb}
 use mathlib.Core.Option.{Option, none, some}
-use Prim.Native.Nat.{ℕ, zero, suc, ◌+◌, ◌-◌, ◌<◌, ◌≤◌, max}
-use native.Mathlib.Omega.{arith}
-use lib.ListN.{length, take}
-use lib.Dec.{ltb, eqb}
 use Rattle.lists.specs.Lists.{all, filter, from, upto, mem}
 use Rattle.lists.proofs.Each.{All, all_map, all_append, all_filter, all_from}
 use Rattle.model.specs.declared.answers.Refusal.TheVariants.{ListTooShort, RowsTooLong}

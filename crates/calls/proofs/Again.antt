@@ -1,8 +1,5 @@
 -- Two run starts at one event with a list of calls between them are those that 02's law speaks of (F-4). Assumes nothing.
-use mathlib.Core.Path.{◌≡◌, sym, ap, ◌∙◌, subst}
-use mathlib.Core.Bool.{true}
-use mathlib.Core.List.{List, ◌∷◌, ◌++◌}
-use Prim.Native.Nat.{ℕ}
+use Rattle.std.proofs.Common.{◌≡◌, sym, ap, ◌∙◌, subst, true, List, ◌∷◌, ◌++◌, ℕ}
 use Rattle.model.specs.declared.record.CausalGraph.{CausalGraph}
 use Rattle.model.specs.Start.{told, start_run_at_of}
 use Rattle.model.specs.Log.{Fresh, Call, start_run_at, Log, answer, made_by}

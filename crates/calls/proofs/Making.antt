@@ -1,7 +1,6 @@
 -- The start and the calls that words begin with, one after another, and the graph that they make. Assumes nothing.
-use Rattle.std.proofs.Common.{◌≡◌, refl, sym, ◌∙◌, ap, List, [], ◌∷◌, ◌++◌, ℕ, zero, suc, ◌+◌, ◌<◌, length, length-append, arith, Bool, true, false}
+use Rattle.std.proofs.Common.{◌≡◌, refl, sym, ◌∙◌, ap, List, [], ◌∷◌, ◌++◌, ℕ, zero, suc, ◌+◌, ◌<◌, length, length-append, arith, Bool, true, false, drop}
 use lib.Seq.{take-append_seam, drop-append_seam}
-use lib.ListN.{drop}
 use Rattle.model.specs.declared.record.CausalGraph.{CausalGraph}
 use Rattle.model.specs.Fresh.{new_of}
 use Rattle.model.specs.Log.{Fresh, new, after, Call, push, start_run_at, take_changed_from, Log, begin, begin_log, answer, note, after_calls, made_by}

@@ -1,7 +1,6 @@
 -- Words that begin with no start or no call, and the parts of a call. Assumes nothing.
-use Rattle.std.proofs.Common.{◌≡◌, refl, ◌∙◌, ap, List, [], ◌∷◌, ℕ, ◌+◌, ◌-◌, ◌≤◌, ◌<◌, length, get_or, arith, Bool, true, false, cond}
-use lib.Dec.{leb, eqb}
-use borrow.Author.Tests.{leb-true, le-leb, lt-leb, ne_eqb}
+use Rattle.std.proofs.Common.{◌≡◌, refl, ◌∙◌, ap, List, [], ◌∷◌, ℕ, ◌+◌, ◌-◌, ◌≤◌, ◌<◌, length, get_or, arith, Bool, true, false, cond, leb, eqb, leb-true, le-leb, ne_eqb}
+use borrow.Author.Tests.{lt-leb}
 use Rattle.calls.specs.Words.{operation, whole, listed, start_size, call_operation, call_size}
 
 -- The size of a call that is there, and of one that is cut off

@@ -1,10 +1,7 @@
 -- A new run in the record: what the assembled record holds, and what its parts are. Assumes nothing.
-use mathlib.Core.Path.{◌≡◌, refl, sym, ap, ◌∙◌}
-use mathlib.Core.Bool.{not, cond}
-use mathlib.Core.List.{List, [], ◌∷◌, ◌++◌, append_assoc, append-nil}
-use Prim.Native.Nat.{ℕ, suc, ◌+◌, ◌-◌, ◌<◌, ◌≤◌, min}
-use native.Mathlib.Omega.{arith}
-use lib.ListN.{length, take, set, replicate, length-append, length-map}
+use Rattle.std.proofs.Common.{◌≡◌, refl, sym, ap, ◌∙◌, not, cond, List, [], ◌∷◌, ◌++◌, append_assoc, append-nil, ℕ, suc, ◌+◌, ◌-◌, ◌<◌, ◌≤◌, min, arith, length, take, set, replicate}
+use Rattle.std.proofs.Common.{length-append}
+use lib.ListN.{length-map}
 use lib.Seq.{set_at}
 use Rattle.lists.specs.Lists.{filter, mem, same, concat}
 use Rattle.lists.specs.Areas.{pad, group_starts}

@@ -1,10 +1,5 @@
 -- A fresh record, place by place, and the ways out of `after`. Assumes nothing.
-use mathlib.Core.Path.{◌≡◌, refl, sym, ap, ◌∙◌}
-use mathlib.Core.Bool.{true, false}
-use mathlib.Core.List.{List, [], ◌∷◌}
-use Prim.Native.Nat.{ℕ, ◌<◌, ◌≤◌}
-use lib.ListN.{length, set}
-use borrow.Author.Tests.{lt-ltb, le-ltb}
+use Rattle.std.proofs.Common.{◌≡◌, refl, sym, ap, ◌∙◌, true, false, List, [], ◌∷◌, ℕ, ◌<◌, ◌≤◌, length, set, lt-ltb, le-ltb}
 use Rattle.lists.specs.Lists.{rising, below, filter, upto, from, concat, sum}
 use Rattle.lists.specs.Areas.{pad, group_starts}
 use Rattle.model.specs.declared.record.CausalGraph.{CausalGraph}

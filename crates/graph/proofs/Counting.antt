@@ -1,12 +1,5 @@
 -- A push's parents counted by where they lie: one more, and the loop over all. Assumes nothing.
-use mathlib.Core.Path.{◌≡◌, sym, ap, ◌∙◌}
-use mathlib.Core.Bool.{Bool, false, not}
-use mathlib.Core.List.{List}
-use Prim.Native.Nat.{ℕ, ◌+◌, ◌≤◌, ◌<◌}
-use native.Mathlib.Nat.{zero-add}
-use native.Mathlib.Omega.{arith}
-use lib.ListN.{length, drop, get_or}
-use lib.Dec.{eqb}
+use Rattle.std.proofs.Common.{◌≡◌, sym, ap, ◌∙◌, Bool, false, not, List, ℕ, ◌+◌, ◌≤◌, ◌<◌, zero-add, arith, length, drop, get_or, eqb}
 use Rattle.lists.specs.Lists.{bit, count}
 use Rattle.lists.proofs.Truth.{bit_le}
 use Rattle.lists.proofs.Counts.{count_next, count_end}

@@ -1,20 +1,12 @@
 -- The cut from left to right is the cut of the definition. Assumes nothing.
-use mathlib.Core.Path.{◌≡◌, refl, sym, ap, ◌∙◌}
-use mathlib.Core.Logic.{◌⊎◌, inl, inr}
-use mathlib.Core.Bool.{Bool, true, false, cond}
-use mathlib.Core.List.{List, [], ◌∷◌, ◌++◌}
-use Prim.Native.Nat.{ℕ, zero, suc, ◌+◌, ◌<◌, ◌≤◌}
-use native.Mathlib.Numerals.{add-one}
-use native.Mathlib.Omega.{arith}
-use lib.ListN.{length, drop, get_or}
-use lib.Seq.{drop-nil, get_or-drop}
-use lib.Dec.{leb, ltb, eqb}
-use borrow.Author.Tests.{lt-ltb, le-ltb, le-leb, lt-leb, eq-eqb, eqb-true}
+use Rattle.std.proofs.Common.{Some, None, position, ◌≡◌, refl, sym, ap, ◌∙◌, ◌⊎◌, inl, inr, Bool, true, false, cond, List, [], ◌∷◌, ◌++◌, ℕ, zero, suc, ◌+◌, ◌<◌, ◌≤◌, add-one, arith, length, drop}
+use Rattle.std.proofs.Common.{get_or, get_or-drop, leb, ltb, eqb, lt-ltb, le-ltb, le-leb, eq-eqb, eqb-true}
+use lib.Seq.{drop-nil}
+use borrow.Author.Tests.{lt-leb}
 use Rattle.lists.specs.Lists.{filter, mem}
 use Rattle.lists.proofs.Truth.{lt_or_le, false_true, not_so}
 use Rattle.lists.proofs.Rising.{Up}
 use Rattle.model.specs.Cut.{HistoryRange, linear, concurrent, ranges_from, join_linear, join_ranges}
-use Rattle.std.proofs.Common.{Some, None, position}
 use Rattle.std.specs.List.{position_or_len}
 use Rattle.std.proofs.lemmas.Grind.{common_steps}
 use Rattle.std.proofs.lemmas.List.Sums.{fails_before_first}

@@ -1,9 +1,5 @@
 -- A run's parents among the entries of a record that is held. Assumes nothing.
-use mathlib.Core.Path.{◌≡◌, refl, sym}
-use mathlib.Core.Bool.{true}
-use mathlib.Core.List.{List, [], ◌∷◌}
-use Prim.Native.Nat.{ℕ, zero, suc, ◌<◌}
-use native.Mathlib.Omega.{arith}
+use Rattle.std.proofs.Common.{◌≡◌, refl, sym, true, List, [], ◌∷◌, ℕ, zero, suc, ◌<◌, arith}
 use Rattle.lists.specs.Lists.{rising}
 use Rattle.lists.specs.Scans.{groups_fit}
 use Rattle.lists.proofs.Bounds.{below_of}

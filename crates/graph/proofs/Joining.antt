@@ -1,11 +1,5 @@
 -- Ranges written one after the other, as the cut's code does. Assumes nothing.
-use mathlib.Core.Path.{◌≡◌, refl, sym, ap, ◌∙◌}
-use mathlib.Core.Bool.{Bool, true, false}
-use mathlib.Core.List.{List, [], ◌∷◌, ◌++◌, map, append_assoc}
-use Prim.Native.Nat.{ℕ, ◌+◌, ◌<◌, ◌≤◌}
-use lib.ListN.{length, drop, get_or}
-use lib.Dec.{eqb}
-use borrow.Author.Tests.{lt-ltb, le-ltb}
+use Rattle.std.proofs.Common.{◌≡◌, refl, sym, ap, ◌∙◌, Bool, true, false, List, [], ◌∷◌, ◌++◌, map, append_assoc, ℕ, ◌+◌, ◌<◌, ◌≤◌, length, drop, get_or, eqb, lt-ltb, le-ltb}
 use Rattle.model.specs.Cut.{HistoryRange, concurrent, range_words, ranges_from}
 use Rattle.model.specs.declared.record.EventRunIndex.{EventRunIndex}
 use Rattle.graph.specs.Records.{Put, put, put_all}

@@ -1,14 +1,6 @@
 -- The lookups in the words of the code's tests: what is refused, and what is read. Assumes nothing.
-use mathlib.Core.Path.{◌≡◌, refl, ◌∙◌}
-use mathlib.Core.Bool.{Bool, true, false, ◌&&◌}
-use mathlib.Core.List.{List, [], ◌∷◌}
-use Prim.Native.Nat.{ℕ, zero, suc, ◌+◌, ◌-◌, ◌<◌, ◌≤◌}
-use native.Mathlib.Numerals.{add-one}
-use native.Mathlib.Omega.{arith}
-use lib.ListN.{length, take, get_or, length-take}
-use lib.Seq.{get_or-take}
-use lib.Dec.{ltb}
-use borrow.Author.Tests.{ltb-true, eq-eqb}
+use Rattle.std.proofs.Common.{◌≡◌, refl, ◌∙◌, Bool, true, false, ◌&&◌, List, [], ◌∷◌, ℕ, zero, suc, ◌+◌, ◌-◌, ◌<◌, ◌≤◌, add-one, arith, length, take, get_or, length-take, get_or-take, ltb}
+use Rattle.std.proofs.Common.{ltb-true, eq-eqb}
 use Rattle.lists.specs.Lists.{rising, below, all, mem}
 use Rattle.lists.specs.Areas.{pad, part}
 use Rattle.lists.specs.Scans.{groups_fit}

@@ -1,13 +1,7 @@
 -- The marks that a new run takes, and the loop that finds the lowest of them. Assumes nothing.
-use mathlib.Core.Path.{◌≡◌, refl, sym, ap, ◌∙◌}
-use mathlib.Core.Bool.{Bool, true, false, cond, not, ◌&&◌}
-use mathlib.Core.List.{List, [], ◌∷◌, ◌++◌}
-use Prim.Native.Nat.{ℕ, ◌+◌, ◌<◌, ◌≤◌, min}
-use native.Mathlib.Omega.{arith}
-use native.Mathlib.Numerals.{add-one}
-use lib.ListN.{length, drop, get_or, drop_of_length-le}
-use lib.Seq.{drop-cons, drop-append-le}
-use lib.Dec.{leb, ltb}
+use Rattle.std.proofs.Common.{◌≡◌, refl, sym, ap, ◌∙◌, Bool, true, false, cond, not, ◌&&◌, List, [], ◌∷◌, ◌++◌, ℕ, ◌+◌, ◌<◌, ◌≤◌, min, arith, add-one, length, drop, get_or, drop_of_length-le}
+use Rattle.std.proofs.Common.{drop-cons, leb, ltb}
+use lib.Seq.{drop-append-le}
 use Rattle.lists.specs.Lists.{all, filter, mem, least}
 use Rattle.lists.proofs.Truth.{lt_not, and_true}
 use Rattle.lists.proofs.Members.{get_d_mem, all_both, mem-first, mem-rest}

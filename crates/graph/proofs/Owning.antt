@@ -1,14 +1,7 @@
 -- The loop over a new run's parents: the run of each held one joins the entries, and what it has seen is kept if it is the most. Assumes
 -- nothing.
-use mathlib.Core.Path.{◌≡◌, refl, sym, ap, ◌∙◌}
-use mathlib.Core.Bool.{Bool, true, false, cond}
-use mathlib.Core.List.{List, [], ◌∷◌, ◌++◌, map, append_assoc, append-nil}
-use Prim.Native.Nat.{ℕ, suc, ◌+◌, ◌<◌, ◌≤◌, max}
-use native.Mathlib.Omega.{arith}
-use native.Mathlib.Numerals.{add-one}
-use lib.ListN.{length, drop, get_or, set, length-append, drop_of_length-le}
-use lib.Seq.{drop-cons}
-use lib.Dec.{eqb}
+use Rattle.std.proofs.Common.{◌≡◌, refl, sym, ap, ◌∙◌, Bool, true, false, cond, List, [], ◌∷◌, ◌++◌, map, append_assoc, append-nil, ℕ, suc, ◌+◌, ◌<◌, ◌≤◌, max, arith, add-one, length, drop}
+use Rattle.std.proofs.Common.{get_or, set, length-append, drop_of_length-le, drop-cons, eqb}
 use Rattle.lists.specs.Lists.{bit, filter, count, mem, largest, concat}
 use Rattle.lists.specs.Areas.{pad}
 use Rattle.lists.specs.Scans.{last_at_most}

@@ -1,15 +1,9 @@
 -- A run split in the record's arrays: one item put into each, and the marks made anew, is the split of the graph that the record holds.
 -- Assumes nothing.
-use mathlib.Core.Path.{◌≡◌, sym, ap, ◌∙◌, fun_ext}
-use mathlib.Core.Logic.{◌⊎◌, inl, inr}
-use mathlib.Core.Bool.{true, cond}
-use mathlib.Core.List.{List, [], ◌∷◌, ◌++◌, map}
-use Prim.Native.Nat.{ℕ, zero, suc, ◌+◌, ◌≤◌, ◌<◌, min}
-use native.Mathlib.Numerals.{add-one}
-use native.Mathlib.Omega.{arith}
-use lib.ListN.{length, take, drop, get_or}
-use lib.Dec.{leb, eqb}
-use borrow.Author.Tests.{le-leb, lt-leb}
+use Rattle.std.proofs.Common.{◌≡◌, sym, ap, ◌∙◌, ◌⊎◌, inl, inr, true, cond, List, [], ◌∷◌, ◌++◌, map, ℕ, zero, suc, ◌+◌, ◌≤◌, ◌<◌, min, add-one, arith, length, take, drop, get_or, leb, eqb}
+use Rattle.std.proofs.Common.{le-leb}
+use mathlib.Core.Path.{fun_ext}
+use borrow.Author.Tests.{lt-leb}
 use Rattle.lists.specs.Lists.{concat, insert_at, mem, below}
 use Rattle.lists.specs.Areas.{pad, group_starts}
 use Rattle.lists.specs.Scans.{grow, insert_in, groups_fit}

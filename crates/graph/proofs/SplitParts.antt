@@ -1,15 +1,6 @@
 -- Splits in a record's lent arrays: the code's test for a split and its count are the graph's, a turn of the loop over the parents is a
 -- split of the graph that the arrays hold, and what that needs. Assumes nothing.
-use mathlib.Core.Path.{◌≡◌, refl, sym, ap, ◌∙◌}
-use mathlib.Core.Logic.{◌⊎◌, inl, inr}
-use mathlib.Core.Bool.{Bool, true, false, cond, not}
-use mathlib.Core.List.{List, [], ◌∷◌}
-use Prim.Native.Nat.{ℕ, suc, ◌+◌, ◌≤◌, ◌<◌}
-use native.Mathlib.Numerals.{add-one}
-use native.Mathlib.Omega.{arith}
-use lib.ListN.{length, get_or}
-use lib.Dec.{eqb}
-use borrow.Author.Tests.{eq-eqb, ne_eqb}
+use Rattle.std.proofs.Common.{◌≡◌, refl, sym, ap, ◌∙◌, ◌⊎◌, inl, inr, Bool, true, false, cond, not, List, [], ◌∷◌, ℕ, suc, ◌+◌, ◌≤◌, ◌<◌, add-one, arith, length, get_or, eqb, eq-eqb, ne_eqb}
 use Rattle.lists.specs.Lists.{bit, count, filter}
 use Rattle.lists.specs.Areas.{pad}
 use Rattle.lists.specs.Scans.{last_at_most}

@@ -1,12 +1,5 @@
 -- What a record that is held is, place by place: plain bounds, and the reads of the code as reads of its graph. Assumes nothing.
-use mathlib.Core.Path.{◌≡◌, refl, sym, ap, ◌∙◌}
-use mathlib.Core.Bool.{false}
-use mathlib.Core.List.{List}
-use Prim.Native.Nat.{ℕ, suc, ◌+◌, ◌-◌, ◌<◌, ◌≤◌}
-use native.Mathlib.Omega.{arith}
-use lib.ListN.{length, take, get_or}
-use lib.Seq.{get_or-take}
-use lib.Dec.{leb}
+use Rattle.std.proofs.Common.{◌≡◌, refl, sym, ap, ◌∙◌, false, List, ℕ, suc, ◌+◌, ◌-◌, ◌<◌, ◌≤◌, arith, length, take, get_or, get_or-take, leb}
 use borrow.Author.Tests.{lt-leb}
 use Rattle.lists.specs.Lists.{concat}
 use Rattle.lists.specs.Areas.{pad, group_starts}

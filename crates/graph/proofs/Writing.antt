@@ -1,15 +1,9 @@
 -- Records written into a lent list, one after the other: what they leave, in closed form. Assumes nothing.
-use mathlib.Core.Path.{◌≡◌, refl, sym, ap, ◌∙◌}
-use mathlib.Core.Bool.{Bool, true, false, cond}
-use mathlib.Core.List.{List, [], ◌∷◌, ◌++◌, map, append_assoc}
-use Prim.Native.Nat.{ℕ, zero, suc, ◌+◌, ◌*◌, ◌/◌, ◌<◌, ◌≤◌}
-use native.Mathlib.Nat.{div-mul-le_self, suc-mul, zero-mul, zero-add}
-use native.Mathlib.Numerals.{add-one}
-use native.Mathlib.Omega.{arith}
-use lib.ListN.{length, take, drop, length-append, length-drop, length-map}
-use lib.Seq.{take_all, take-nil, take_at, drop-append-add, drop-drop}
-use lib.Dec.{ltb, leb-suc-suc}
-use borrow.Author.Tests.{lt-ltb, le-ltb}
+use Rattle.std.proofs.Common.{◌≡◌, refl, sym, ap, ◌∙◌, Bool, true, false, cond, List, [], ◌∷◌, ◌++◌, map, append_assoc, ℕ, zero, suc, ◌+◌, ◌*◌, ◌/◌, ◌<◌, ◌≤◌, div-mul-le_self, suc-mul, zero-mul}
+use Rattle.std.proofs.Common.{zero-add, add-one, arith, length, take, drop, length-append, length-drop, take_all, take_at, drop-drop, ltb, lt-ltb, le-ltb}
+use lib.ListN.{length-map}
+use lib.Seq.{take-nil, drop-append-add}
+use lib.Dec.{leb-suc-suc}
 use Rattle.lists.specs.Lists.{concat}
 use Rattle.lists.specs.Areas.{over}
 use Rattle.model.specs.declared.answers.Written.{Written}

@@ -1,8 +1,6 @@
 -- A refused call leaves the lent graph as it was: from each contract's equation, of the graph at entry (`was`) and at exit (`is`). Assumes nothing.
-use mathlib.Core.Path.{◌≡◌, ap}
-use mathlib.Core.Bool.{Bool, true, false, false≢true}
-use mathlib.Core.List.{List}
-use Prim.Native.Nat.{ℕ}
+use Rattle.std.proofs.Common.{◌≡◌, ap, Bool, true, false, List, ℕ}
+use mathlib.Core.Bool.{false≢true}
 use Rattle.model.specs.declared.record.CausalGraph.{CausalGraph}
 use Rattle.model.specs.declared.answers.Refusal.{Refusal}
 use Rattle.model.specs.declared.answers.Refusal.TheVariants.{Broken}

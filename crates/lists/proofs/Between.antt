@@ -1,11 +1,7 @@
 -- Numbers between two bounds, and how many there are. Assumes nothing.
-use mathlib.Core.Path.{◌≡◌}
-use mathlib.Core.Logic.{◌⊎◌, inl, inr}
-use mathlib.Core.Bool.{Bool, true, false, ◌&&◌}
-use Prim.Native.Nat.{ℕ, zero, suc, ◌+◌, ◌-◌, ◌≤◌, ◌<◌, min, max}
-use native.Mathlib.Omega.{arith}
-use lib.Dec.{leb, ltb, eqb}
-use borrow.Author.Tests.{ltb-true, leb-true, lt-ltb, le-ltb, le-leb, lt-leb, eq-eqb, ne_eqb}
+use Rattle.std.proofs.Common.{◌≡◌, ◌⊎◌, inl, inr, Bool, true, false, ◌&&◌, ℕ, zero, suc, ◌+◌, ◌-◌, ◌≤◌, ◌<◌, min, max, arith, leb, ltb, eqb, ltb-true, leb-true, lt-ltb, le-ltb, le-leb, eq-eqb}
+use Rattle.std.proofs.Common.{ne_eqb}
+use borrow.Author.Tests.{lt-leb}
 use Rattle.lists.specs.Lists.{bit, count, from}
 use Rattle.lists.proofs.Truth.{lt_or_le, eq_or-not, and_left, and_right, and_both, and_false}
 

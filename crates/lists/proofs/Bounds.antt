@@ -1,13 +1,6 @@
 -- Lists below a bound, and the largest and the least of a list. Assumes nothing.
-use mathlib.Core.Path.{◌≡◌, refl, subst}
-use mathlib.Core.Logic.{◌⊎◌, inl, inr}
-use mathlib.Core.Bool.{true, ◌||◌}
-use mathlib.Core.List.{List, [], ◌∷◌, ◌++◌}
-use Prim.Native.Nat.{ℕ, zero, suc, ◌≤◌, ◌<◌, min, max}
-use native.Mathlib.Omega.{arith}
-use lib.ListN.{length, get_or}
-use lib.Dec.{ltb, eqb}
-use borrow.Author.Tests.{ltb-true, eqb-true, lt-ltb, eq-eqb}
+use Rattle.std.proofs.Common.{◌≡◌, refl, subst, ◌⊎◌, inl, inr, true, ◌||◌, List, [], ◌∷◌, ◌++◌, ℕ, zero, suc, ◌≤◌, ◌<◌, min, max, arith, length, get_or, ltb, eqb, ltb-true, eqb-true, lt-ltb}
+use Rattle.std.proofs.Common.{eq-eqb}
 use Rattle.lists.specs.Lists.{all, mem, below, largest, least}
 use Rattle.lists.proofs.Truth.{lt_or_le, false_true, and_left, and_right, and_both, or_cases, or_right}
 use Rattle.lists.proofs.Members.{mem_index, all_of, all-at}

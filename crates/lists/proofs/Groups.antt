@@ -1,14 +1,8 @@
 -- Groups beside their flat form with starts: from the one to the other and back. Assumes nothing.
-use mathlib.Core.Path.{subst, ◌≡◌, refl, sym, ap, ◌∙◌}
-use mathlib.Core.Bool.{true}
-use mathlib.Core.List.{List, [], ◌∷◌, ◌++◌, append_assoc}
-use Prim.Native.Nat.{ℕ, zero, suc, ◌+◌, ◌-◌, ◌≤◌, ◌<◌}
-use native.Mathlib.Omega.{arith}
+use Rattle.std.proofs.Common.{subst, ◌≡◌, refl, sym, ap, ◌∙◌, true, List, [], ◌∷◌, ◌++◌, append_assoc, ℕ, zero, suc, ◌+◌, ◌-◌, ◌≤◌, ◌<◌, arith, length, take, drop, get_or, length-append}
+use Rattle.std.proofs.Common.{length-take, length-drop, take-append-drop, drop_at, drop-drop, take-take, leb, leb-true, eqb-true, le-leb, eq-eqb}
 use native.Mathlib.Nat.{sub-zero, zero-sub, suc-sub-suc}
-use lib.ListN.{length, take, drop, get_or, length-append, length-take, length-drop, take-append-drop}
-use lib.Seq.{take-append_seam, drop_at, drop-drop, drop-length, take-nil, drop-nil, take-take}
-use lib.Dec.{leb}
-use borrow.Author.Tests.{leb-true, eqb-true, le-leb, eq-eqb}
+use lib.Seq.{take-append_seam, drop-length, take-nil, drop-nil}
 use Rattle.lists.specs.Lists.{sum, concat}
 use Rattle.lists.specs.Areas.{group_starts, part, groups, climbs}
 use Rattle.lists.proofs.Truth.{false_true, and_left, and_right}

@@ -1,12 +1,10 @@
 -- One number put into a list or an area, the later ones changed: in an area by shifting, in a padded list, among groups. Assumes nothing.
-use mathlib.Core.Path.{◌≡◌, refl, sym, ap}
-use mathlib.Core.List.{List, [], ◌∷◌, ◌++◌, map, append_assoc, append-nil, map-append}
-use Prim.Native.Nat.{ℕ, zero, suc, ◌+◌, ◌-◌, ◌≤◌, ◌<◌}
-use native.Mathlib.Numerals.{add-one, sub-one}
-use native.Mathlib.Omega.{arith}
-use lib.ListN.{length, take, drop, get_or, replicate, set, drop_of_length-le, length-append, length-map, length-take, length-drop, take-append-drop, get_or-append}
+use Rattle.std.proofs.Common.{◌≡◌, refl, sym, ap, List, [], ◌∷◌, ◌++◌, map, append_assoc, append-nil, ℕ, zero, suc, ◌+◌, ◌-◌, ◌≤◌, ◌<◌, add-one, sub-one, arith, length, take, drop, get_or}
+use Rattle.std.proofs.Common.{replicate, set, drop_of_length-le, length-append, length-take, length-drop, take-append-drop, drop-cons, take-suc, get_or-take, take-take, take_at, drop_at}
+use mathlib.Core.List.{map-append}
+use lib.ListN.{length-map, get_or-append}
 use lib.Dec.{leb-zero}
-use lib.Seq.{drop-cons, take-suc, set_at, get_or-take, take-take, take_at, drop_at, drop-append-add}
+use lib.Seq.{set_at, drop-append-add}
 use Rattle.lists.specs.Lists.{concat, insert_at}
 use Rattle.lists.specs.Areas.{pad, group_starts}
 use Rattle.lists.specs.Scans.{grow, insert, insert_in}

@@ -1,13 +1,6 @@
 -- Lists with one item put in: their lengths, items, members, sums, tests and order. Assumes nothing.
-use mathlib.Core.Path.{◌≡◌, refl, ap, ◌∙◌}
-use mathlib.Core.Logic.{◌⊎◌, inl, inr}
-use mathlib.Core.Bool.{Bool, true, false, ◌&&◌, ◌||◌}
-use mathlib.Core.List.{List, [], ◌∷◌, ◌++◌}
-use Prim.Native.Nat.{ℕ, zero, suc, ◌+◌, ◌≤◌, ◌<◌}
-use native.Mathlib.Omega.{arith}
-use lib.ListN.{length, get_or, drop}
-use lib.Dec.{ltb, eqb}
-use borrow.Author.Tests.{lt-ltb, eq-eqb, ne_eqb}
+use Rattle.std.proofs.Common.{◌≡◌, refl, ap, ◌∙◌, ◌⊎◌, inl, inr, Bool, true, false, ◌&&◌, ◌||◌, List, [], ◌∷◌, ◌++◌, ℕ, zero, suc, ◌+◌, ◌≤◌, ◌<◌, arith, length, get_or, drop, ltb, eqb, lt-ltb}
+use Rattle.std.proofs.Common.{eq-eqb, ne_eqb}
 use Rattle.lists.specs.Lists.{all, sum, insert_at, mem, rising}
 use Rattle.lists.proofs.Truth.{false_true, and_left, and_right, and_both, and_swap, or_cases, or_left, or_right}
 

@@ -1,13 +1,5 @@
 -- Filters of a list that grows at its end. Assumes nothing.
-use mathlib.Core.Path.{◌≡◌, refl}
-use mathlib.Core.Bool.{Bool, true, false, not, cond}
-use mathlib.Core.List.{List, [], ◌∷◌, ◌++◌}
-use Prim.Native.Nat.{ℕ, ◌+◌, ◌≤◌, ◌<◌}
-use native.Mathlib.Numerals.{add-one}
-use native.Mathlib.Omega.{arith}
-use lib.ListN.{length, take, get_or, length-take}
-use lib.Seq.{take-suc}
-use lib.Dec.{eqb}
+use Rattle.std.proofs.Common.{◌≡◌, refl, Bool, true, false, not, cond, List, [], ◌∷◌, ◌++◌, ℕ, ◌+◌, ◌≤◌, ◌<◌, add-one, arith, length, take, get_or, length-take, take-suc, eqb}
 use Rattle.std.specs.List.{list_any}
 use Rattle.lists.specs.Lists.{mem, filter}
 use Rattle.lists.proofs.Counts.{filter-length}

@@ -1,9 +1,5 @@
 -- The numbers below a bound that pass a test: just those, lowest first. Assumes nothing.
-use mathlib.Core.Path.{◌≡◌}
-use mathlib.Core.Logic.{◌↔◌}
-use mathlib.Core.Bool.{Bool, true}
-use Prim.Native.Nat.{ℕ, ◌<◌}
-use native.Mathlib.Omega.{arith}
+use Rattle.std.proofs.Common.{◌≡◌, ◌↔◌, Bool, true, ℕ, ◌<◌, arith}
 use Rattle.lists.specs.Lists.{filter, upto, mem, rising}
 use Rattle.lists.proofs.Truth.{bool_iff}
 use Rattle.lists.proofs.Members.{mem-filter, filter-mem}

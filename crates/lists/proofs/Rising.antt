@@ -1,13 +1,7 @@
 -- Lists that rise: between two bounds, and strictly. Assumes nothing.
-use mathlib.Core.Path.{◌≡◌, refl, sym, ap, ◌∙◌, subst}
-use mathlib.Core.Logic.{◌⊎◌, inl, inr}
-use mathlib.Core.Bool.{Bool, true, false, cond}
-use mathlib.Core.List.{List, [], ◌∷◌, ◌++◌, map}
-use Prim.Native.Nat.{ℕ, zero, suc, ◌+◌, ◌≤◌, ◌<◌}
-use native.Mathlib.Omega.{arith}
-use lib.ListN.{length, get_or, take, length-append}
-use lib.Dec.{leb, ltb, eqb}
-use borrow.Author.Tests.{ltb-true, eqb-true, lt-ltb, le-ltb, le-leb, lt-leb, eq-eqb}
+use Rattle.std.proofs.Common.{◌≡◌, refl, sym, ap, ◌∙◌, subst, ◌⊎◌, inl, inr, Bool, true, false, cond, List, [], ◌∷◌, ◌++◌, map, ℕ, zero, suc, ◌+◌, ◌≤◌, ◌<◌, arith, length, get_or, take}
+use Rattle.std.proofs.Common.{length-append, leb, ltb, eqb, ltb-true, eqb-true, lt-ltb, le-ltb, le-leb, eq-eqb}
+use borrow.Author.Tests.{lt-leb}
 use Rattle.lists.specs.Lists.{bit, all, filter, count, from, mem, rising, below}
 use Rattle.lists.proofs.Truth.{lt_or_le, false_true, bool_iff, and_left, and_right, and_both, or_cases, or_left, or_right}
 use Rattle.lists.proofs.Members.{mem-first, mem-rest, mem-append, get_d_mem, get_d_any, mem-filter}

@@ -1,12 +1,5 @@
 -- How many numbers of a list pass: all of them, with another test or without it, and those that it shares with another list. Assumes nothing.
-use mathlib.Core.Path.{◌≡◌, refl, sym, ap, ◌∙◌}
-use mathlib.Core.Bool.{Bool, true, false, not, cond, ◌&&◌}
-use mathlib.Core.List.{List, [], ◌∷◌}
-use Prim.Native.Nat.{ℕ, suc, ◌+◌}
-use native.Mathlib.Omega.{arith}
-use lib.ListN.{length}
-use lib.Dec.{eqb}
-use borrow.Author.Tests.{eqb-true, eq-eqb, ne_eqb}
+use Rattle.std.proofs.Common.{◌≡◌, refl, sym, ap, ◌∙◌, Bool, true, false, not, cond, ◌&&◌, List, [], ◌∷◌, ℕ, suc, ◌+◌, arith, length, eqb, eqb-true, eq-eqb, ne_eqb}
 use Rattle.lists.specs.Lists.{bit, all, filter, count, mem, rising}
 use Rattle.lists.proofs.Truth.{bool_iff}
 use Rattle.lists.proofs.Members.{mem-filter, filter-mem}

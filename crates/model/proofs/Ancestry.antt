@@ -1,11 +1,5 @@
 -- Ancestors as paths and ancestors by computing are the same, where parents are lower numbers. Assumes nothing.
-use mathlib.Core.Path.{◌≡◌, refl}
-use mathlib.Core.Logic.{◌⊎◌, inl, inr, ◌↔◌}
-use mathlib.Core.Bool.{true, ◌||◌}
-use Prim.Native.Nat.{ℕ, zero, suc, ◌≤◌, ◌<◌}
-use native.Mathlib.Omega.{arith}
-use lib.Dec.{eqb}
-use borrow.Author.Tests.{eqb-true, eq-eqb}
+use Rattle.std.proofs.Common.{◌≡◌, refl, ◌⊎◌, inl, inr, ◌↔◌, true, ◌||◌, ℕ, zero, suc, ◌≤◌, ◌<◌, arith, eqb, eqb-true, eq-eqb}
 use Rattle.lists.specs.Lists.{mem}
 use Rattle.lists.proofs.Truth.{false_true, or_cases, or_left, or_right}
 use Rattle.lists.proofs.Members.{any_intro, any_elim}

@@ -1,11 +1,5 @@
 -- Archive points: by events, by critical versions and by runs they are the same. Assumes nothing.
-use mathlib.Core.Path.{◌≡◌, refl, sym, ap₂, ◌∙◌, subst}
-use mathlib.Core.Logic.{◌⊎◌, inl, inr, ◌↔◌}
-use mathlib.Core.Bool.{true}
-use mathlib.Core.List.{List, [], map}
-use Prim.Native.Nat.{ℕ, suc, ◌≤◌, ◌<◌}
-use native.Mathlib.Omega.{arith}
-use lib.ListN.{length}
+use Rattle.std.proofs.Common.{◌≡◌, refl, sym, ap₂, ◌∙◌, subst, ◌⊎◌, inl, inr, ◌↔◌, true, List, [], map, ℕ, suc, ◌≤◌, ◌<◌, arith, length}
 use Rattle.lists.specs.Lists.{all, filter, from, upto, mem, rising}
 use Rattle.lists.proofs.Truth.{lt_or_le}
 use Rattle.lists.proofs.Members.{mem-filter, filter-mem, mem-map, map-mem, all_of, all-at}

@@ -1,12 +1,7 @@
 -- `new` and `after`: a fresh graph is well-formed and within the limits, and what the two calls give is held and not broken. Assumes
 -- nothing.
-use mathlib.Core.Path.{◌≡◌, refl}
-use mathlib.Core.Bool.{true, false}
-use mathlib.Core.List.{List, []}
-use Prim.Native.Nat.{ℕ, ◌≤◌}
-use native.Mathlib.Omega.{arith}
-use lib.ListN.{length}
-use borrow.Author.Tests.{ltb-false, not-false}
+use Rattle.std.proofs.Common.{◌≡◌, refl, true, false, List, [], ℕ, ◌≤◌, arith, length, ltb-false}
+use borrow.Author.Tests.{not-false}
 use Rattle.lists.specs.Lists.{all, sum, rising, below}
 use Rattle.model.specs.Graph.{runs, start, first_held, len, entries}
 use Rattle.model.specs.Record.{store}

@@ -1,11 +1,7 @@
 -- Demand 3 of books: what `replay` replays is what a list of calls made, and what it prints are the steps of a full replay that follows.
 -- Assumes nothing.
-use mathlib.Core.Path.{◌≡◌, refl, sym, ap, ◌∙◌, subst}
-use mathlib.Core.List.{List, [], ◌∷◌, ◌++◌, map}
+use Rattle.std.proofs.Common.{◌≡◌, refl, sym, ap, ◌∙◌, subst, List, [], ◌∷◌, ◌++◌, map, ℕ, ◌*◌, arith, length, take, replicate, length-append}
 use mathlib.Core.Option.{Option, none, some}
-use Prim.Native.Nat.{ℕ, ◌*◌}
-use native.Mathlib.Omega.{arith}
-use lib.ListN.{length, take, replicate, length-append}
 use Rattle.model.specs.declared.record.CausalGraph.{CausalGraph}
 use Rattle.model.specs.Refusals.{number, Outcome}
 use Rattle.model.specs.Broken.{Held}

@@ -1,8 +1,6 @@
 -- What every call keeps, lists of calls keep, on the record as on plain graphs. Assumes nothing.
-use mathlib.Core.Path.{◌≡◌, refl, sym, ◌∙◌, subst}
-use mathlib.Core.Bool.{Bool, true, false, cond}
-use mathlib.Core.List.{List, [], ◌∷◌, ◌++◌, cons≢nil}
-use Prim.Native.Nat.{ℕ}
+use Rattle.std.proofs.Common.{◌≡◌, refl, sym, ◌∙◌, subst, Bool, true, false, cond, List, [], ◌∷◌, ◌++◌, ℕ}
+use mathlib.Core.List.{cons≢nil}
 use Rattle.lists.specs.Lists.{all, filter, rising, below}
 use Rattle.lists.proofs.Truth.{false_true}
 use Rattle.model.specs.declared.record.CausalGraph.{CausalGraph}

@@ -1,13 +1,6 @@
 -- The chains of a range: they part its runs, each lies along ancestors, and each run stands in the first chain that it could join.
 -- Assumes nothing.
-use mathlib.Core.Path.{◌≡◌, refl, sym, ap, ◌∙◌, subst}
-use mathlib.Core.Logic.{◌⊎◌, inl, inr, ◌↔◌}
-use mathlib.Core.Bool.{Bool, true, false}
-use mathlib.Core.List.{List, [], ◌∷◌, ◌++◌}
-use Prim.Native.Nat.{ℕ, zero, suc, ◌+◌, ◌-◌, ◌≤◌, ◌<◌}
-use native.Mathlib.Omega.{arith}
-use lib.ListN.{length}
-use lib.Dec.{ltb, eqb}
+use Rattle.std.proofs.Common.{◌≡◌, refl, sym, ap, ◌∙◌, subst, ◌⊎◌, inl, inr, ◌↔◌, Bool, true, false, List, [], ◌∷◌, ◌++◌, ℕ, zero, suc, ◌+◌, ◌-◌, ◌≤◌, ◌<◌, arith, length, ltb, eqb}
 use Rattle.lists.specs.Lists.{bit, all, count, sum, concat, mem, occurs, rising}
 use Rattle.lists.proofs.Truth.{false_true, or_cases, or_left, or_right}
 use Rattle.lists.proofs.Members.{mem-append, mem_one, all-at, all_fails}

@@ -1,11 +1,6 @@
 -- A walk's choice is one of the ready runs, and there is one while a run is ready. Assumes nothing.
-use mathlib.Core.Path.{◌≡◌, refl, subst}
-use mathlib.Core.Bool.{Bool, true, false, not, ◌&&◌, ◌||◌}
-use mathlib.Core.List.{List, [], ◌∷◌, ◌++◌}
+use Rattle.std.proofs.Common.{◌≡◌, refl, subst, Bool, true, false, not, ◌&&◌, ◌||◌, List, [], ◌∷◌, ◌++◌, ℕ, get_or, take, ltb, eqb}
 use mathlib.Core.Option.{Option, none, some}
-use Prim.Native.Nat.{ℕ}
-use lib.ListN.{get_or, take}
-use lib.Dec.{ltb, eqb}
 use Rattle.lists.specs.Lists.{filter, reverse}
 use Rattle.lists.proofs.Truth.{false_true}
 use Rattle.lists.proofs.Each.{All, all_take, all-reverse}

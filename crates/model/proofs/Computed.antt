@@ -1,5 +1,5 @@
 -- C1 to C11 and the facts beyond them, by computing. Assumes nothing.
-use mathlib.Core.Path.{refl}
+use Rattle.std.proofs.Common.{refl}
 use Rattle.model.specs.Cases.{Beyond, Cases}
 use Rattle.model.proofs.Everything.{everything}
 

@@ -1,5 +1,5 @@
 -- The cases of document 02, by computing. Assumes nothing.
-use mathlib.Core.Path.{refl}
+use Rattle.std.proofs.Common.{refl}
 use Rattle.model.specs.Changes.{Changes}
 use Rattle.model.proofs.Everything.{everything}
 

@@ -1,10 +1,5 @@
 -- The concurrency list of a graph tied to a log is the paper's: the runs whose events are concurrent with the run's. Assumes nothing.
-use mathlib.Core.Path.{◌≡◌, sym, ap, ◌∙◌, subst}
-use mathlib.Core.Logic.{inl, inr, ◌↔◌}
-use mathlib.Core.Bool.{true}
-use Prim.Native.Nat.{ℕ, suc, ◌≤◌, ◌<◌}
-use native.Mathlib.Omega.{arith}
-use lib.ListN.{length}
+use Rattle.std.proofs.Common.{◌≡◌, sym, ap, ◌∙◌, subst, inl, inr, ◌↔◌, true, ℕ, suc, ◌≤◌, ◌<◌, arith, length}
 use Rattle.lists.specs.Lists.{mem}
 use Rattle.model.specs.declared.record.CausalGraph.{CausalGraph}
 use Rattle.model.specs.EventGraph.{HappenedBefore, Concurrent, Lower}

@@ -1,11 +1,6 @@
 -- The concurrency list of a run: its members, and that it is in run order. Assumes nothing.
-use mathlib.Core.Path.{◌≡◌, refl, sym, ap, ◌∙◌}
-use mathlib.Core.Logic.{◌↔◌}
-use mathlib.Core.Bool.{Bool, true, false, not, cond, ◌&&◌}
-use mathlib.Core.List.{List}
-use Prim.Native.Nat.{ℕ, ◌<◌}
-use lib.Dec.{ltb, eqb}
-use borrow.Author.Tests.{ltb-true, lt-ltb, eq-eqb, ne_eqb, not-true}
+use Rattle.std.proofs.Common.{◌≡◌, refl, sym, ap, ◌∙◌, ◌↔◌, Bool, true, false, not, cond, ◌&&◌, List, ℕ, ◌<◌, ltb, eqb, ltb-true, lt-ltb, eq-eqb, ne_eqb}
+use borrow.Author.Tests.{not-true}
 use Rattle.lists.specs.Lists.{bit, upto, mem, occurs, rising}
 use Rattle.lists.proofs.Truth.{false_true, not_so, bool_iff, and_left, and_right}
 use Rattle.lists.proofs.Counts.{occurs-filter, occurs-upto}

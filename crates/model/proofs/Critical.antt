@@ -1,13 +1,5 @@
 -- A critical version is one whose events happened before all others; a marked run starts at one. Assumes nothing.
-use mathlib.Core.Path.{◌≡◌}
-use mathlib.Core.Logic.{◌⊎◌, inl, inr, ◌↔◌}
-use mathlib.Core.Bool.{true}
-use mathlib.Core.List.{List}
-use Prim.Native.Nat.{ℕ, suc, ◌-◌, ◌≤◌, ◌<◌}
-use native.Mathlib.Omega.{arith}
-use lib.ListN.{length}
-use lib.Dec.{leb}
-use borrow.Author.Tests.{leb-true}
+use Rattle.std.proofs.Common.{◌≡◌, ◌⊎◌, inl, inr, ◌↔◌, true, List, ℕ, suc, ◌-◌, ◌≤◌, ◌<◌, arith, length, leb, leb-true}
 use Rattle.lists.specs.Lists.{filter, upto, mem}
 use Rattle.lists.proofs.Truth.{lt_or_le}
 use Rattle.lists.proofs.Members.{mem-filter}

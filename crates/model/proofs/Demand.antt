@@ -1,11 +1,5 @@
 -- Demand 3, and what stands beside it. Assumes nothing.
-use mathlib.Core.Path.{◌≡◌, ap, ◌∙◌}
-use mathlib.Core.Bool.{false}
-use mathlib.Core.List.{List}
-use Prim.Native.Nat.{ℕ, ◌+◌, ◌-◌, ◌≤◌}
-use native.Mathlib.Omega.{arith}
-use lib.ListN.{length}
-use borrow.Author.Tests.{le-ltb}
+use Rattle.std.proofs.Common.{◌≡◌, ap, ◌∙◌, false, List, ℕ, ◌+◌, ◌-◌, ◌≤◌, arith, length, le-ltb}
 use Rattle.model.specs.declared.record.CausalGraph.{CausalGraph}
 use Rattle.model.specs.Refusals.{first_of}
 use Rattle.model.specs.Graph.{runs}

@@ -1,11 +1,6 @@
 -- A split keeps all that a graph keeps with its log, and so do splits after each held parent: then a run ends in each. Assumes nothing.
-use mathlib.Core.Path.{◌≡◌, refl, sym, ap, ◌∙◌}
-use mathlib.Core.Bool.{Bool, true, false, ◌||◌}
-use mathlib.Core.List.{List, [], ◌∷◌, ◌++◌, map}
-use Prim.Native.Nat.{ℕ, suc, ◌≤◌, ◌<◌}
-use native.Mathlib.Omega.{arith}
-use lib.Dec.{leb, eqb}
-use borrow.Author.Tests.{eqb-false, eq-eqb}
+use Rattle.std.proofs.Common.{◌≡◌, refl, sym, ap, ◌∙◌, Bool, true, false, ◌||◌, List, [], ◌∷◌, ◌++◌, map, ℕ, suc, ◌≤◌, ◌<◌, arith, leb, eqb, eq-eqb}
+use borrow.Author.Tests.{eqb-false}
 use Rattle.lists.specs.Lists.{mem, count}
 use Rattle.lists.proofs.Truth.{lt_of_ne, or_right, or-first, or-last}
 use Rattle.lists.proofs.Members.{mem-append}

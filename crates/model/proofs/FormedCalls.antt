@@ -1,11 +1,6 @@
 -- `start_run_at` and `take_changed_from` keep a graph well-formed and within the limits. Assumes nothing.
-use mathlib.Core.Path.{◌≡◌, refl, sym, ap, ◌∙◌}
-use mathlib.Core.Logic.{◌⊎◌, inl, inr}
-use mathlib.Core.Bool.{Bool, true, false, not}
-use Prim.Native.Nat.{ℕ, suc, ◌+◌, ◌≤◌, ◌<◌}
-use native.Mathlib.Omega.{arith}
-use lib.Dec.{eqb}
-use borrow.Author.Tests.{ltb-false, eqb-true, eqb-false, eq-eqb, ne_eqb, not-true}
+use Rattle.std.proofs.Common.{◌≡◌, refl, sym, ap, ◌∙◌, ◌⊎◌, inl, inr, Bool, true, false, not, ℕ, suc, ◌+◌, ◌≤◌, ◌<◌, arith, eqb, ltb-false, eqb-true, eq-eqb, ne_eqb}
+use borrow.Author.Tests.{eqb-false, not-true}
 use Rattle.lists.proofs.Truth.{lt_or_le, lt_of_ne, false_true}
 use Rattle.model.specs.Graph.{Graph, runs, start, first_held, len, entries, containing, marked, Side, in_run, before, unknown, side, is_held}
 use Rattle.model.specs.Broken.{WellFormed, WithinLimits}

@@ -1,13 +1,8 @@
 -- A run that grows and a new run keep a graph well-formed. Assumes nothing.
-use mathlib.Core.Path.{◌≡◌, refl, ap, ◌∙◌}
-use mathlib.Core.Bool.{true, not, ◌&&◌}
-use mathlib.Core.List.{List, [], ◌∷◌, ◌++◌, map}
-use Prim.Native.Nat.{ℕ, zero, suc, ◌+◌, ◌-◌, ◌≤◌, ◌<◌, min}
-use native.Mathlib.Omega.{arith}
-use lib.ListN.{length, get_or, take, length-map, length-take, get_or-append}
-use lib.Seq.{get_or_at, get_or-take, length-take-le}
-use lib.Dec.{leb, ltb, eqb}
-use borrow.Author.Tests.{lt-ltb, le-leb, eq-eqb}
+use Rattle.std.proofs.Common.{◌≡◌, refl, ap, ◌∙◌, true, not, ◌&&◌, List, [], ◌∷◌, ◌++◌, map, ℕ, zero, suc, ◌+◌, ◌-◌, ◌≤◌, ◌<◌, min, arith, length, get_or, take, length-take, get_or-take}
+use Rattle.std.proofs.Common.{length-take-le, leb, ltb, eqb, lt-ltb, le-leb, eq-eqb}
+use lib.ListN.{length-map, get_or-append}
+use lib.Seq.{get_or_at}
 use Rattle.lists.specs.Lists.{mem, rising, below, filter}
 use Rattle.lists.proofs.Truth.{and_left, and_right, and_both, or_right}
 use Rattle.lists.proofs.Members.{mem-filter, map-mem}

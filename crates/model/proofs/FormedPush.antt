@@ -1,12 +1,6 @@
 -- An accepted push keeps a graph well-formed and within the limits. Assumes nothing.
-use mathlib.Core.Path.{◌≡◌, refl, sym, ap, ◌∙◌}
-use mathlib.Core.Bool.{Bool, true, false, not, ◌&&◌}
-use mathlib.Core.List.{List, [], ◌∷◌}
-use Prim.Native.Nat.{ℕ, zero, suc, ◌+◌, ◌-◌, ◌≤◌, ◌<◌}
-use native.Mathlib.Omega.{arith}
-use lib.ListN.{length}
-use lib.Dec.{ltb}
-use borrow.Author.Tests.{ltb-true, ltb-false, eqb-false, eq-eqb, not-false}
+use Rattle.std.proofs.Common.{◌≡◌, refl, sym, ap, ◌∙◌, Bool, true, false, not, ◌&&◌, List, [], ◌∷◌, ℕ, zero, suc, ◌+◌, ◌-◌, ◌≤◌, ◌<◌, arith, length, ltb, ltb-true, ltb-false, eq-eqb}
+use borrow.Author.Tests.{eqb-false, not-false}
 use Rattle.lists.specs.Lists.{count, mem, rising, below, same, filter}
 use Rattle.lists.proofs.Truth.{and_left, and_right, or_left}
 use Rattle.lists.proofs.Members.{same_eq}

@@ -1,15 +1,8 @@
 -- What a well-formed graph has: starts that rise to `len`, the run of each held event, parents below their run, bounds on what runs have
 -- seen, and when a run is marked. Assumes nothing.
-use mathlib.Core.Path.{◌≡◌, refl, sym, ◌∙◌}
-use mathlib.Core.Logic.{◌⊎◌, inl, inr}
-use mathlib.Core.Bool.{true, ◌&&◌}
-use mathlib.Core.List.{List, [], ◌∷◌}
-use Prim.Native.Nat.{ℕ, zero, suc, ◌+◌, ◌-◌, ◌≤◌, ◌<◌}
-use native.Mathlib.Omega.{arith}
-use lib.ListN.{length, get_or, drop, length-drop}
-use lib.Seq.{get_or-drop}
-use lib.Dec.{leb, ltb, eqb}
-use borrow.Author.Tests.{ltb-true, ltb-false, leb-true, leb-false, eqb-true, lt-ltb, le-ltb, le-leb, lt-leb, ne_eqb}
+use Rattle.std.proofs.Common.{◌≡◌, refl, sym, ◌∙◌, ◌⊎◌, inl, inr, true, ◌&&◌, List, [], ◌∷◌, ℕ, zero, suc, ◌+◌, ◌-◌, ◌≤◌, ◌<◌, arith, length, get_or, drop, length-drop, get_or-drop, leb, ltb, eqb}
+use Rattle.std.proofs.Common.{ltb-true, ltb-false, leb-true, leb-false, eqb-true, lt-ltb, le-ltb, le-leb, ne_eqb}
+use borrow.Author.Tests.{lt-leb}
 use Rattle.lists.specs.Lists.{count, mem, rising, below}
 use Rattle.lists.proofs.Truth.{lt_eq_gt, false_true, and_left, and_right, and_both}
 use Rattle.lists.proofs.Members.{mem_index, get_d_mem, get_d_all}

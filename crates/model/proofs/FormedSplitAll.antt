@@ -1,10 +1,5 @@
 -- The splits after rising held events keep a graph well-formed; each event that ended no run adds one run and one entry. Assumes nothing.
-use mathlib.Core.Path.{◌≡◌, refl, sym, ap, ◌∙◌}
-use mathlib.Core.Logic.{◌⊎◌, inl, inr}
-use mathlib.Core.Bool.{Bool, true, false, not}
-use mathlib.Core.List.{List, [], ◌∷◌}
-use Prim.Native.Nat.{ℕ, suc, ◌+◌, ◌≤◌, ◌<◌}
-use native.Mathlib.Omega.{arith}
+use Rattle.std.proofs.Common.{◌≡◌, refl, sym, ap, ◌∙◌, ◌⊎◌, inl, inr, Bool, true, false, not, List, [], ◌∷◌, ℕ, suc, ◌+◌, ◌≤◌, ◌<◌, arith}
 use Rattle.lists.specs.Lists.{bit, count, mem, rising}
 use Rattle.lists.proofs.Truth.{eq_or-not, false_true}
 use Rattle.lists.proofs.Members.{mem-first, mem-rest, mem-either, get_d_mem}

@@ -1,13 +1,6 @@
 -- A split keeps a graph well-formed, with one run and one entry more. Assumes nothing.
-use mathlib.Core.Path.{◌≡◌, refl, ap, ◌∙◌}
-use mathlib.Core.Logic.{◌⊎◌, inl, inr}
-use mathlib.Core.Bool.{true, ◌&&◌}
-use mathlib.Core.List.{List, [], ◌∷◌, map}
-use Prim.Native.Nat.{ℕ, zero, suc, ◌+◌, ◌≤◌, ◌<◌}
-use native.Mathlib.Omega.{arith}
-use lib.ListN.{length, length-map}
-use lib.Dec.{leb}
-use borrow.Author.Tests.{lt-ltb, le-ltb, le-leb, ne_eqb}
+use Rattle.std.proofs.Common.{◌≡◌, refl, ap, ◌∙◌, ◌⊎◌, inl, inr, true, ◌&&◌, List, [], ◌∷◌, map, ℕ, zero, suc, ◌+◌, ◌≤◌, ◌<◌, arith, length, leb, lt-ltb, le-ltb, le-leb, ne_eqb}
+use lib.ListN.{length-map}
 use Rattle.lists.specs.Lists.{sum, insert_at, mem, rising, below}
 use Rattle.lists.proofs.Truth.{lt_or_le, and_left, and_right, and_both}
 use Rattle.lists.proofs.Members.{mem_one, map-mem}

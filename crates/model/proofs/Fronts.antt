@@ -1,13 +1,7 @@
 -- The frontier's held events are the log's events with no child, the paper's version of the log: so of a fresh graph, and kept by splits
 -- and pushes. Assumes nothing.
-use mathlib.Core.Path.{◌≡◌, refl, sym, ap, ◌∙◌, subst}
-use mathlib.Core.Logic.{◌⊎◌, inl, inr}
-use mathlib.Core.Bool.{Bool, true, false, not, ◌||◌}
-use mathlib.Core.List.{List, [], ◌∷◌, ◌++◌}
-use Prim.Native.Nat.{ℕ, suc, ◌+◌, ◌-◌, ◌≤◌, ◌<◌}
-use native.Mathlib.Omega.{arith}
-use lib.Dec.{leb}
-use borrow.Author.Tests.{le-leb, eq-eqb, not-true}
+use Rattle.std.proofs.Common.{◌≡◌, refl, sym, ap, ◌∙◌, subst, ◌⊎◌, inl, inr, Bool, true, false, not, ◌||◌, List, [], ◌∷◌, ◌++◌, ℕ, suc, ◌+◌, ◌-◌, ◌≤◌, ◌<◌, arith, leb, le-leb, eq-eqb}
+use borrow.Author.Tests.{not-true}
 use Rattle.lists.specs.Lists.{filter, mem, below}
 use Rattle.lists.proofs.Truth.{lt_or_le, false_true, not_so, or_cases, or_left, or_right}
 use Rattle.lists.proofs.Members.{mem_one, mem-append, mem-filter, filter-mem}

@@ -1,14 +1,9 @@
 -- A run's history is its ancestors among the runs, in a whole graph and in a range of it. Assumes nothing.
-use mathlib.Core.Path.{◌≡◌, refl, sym, ap, ◌∙◌, subst, fun_ext}
-use mathlib.Core.Logic.{◌⊎◌, inl, inr, ◌↔◌}
-use mathlib.Core.Bool.{Bool, true, ◌||◌}
-use mathlib.Core.List.{List, [], ◌∷◌, ◌++◌, map}
-use Prim.Native.Nat.{ℕ, zero, suc, ◌+◌, ◌-◌, ◌≤◌, ◌<◌}
-use native.Mathlib.Omega.{arith}
-use lib.ListN.{length, get_or, take, drop, length-append, get_or-append, get_or-map, get_or-eq_default, length-map, length-take, length-drop}
-use lib.Seq.{get_or-append_seam, get_or-take, get_or-drop}
-use lib.Dec.{leb, eqb}
-use borrow.Author.Tests.{leb-true, eqb-true, le-leb, eq-eqb}
+use Rattle.std.proofs.Common.{◌≡◌, refl, sym, ap, ◌∙◌, subst, ◌⊎◌, inl, inr, ◌↔◌, Bool, true, ◌||◌, List, [], ◌∷◌, ◌++◌, map, ℕ, zero, suc, ◌+◌, ◌-◌, ◌≤◌, ◌<◌, arith, length, get_or, take, drop}
+use Rattle.std.proofs.Common.{length-append, length-take, length-drop, get_or-take, get_or-drop, leb, eqb, leb-true, eqb-true, le-leb, eq-eqb}
+use mathlib.Core.Path.{fun_ext}
+use lib.ListN.{get_or-append, get_or-map, get_or-eq_default, length-map}
+use lib.Seq.{get_or-append_seam}
 use Rattle.lists.specs.Lists.{any, filter, upto, mem, rising}
 use Rattle.lists.specs.Scans.{groups_fit}
 use Rattle.lists.proofs.Truth.{lt_or_le, false_true, or_cases, or_left, or_right}

@@ -1,14 +1,9 @@
 -- A new run, once its held parents end runs, keeps a graph tied to its log. Assumes nothing.
-use mathlib.Core.Path.{◌≡◌, refl, sym, ap, ◌∙◌, subst}
-use mathlib.Core.Logic.{◌⊎◌, inl, inr}
-use mathlib.Core.Bool.{true, false, ◌||◌}
-use mathlib.Core.List.{List, [], ◌∷◌, ◌++◌, map}
-use Prim.Native.Nat.{ℕ, suc, ◌+◌, ◌-◌, ◌≤◌, ◌<◌}
-use native.Mathlib.Omega.{arith}
-use lib.ListN.{length, get_or, length-append, get_or-append, get_or-eq_default}
+use Rattle.std.proofs.Common.{◌≡◌, refl, sym, ap, ◌∙◌, subst, ◌⊎◌, inl, inr, true, false, ◌||◌, List, [], ◌∷◌, ◌++◌, map, ℕ, suc, ◌+◌, ◌-◌, ◌≤◌, ◌<◌, arith, length, get_or, length-append, leb}
+use Rattle.std.proofs.Common.{ltb, eqb, ltb-false, leb-true, leb-false, le-ltb, eq-eqb}
+use lib.ListN.{get_or-append, get_or-eq_default}
 use lib.Seq.{get_or-append_seam}
-use lib.Dec.{leb, ltb, eqb}
-use borrow.Author.Tests.{ltb-false, leb-true, leb-false, le-ltb, lt-leb, eq-eqb}
+use borrow.Author.Tests.{lt-leb}
 use Rattle.lists.specs.Lists.{filter, mem, count}
 use Rattle.lists.proofs.Truth.{lt_or_le, eq_or-not, lt_of_ne, lt_eq_gt, false_true, or_right, or-first, or-last}
 use Rattle.lists.proofs.Members.{mem-append, mem_index, get_d_snoc, mem-filter, map-mem, map_same}

@@ -1,14 +1,8 @@
 -- A fresh graph is tied to its log, and each call keeps the two tied: runs, seen lengths, frontier, and parents that are lower numbers.
 -- Assumes nothing.
-use mathlib.Core.Path.{◌≡◌, refl, sym, ap, ◌∙◌, subst}
-use mathlib.Core.Logic.{◌⊎◌, inl, inr}
-use mathlib.Core.Bool.{Bool, true, false}
-use mathlib.Core.List.{List, [], ◌∷◌, ◌++◌, map}
-use Prim.Native.Nat.{ℕ, suc, ◌-◌, ◌≤◌, ◌<◌}
-use native.Mathlib.Omega.{arith}
-use lib.ListN.{length, get_or, get_or-eq_default}
-use lib.Dec.{leb, ltb, eqb}
-use borrow.Author.Tests.{ltb-true, leb-true, eqb-true, lt-ltb, le-ltb, le-leb, eq-eqb, ne_eqb}
+use Rattle.std.proofs.Common.{◌≡◌, refl, sym, ap, ◌∙◌, subst, ◌⊎◌, inl, inr, Bool, true, false, List, [], ◌∷◌, ◌++◌, map, ℕ, suc, ◌-◌, ◌≤◌, ◌<◌, arith, length, get_or, leb, ltb, eqb, ltb-true}
+use Rattle.std.proofs.Common.{leb-true, eqb-true, lt-ltb, le-ltb, le-leb, eq-eqb, ne_eqb}
+use lib.ListN.{get_or-eq_default}
 use Rattle.lists.specs.Lists.{mem, count}
 use Rattle.lists.proofs.Truth.{lt_or_le, false_true, bool_iff}
 use Rattle.lists.proofs.Members.{mem_index, get_d_mem, mem-filter}

@@ -1,14 +1,9 @@
 -- What a split, a grown run and a new run leave as it was of the other runs. Assumes nothing.
-use mathlib.Core.Path.{◌≡◌, refl, sym, ap, ◌∙◌}
-use mathlib.Core.Bool.{Bool, true, false, not, ◌&&◌}
-use mathlib.Core.List.{List, [], ◌∷◌, ◌++◌, map}
+use Rattle.std.proofs.Common.{◌≡◌, refl, sym, ap, ◌∙◌, Bool, true, false, not, ◌&&◌, List, [], ◌∷◌, ◌++◌, map, ℕ, suc, ◌+◌, ◌≤◌, ◌<◌, min, arith, get_or, take, drop, length-take, get_or-take, leb}
+use Rattle.std.proofs.Common.{ltb, lt-ltb, le-leb}
 use mathlib.Core.Option.{Option, none, some}
-use Prim.Native.Nat.{ℕ, suc, ◌+◌, ◌≤◌, ◌<◌, min}
-use native.Mathlib.Omega.{arith}
-use lib.ListN.{get_or, take, drop, length-take, length-map, get_or-append, get_or-map}
-use lib.Seq.{drop-append-le, get_or-take}
-use lib.Dec.{leb, ltb}
-use borrow.Author.Tests.{lt-ltb, le-leb}
+use lib.ListN.{length-map, get_or-append, get_or-map}
+use lib.Seq.{drop-append-le}
 use Rattle.lists.specs.Lists.{all, filter, mem, insert_at, least}
 use Rattle.lists.proofs.Truth.{false_true, bool_iff, and_left}
 use Rattle.lists.proofs.Members.{filter-mem, map_leaves, all-from_on, all_both}

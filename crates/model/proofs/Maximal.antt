@@ -1,10 +1,5 @@
 -- The maximal events of a closed set, those that are parent of none of it: they make a version, and its events are the set. Assumes nothing.
-use mathlib.Core.Path.{◌≡◌, refl}
-use mathlib.Core.Logic.{◌⊎◌, inl, inr, ◌↔◌}
-use mathlib.Core.Bool.{Bool, true, false, not}
-use mathlib.Core.List.{List}
-use Prim.Native.Nat.{ℕ, zero, suc, ◌+◌, ◌≤◌, ◌<◌}
-use native.Mathlib.Omega.{arith}
+use Rattle.std.proofs.Common.{◌≡◌, refl, ◌⊎◌, inl, inr, ◌↔◌, Bool, true, false, not, List, ℕ, zero, suc, ◌+◌, ◌≤◌, ◌<◌, arith}
 use borrow.Author.Tests.{not-false}
 use Rattle.lists.specs.Lists.{all, mem}
 use Rattle.lists.proofs.Truth.{false_true, not_so}

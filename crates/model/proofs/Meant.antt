@@ -1,13 +1,7 @@
 -- What the definitions mean: histories, ready runs, and all of it together. Assumes nothing.
-use mathlib.Core.Path.{◌≡◌, subst}
-use mathlib.Core.Logic.{◌⊎◌, inl, inr, ◌↔◌}
-use mathlib.Core.Bool.{Bool, true, false, not, ◌&&◌, ◌||◌}
-use mathlib.Core.List.{List, []}
-use Prim.Native.Nat.{ℕ, ◌+◌, ◌-◌, ◌≤◌, ◌<◌}
-use native.Mathlib.Omega.{arith}
-use lib.ListN.{length, get_or, get_or-eq_default}
-use lib.Dec.{ltb}
-use borrow.Author.Tests.{ltb-true, ltb-false, lt-ltb, le-ltb, not-true}
+use Rattle.std.proofs.Common.{◌≡◌, subst, ◌⊎◌, inl, inr, ◌↔◌, Bool, true, false, not, ◌&&◌, ◌||◌, List, [], ℕ, ◌+◌, ◌-◌, ◌≤◌, ◌<◌, arith, length, get_or, ltb, ltb-true, ltb-false, lt-ltb, le-ltb}
+use lib.ListN.{get_or-eq_default}
+use borrow.Author.Tests.{not-true}
 use Rattle.lists.specs.Lists.{mem, rising, largest}
 use Rattle.lists.proofs.Truth.{lt_or_le, false_true, and_left, and_right, or_cases, or-first, or-last, or_left, or_right}
 use Rattle.lists.proofs.Members.{mem_index}

@@ -1,15 +1,7 @@
 -- A well-formed graph's own events make a plain log that it is tied to. So what is shown of tied graphs holds of every well-formed one, by
 -- its own events. Assumes nothing.
-use mathlib.Core.Path.{◌≡◌, refl, sym, ap, ◌∙◌, subst}
-use mathlib.Core.Logic.{◌⊎◌, inl, inr}
-use mathlib.Core.Bool.{Bool, true, false}
-use mathlib.Core.List.{List, [], ◌∷◌, ◌++◌, map}
-use Prim.Native.Nat.{ℕ, suc, ◌-◌, ◌≤◌, ◌<◌}
-use native.Mathlib.Omega.{arith}
-use lib.ListN.{length, get_or, take, length-take}
-use lib.Seq.{take_all, take-suc}
-use lib.Dec.{leb}
-use borrow.Author.Tests.{le-leb, eq-eqb, ne_eqb}
+use Rattle.std.proofs.Common.{◌≡◌, refl, sym, ap, ◌∙◌, subst, ◌⊎◌, inl, inr, Bool, true, false, List, [], ◌∷◌, ◌++◌, map, ℕ, suc, ◌-◌, ◌≤◌, ◌<◌, arith, length, get_or, take, length-take, take_all}
+use Rattle.std.proofs.Common.{take-suc, leb, le-leb, eq-eqb, ne_eqb}
 use Rattle.lists.specs.Lists.{mem}
 use Rattle.lists.proofs.Truth.{eq_or-not, false_true}
 use Rattle.lists.proofs.Members.{mem_one, get_d_mem, get_d_snoc, map-mem, map_same, filter_agree}

@@ -1,8 +1,5 @@
 -- What splits, growth of the last run and new runs keep, pushes and run starts keep. Assumes nothing.
-use mathlib.Core.Path.{◌≡◌, refl, sym, subst}
-use mathlib.Core.Bool.{Bool, true, false}
-use mathlib.Core.List.{List, [], ◌∷◌}
-use Prim.Native.Nat.{ℕ, suc, ◌<◌}
+use Rattle.std.proofs.Common.{◌≡◌, refl, sym, subst, Bool, true, false, List, [], ◌∷◌, ℕ, suc, ◌<◌}
 use Rattle.model.specs.Graph.{Graph, runs, start, containing, held, extends}
 use Rattle.model.specs.Broken.{WellFormed}
 use Rattle.model.specs.Split.{split, ends, split_after}

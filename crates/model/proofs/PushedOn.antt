@@ -1,12 +1,5 @@
 -- What an event has seen that is pushed on a list of held events: the events of that list, and just those. Assumes nothing.
-use mathlib.Core.Path.{◌≡◌, refl, sym, ap, ◌∙◌}
-use mathlib.Core.Logic.{inl, inr, ◌↔◌}
-use mathlib.Core.Bool.{true}
-use mathlib.Core.List.{List, [], ◌∷◌}
-use Prim.Native.Nat.{ℕ, ◌≤◌, ◌<◌}
-use native.Mathlib.Omega.{arith}
-use lib.Dec.{leb}
-use borrow.Author.Tests.{le-leb, le-ltb, eq-eqb, ne_eqb}
+use Rattle.std.proofs.Common.{◌≡◌, refl, sym, ap, ◌∙◌, inl, inr, ◌↔◌, true, List, [], ◌∷◌, ℕ, ◌≤◌, ◌<◌, arith, leb, le-leb, le-ltb, eq-eqb, ne_eqb}
 use Rattle.lists.specs.Lists.{mem}
 use Rattle.lists.proofs.Members.{filter_agree}
 use Rattle.lists.proofs.Counts.{filter_true}

@@ -1,14 +1,8 @@
 -- A push that begins a run keeps all that a graph keeps with its log, once its held parents end runs. Assumes nothing.
-use mathlib.Core.Path.{◌≡◌, refl, sym, ap, ◌∙◌, subst}
-use mathlib.Core.Logic.{◌⊎◌, inl, inr}
-use mathlib.Core.Bool.{Bool, true, false, cond}
-use mathlib.Core.List.{List, [], ◌∷◌, ◌++◌, map}
-use Prim.Native.Nat.{ℕ, suc, ◌-◌, ◌≤◌, ◌<◌}
-use native.Mathlib.Omega.{arith}
-use lib.ListN.{length, get_or, length-append, get_or-append}
+use Rattle.std.proofs.Common.{◌≡◌, refl, sym, ap, ◌∙◌, subst, ◌⊎◌, inl, inr, Bool, true, false, cond, List, [], ◌∷◌, ◌++◌, map, ℕ, suc, ◌-◌, ◌≤◌, ◌<◌, arith, length, get_or, length-append, leb}
+use Rattle.std.proofs.Common.{eqb, leb-true, eqb-true}
+use lib.ListN.{get_or-append}
 use lib.Seq.{get_or-append_seam}
-use lib.Dec.{leb, eqb}
-use borrow.Author.Tests.{leb-true, eqb-true}
 use Rattle.lists.specs.Lists.{mem, same, largest}
 use Rattle.lists.proofs.Truth.{lt_or_le, eq_or-not, lt_of_ne, lt_eq_gt}
 use Rattle.lists.proofs.Members.{mem-filter, map-mem, same_eq}

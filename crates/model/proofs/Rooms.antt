@@ -1,13 +1,8 @@
 -- The room that a walk needs: of at most 512 runs, rows of at most 131,328 words and at most 524,800 steps. Assumes nothing.
-use mathlib.Core.Path.{◌≡◌, refl, sym}
-use mathlib.Core.Bool.{Bool, true, false, not, ◌&&◌}
-use mathlib.Core.List.{List, [], ◌∷◌, ◌++◌, map}
+use Rattle.std.proofs.Common.{◌≡◌, refl, sym, Bool, true, false, not, ◌&&◌, List, [], ◌∷◌, ◌++◌, map, ℕ, zero, suc, ◌+◌, ◌-◌, ◌*◌, ◌/◌, ◌≤◌, max, arith, length, take, drop, length-append}
+use Rattle.std.proofs.Common.{length-take, length-drop, leb, eqb, le-ltb}
 use mathlib.Core.Option.{Option, none, some}
-use Prim.Native.Nat.{ℕ, zero, suc, ◌+◌, ◌-◌, ◌*◌, ◌/◌, ◌≤◌, max}
-use native.Mathlib.Omega.{arith}
-use lib.ListN.{length, take, drop, length-append, length-take, length-drop, length-map}
-use lib.Dec.{leb, eqb}
-use borrow.Author.Tests.{le-ltb}
+use lib.ListN.{length-map}
 use Rattle.lists.specs.Lists.{all, filter, count, concat, upto, mem}
 use Rattle.lists.proofs.Truth.{false_true}
 use Rattle.lists.proofs.Counts.{filter-length}

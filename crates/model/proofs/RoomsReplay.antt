@@ -1,12 +1,6 @@
 -- The room that a full replay needs: the ranges of a cut lie apart from one another, so 525,312 steps are enough. Assumes nothing.
-use mathlib.Core.Path.{◌≡◌, refl, sym, ◌∙◌}
-use mathlib.Core.Bool.{Bool, true, false}
-use mathlib.Core.List.{List, [], ◌∷◌, ◌++◌}
-use Prim.Native.Nat.{ℕ, suc, ◌-◌, ◌*◌, ◌/◌, ◌≤◌, ◌<◌}
-use native.Mathlib.Omega.{arith}
-use lib.ListN.{length, take, length-map}
-use lib.Dec.{leb, ltb, eqb}
-use borrow.Author.Tests.{le-ltb, ne_eqb}
+use Rattle.std.proofs.Common.{◌≡◌, refl, sym, ◌∙◌, Bool, true, false, List, [], ◌∷◌, ◌++◌, ℕ, suc, ◌-◌, ◌*◌, ◌/◌, ◌≤◌, ◌<◌, arith, length, take, leb, ltb, eqb, le-ltb, ne_eqb}
+use lib.ListN.{length-map}
 use Rattle.lists.specs.Lists.{filter, concat, from, upto}
 use Rattle.lists.specs.Areas.{fitting}
 use Rattle.lists.proofs.Truth.{false_true}

@@ -1,13 +1,8 @@
 -- A run's row counts, along each chain of the range, the runs of its history: chains grow by later runs alone. Assumes nothing.
-use mathlib.Core.Path.{◌≡◌, refl, sym, ap, ◌∙◌, subst}
-use mathlib.Core.Logic.{◌⊎◌, inl, inr}
-use mathlib.Core.Bool.{Bool, true, false}
-use mathlib.Core.List.{List, [], ◌∷◌, ◌++◌, append-nil, append_assoc}
-use Prim.Native.Nat.{ℕ, zero, suc, ◌+◌, ◌-◌, ◌≤◌, ◌<◌}
-use native.Mathlib.Omega.{arith}
-use lib.ListN.{length, get_or, length-append, length-map, get_or-append, get_or-map, get_or-eq_default}
-use lib.Dec.{leb}
-use borrow.Author.Tests.{le-leb, lt-leb}
+use Rattle.std.proofs.Common.{◌≡◌, refl, sym, ap, ◌∙◌, subst, ◌⊎◌, inl, inr, Bool, true, false, List, [], ◌∷◌, ◌++◌, append-nil, append_assoc, ℕ, zero, suc, ◌+◌, ◌-◌, ◌≤◌, ◌<◌, arith, length}
+use Rattle.std.proofs.Common.{get_or, length-append, leb, le-leb}
+use lib.ListN.{length-map, get_or-append, get_or-map, get_or-eq_default}
+use borrow.Author.Tests.{lt-leb}
 use Rattle.lists.specs.Lists.{all, count, mem}
 use Rattle.lists.proofs.Truth.{lt_or_le, false_true, not_so, or_cases}
 use Rattle.lists.proofs.Members.{mem-append, mem_one, get_d_mem}

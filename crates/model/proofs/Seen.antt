@@ -1,14 +1,8 @@
 -- What a graph keeps with its plain log: the runs, seen lengths that tell the truth, and a frontier above every held event. Assumes
 -- nothing.
-use mathlib.Core.Path.{◌≡◌, refl, sym, ◌∙◌}
-use mathlib.Core.Logic.{◌⊎◌, inl, inr}
-use mathlib.Core.Bool.{Bool, true, false, ◌||◌}
-use mathlib.Core.List.{List, [], ◌∷◌}
-use Prim.Native.Nat.{ℕ, zero, suc, ◌≤◌, ◌<◌}
-use native.Mathlib.Omega.{arith}
-use lib.ListN.{length, get_or, get_or-eq_default}
-use lib.Dec.{leb, eqb}
-use borrow.Author.Tests.{ltb-true, le-leb, lt-leb, eq-eqb}
+use Rattle.std.proofs.Common.{◌≡◌, refl, sym, ◌∙◌, ◌⊎◌, inl, inr, Bool, true, false, ◌||◌, List, [], ◌∷◌, ℕ, zero, suc, ◌≤◌, ◌<◌, arith, length, get_or, leb, eqb, ltb-true, le-leb, eq-eqb}
+use lib.ListN.{get_or-eq_default}
+use borrow.Author.Tests.{lt-leb}
 use Rattle.lists.specs.Lists.{mem, count}
 use Rattle.lists.proofs.Truth.{false_true, or_right}
 use Rattle.lists.proofs.Members.{get_d_snoc, mem-filter, any_intro, any_elim}

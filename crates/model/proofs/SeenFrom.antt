@@ -1,10 +1,5 @@
 -- What a run comes to have seen is one of a few numbers: what holds of each of them holds of it. Assumes nothing.
-use mathlib.Core.Path.{◌≡◌, sym, subst}
-use mathlib.Core.Bool.{true}
-use mathlib.Core.List.{List, map}
-use Prim.Native.Nat.{ℕ, suc}
-use lib.ListN.{get_or}
-use lib.Dec.{eqb}
+use Rattle.std.proofs.Common.{◌≡◌, sym, subst, true, List, map, ℕ, suc, get_or, eqb}
 use Rattle.lists.specs.Lists.{mem, same, largest}
 use Rattle.lists.proofs.Truth.{cond_has}
 use Rattle.lists.proofs.Members.{map-mem}

@@ -1,12 +1,5 @@
 -- What the second part of a split has seen is its own start only where the run had seen up to its own start. Assumes nothing.
-use mathlib.Core.Path.{◌≡◌, refl}
-use mathlib.Core.Logic.{◌⊎◌, inl, inr}
-use mathlib.Core.Bool.{Bool, true, false, cond}
-use Prim.Native.Nat.{ℕ}
-use native.Mathlib.Omega.{arith}
-use lib.ListN.{get_or}
-use lib.Dec.{eqb}
-use borrow.Author.Tests.{eqb-true}
+use Rattle.std.proofs.Common.{◌≡◌, refl, ◌⊎◌, inl, inr, Bool, true, false, cond, ℕ, arith, get_or, eqb, eqb-true}
 use Rattle.model.specs.Graph.{Graph, start}
 use Rattle.model.specs.Split.{second_seen}
 

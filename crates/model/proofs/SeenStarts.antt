@@ -1,12 +1,5 @@
 -- Seen lengths are run starts: a fresh graph has none, and splits, growth and new runs keep it so. Assumes nothing.
-use mathlib.Core.Path.{◌≡◌, sym, ◌∙◌, subst}
-use mathlib.Core.Logic.{◌⊎◌, inl, inr}
-use mathlib.Core.Bool.{true}
-use mathlib.Core.List.{List, [], ◌∷◌}
-use Prim.Native.Nat.{ℕ, suc, ◌+◌, ◌≤◌, ◌<◌}
-use native.Mathlib.Omega.{arith}
-use lib.ListN.{length, get_or, take, length-take}
-use lib.Seq.{get_or-take}
+use Rattle.std.proofs.Common.{◌≡◌, sym, ◌∙◌, subst, ◌⊎◌, inl, inr, true, List, [], ◌∷◌, ℕ, suc, ◌+◌, ◌≤◌, ◌<◌, arith, length, get_or, take, length-take, get_or-take}
 use Rattle.lists.specs.Lists.{mem, insert_at}
 use Rattle.lists.proofs.Truth.{lt_or_le, eq_or-not, false_true, or_cases, or_left}
 use Rattle.lists.proofs.Members.{mem_one, mem-append, mem_index, get_d_mem}

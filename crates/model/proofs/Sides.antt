@@ -1,11 +1,6 @@
 -- What the side of an event tells in a well-formed graph, and that it agrees with 01's comparisons. Assumes nothing.
-use mathlib.Core.Path.{◌≡◌, sym, ap, ◌∙◌}
-use mathlib.Core.Logic.{◌⊎◌, inl, inr, ◌↔◌}
-use mathlib.Core.Bool.{Bool, false, cond, not, ◌||◌}
-use Prim.Native.Nat.{ℕ, suc, ◌≤◌, ◌<◌}
-use native.Mathlib.Omega.{arith}
-use lib.Dec.{leb}
-use borrow.Author.Tests.{le-ltb, le-leb, lt-leb}
+use Rattle.std.proofs.Common.{◌≡◌, sym, ap, ◌∙◌, ◌⊎◌, inl, inr, ◌↔◌, Bool, false, cond, not, ◌||◌, ℕ, suc, ◌≤◌, ◌<◌, arith, leb, le-ltb, le-leb}
+use borrow.Author.Tests.{lt-leb}
 use Rattle.lists.proofs.Truth.{lt_or_le, lt_eq_gt}
 use Rattle.model.specs.Graph.{Graph, runs, start, first_held, len, containing, Side, in_run, before, unknown, side}
 use Rattle.model.specs.Broken.{WellFormed}

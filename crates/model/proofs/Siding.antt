@@ -1,12 +1,6 @@
 -- Where an event lies, by comparisons with the first held event and `len`; so which events are held and which known. Assumes nothing.
-use mathlib.Core.Path.{◌≡◌, sym, ap, ◌∙◌}
-use mathlib.Core.Logic.{◌⊎◌, inl, inr}
-use mathlib.Core.Bool.{true, ◌&&◌}
-use mathlib.Core.List.{List}
-use Prim.Native.Nat.{ℕ, suc, ◌≤◌, ◌<◌}
-use native.Mathlib.Omega.{arith}
-use lib.Dec.{leb, ltb}
-use borrow.Author.Tests.{lt-ltb, le-ltb, le-leb, lt-leb, leb-true, ltb-true}
+use Rattle.std.proofs.Common.{◌≡◌, sym, ap, ◌∙◌, ◌⊎◌, inl, inr, true, ◌&&◌, List, ℕ, suc, ◌≤◌, ◌<◌, arith, leb, ltb, lt-ltb, le-ltb, le-leb, leb-true, ltb-true}
+use borrow.Author.Tests.{lt-leb}
 use Rattle.lists.specs.Lists.{filter, mem, below}
 use Rattle.lists.proofs.Truth.{lt_or_le, and_left, and_right, and_true}
 use Rattle.lists.proofs.Members.{mem-filter, filter-mem, all_same, filter_agree}

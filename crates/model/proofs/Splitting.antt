@@ -1,13 +1,7 @@
 -- A split keeps a graph tied to its log, and its seen lengths sound. Assumes nothing.
-use mathlib.Core.Path.{◌≡◌, refl, sym, ap, ◌∙◌, subst}
-use mathlib.Core.Logic.{◌⊎◌, inl, inr}
-use mathlib.Core.Bool.{true, false}
-use mathlib.Core.List.{List, [], ◌∷◌, ◌++◌, map}
-use Prim.Native.Nat.{ℕ, suc, ◌-◌, ◌≤◌, ◌<◌}
-use native.Mathlib.Omega.{arith}
-use lib.ListN.{length, get_or, length-map, get_or-map}
-use lib.Dec.{leb}
-use borrow.Author.Tests.{leb-true, leb-false, lt-ltb, le-ltb, le-leb}
+use Rattle.std.proofs.Common.{◌≡◌, refl, sym, ap, ◌∙◌, subst, ◌⊎◌, inl, inr, true, false, List, [], ◌∷◌, ◌++◌, map, ℕ, suc, ◌-◌, ◌≤◌, ◌<◌, arith, length, get_or, leb, leb-true, leb-false, lt-ltb}
+use Rattle.std.proofs.Common.{le-ltb, le-leb}
+use lib.ListN.{length-map, get_or-map}
 use Rattle.lists.specs.Lists.{filter, mem, count, insert_at}
 use Rattle.lists.proofs.Truth.{lt_or_le, eq_or-not, false_true}
 use Rattle.lists.proofs.Members.{mem_one, get_d_mem, map-mem}

@@ -1,14 +1,8 @@
 -- Between the record and the graph without padding: what is stored comes back, and a record is not broken exactly if it holds a
 -- well-formed graph within the limits. Assumes nothing.
-use mathlib.Core.Path.{◌≡◌, refl, sym, ap, ◌∙◌, subst}
-use mathlib.Core.Logic.{◌↔◌}
-use mathlib.Core.Bool.{Bool, true, false, ◌&&◌, ◌||◌}
-use Prim.Native.Nat.{◌+◌, ◌≤◌, ◌<◌}
-use native.Mathlib.Omega.{arith}
-use lib.ListN.{length, take, drop, get_or}
-use lib.Seq.{get_or-take, length-take-le}
-use lib.Dec.{ltb, eqb}
-use borrow.Author.Tests.{ltb-false, eqb-true, le-ltb, eq-eqb, not-false}
+use Rattle.std.proofs.Common.{◌≡◌, refl, sym, ap, ◌∙◌, subst, ◌↔◌, Bool, true, false, ◌&&◌, ◌||◌, ◌+◌, ◌≤◌, ◌<◌, arith, length, take, drop, get_or, get_or-take, length-take-le, ltb, eqb}
+use Rattle.std.proofs.Common.{ltb-false, eqb-true, le-ltb, eq-eqb}
+use borrow.Author.Tests.{not-false}
 use Rattle.lists.specs.Lists.{upto, same, rising, concat, sum}
 use Rattle.lists.specs.Areas.{zeros, pad, group_starts, groups, climbs}
 use Rattle.lists.proofs.Truth.{and_left, and_right, or-first, or-last}

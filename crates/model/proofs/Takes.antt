@@ -1,10 +1,6 @@
 -- The value of a take is at most the lowest run whose events, parents or mark differ: splits, growth and new runs keep every run below
 -- `changed_from` as it was. Assumes nothing.
-use mathlib.Core.Path.{◌≡◌, refl, sym, ◌∙◌}
-use mathlib.Core.Bool.{not}
-use mathlib.Core.List.{List}
-use Prim.Native.Nat.{ℕ, suc, ◌<◌, min}
-use native.Mathlib.Omega.{arith}
+use Rattle.std.proofs.Common.{◌≡◌, refl, sym, ◌∙◌, not, List, ℕ, suc, ◌<◌, min, arith}
 use Rattle.lists.specs.Lists.{filter, mem}
 use Rattle.lists.proofs.Bounds.{least_le}
 use Rattle.model.specs.Graph.{Graph, runs, start, marked, marks}

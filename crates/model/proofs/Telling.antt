@@ -1,13 +1,7 @@
 -- The numbers that a graph tells of its runs and events are those of the plain log that it is tied to. Assumes nothing.
-use mathlib.Core.Path.{◌≡◌, refl, sym, ap, ap₂, ◌∙◌, subst, fun_ext}
-use mathlib.Core.Logic.{◌⊎◌, inl, inr}
-use mathlib.Core.Bool.{Bool, true, false, cond}
-use mathlib.Core.List.{List, [], ◌∷◌, map}
-use Prim.Native.Nat.{ℕ, suc, ◌+◌, ◌-◌, ◌≤◌, ◌<◌}
-use native.Mathlib.Omega.{arith}
-use lib.ListN.{length}
-use lib.Dec.{leb, eqb}
-use borrow.Author.Tests.{leb-true, eq-eqb, ne_eqb}
+use Rattle.std.proofs.Common.{◌≡◌, refl, sym, ap, ap₂, ◌∙◌, subst, ◌⊎◌, inl, inr, Bool, true, false, cond, List, [], ◌∷◌, map, ℕ, suc, ◌+◌, ◌-◌, ◌≤◌, ◌<◌, arith, length, leb, eqb, leb-true}
+use Rattle.std.proofs.Common.{eq-eqb, ne_eqb}
+use mathlib.Core.Path.{fun_ext}
 use Rattle.lists.specs.Lists.{mem}
 use Rattle.lists.proofs.Truth.{eq_or-not, lt_of_ne, false_true}
 use Rattle.lists.proofs.Members.{mem-first, mem-filter, map_same}

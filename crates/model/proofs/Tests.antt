@@ -1,8 +1,6 @@
 -- Tests for refusals, one after another: a call that is done has failed each. Assumes nothing.
-use mathlib.Core.Path.{◌≡◌, refl, ap}
-use mathlib.Core.Bool.{Bool, true, false, cond, false≢true}
-use mathlib.Core.List.{List, ◌∷◌}
-use Prim.Native.Nat.{ℕ}
+use Rattle.std.proofs.Common.{◌≡◌, refl, ap, Bool, true, false, cond, List, ◌∷◌, ℕ}
+use mathlib.Core.Bool.{false≢true}
 use Rattle.model.specs.declared.answers.Refusal.{Refusal}
 use Rattle.model.specs.Refusals.{refusal, first_of, Outcome}
 use Rattle.std.specs.Prelude.{Ok, Err}

@@ -1,12 +1,6 @@
 -- The ranges of a cut lie side by side from run 0 to the last, each from a marked run, a Linear one of marked runs alone. Assumes nothing.
-use mathlib.Core.Path.{◌≡◌, refl, sym, subst}
-use mathlib.Core.Logic.{◌⊎◌, inl, inr}
-use mathlib.Core.Bool.{Bool, true, false, cond}
-use mathlib.Core.List.{List, [], ◌∷◌}
-use Prim.Native.Nat.{ℕ, zero, suc, ◌+◌, ◌≤◌, ◌<◌}
-use native.Mathlib.Omega.{arith}
-use lib.Dec.{leb, eqb, leb-zero}
-use borrow.Author.Tests.{eqb-true}
+use Rattle.std.proofs.Common.{◌≡◌, refl, sym, subst, ◌⊎◌, inl, inr, Bool, true, false, cond, List, [], ◌∷◌, ℕ, zero, suc, ◌+◌, ◌≤◌, ◌<◌, arith, leb, eqb, eqb-true}
+use lib.Dec.{leb-zero}
 use Rattle.lists.specs.Lists.{filter, from, upto}
 use Rattle.lists.proofs.Truth.{eq_or-not}
 use Rattle.lists.proofs.Counts.{filter_true}

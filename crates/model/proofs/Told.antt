@@ -1,12 +1,5 @@
 -- What walks and full replays tell is what they wrote: the steps, and the events in the moves. Assumes nothing.
-use mathlib.Core.Path.{◌≡◌, refl, sym, ◌∙◌}
-use mathlib.Core.Bool.{Bool, true, false}
-use mathlib.Core.List.{List, [], ◌∷◌, ◌++◌}
-use Prim.Native.Nat.{ℕ, ◌+◌, ◌-◌, ◌*◌, ◌/◌, ◌≤◌}
-use native.Mathlib.Omega.{arith}
-use lib.ListN.{length, take, length-append, length-take}
-use lib.Dec.{ltb, eqb}
-use borrow.Author.Tests.{ltb-false}
+use Rattle.std.proofs.Common.{◌≡◌, refl, sym, ◌∙◌, Bool, true, false, List, [], ◌∷◌, ◌++◌, ℕ, ◌+◌, ◌-◌, ◌*◌, ◌/◌, ◌≤◌, arith, length, take, length-append, length-take, ltb, eqb, ltb-false}
 use Rattle.lists.specs.Lists.{bit, sum, concat, from, upto, largest}
 use Rattle.lists.proofs.Between.{within, count-between}
 use Rattle.lists.proofs.Counts.{count-sum, sum-zero, sum-add}

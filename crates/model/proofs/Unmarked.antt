@@ -1,13 +1,6 @@
 -- An unmarked run stays unmarked, and run starts are told true exactly where one starts, or comes to start by a split. Assumes nothing.
-use mathlib.Core.Path.{◌≡◌, refl, sym, ap, ◌∙◌}
-use mathlib.Core.Logic.{◌⊎◌, inl, inr}
-use mathlib.Core.Bool.{Bool, true, false, ◌&&◌, ◌||◌}
-use mathlib.Core.List.{List}
-use Prim.Native.Nat.{ℕ, suc, ◌≤◌, ◌<◌}
-use native.Mathlib.Omega.{arith}
-use lib.ListN.{get_or, drop}
-use lib.Dec.{leb, eqb}
-use borrow.Author.Tests.{leb-true, eqb-false}
+use Rattle.std.proofs.Common.{◌≡◌, refl, sym, ap, ◌∙◌, ◌⊎◌, inl, inr, Bool, true, false, ◌&&◌, ◌||◌, List, ℕ, suc, ◌≤◌, ◌<◌, arith, get_or, drop, leb, eqb, leb-true}
+use borrow.Author.Tests.{eqb-false}
 use Rattle.lists.specs.Lists.{all, insert_at}
 use Rattle.lists.proofs.Truth.{lt_or_le, lt_of_ne, false_true, not_so, and_left, and_right, and_both}
 use Rattle.lists.proofs.Members.{all-from_on}

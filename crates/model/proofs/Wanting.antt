@@ -1,13 +1,6 @@
 -- The wanted parents give the marked events, and nothing else does. Assumes nothing.
-use mathlib.Core.Path.{◌≡◌, refl, sym, ap, ◌∙◌, subst}
-use mathlib.Core.Logic.{◌⊎◌, inl, inr, ◌↔◌}
-use mathlib.Core.Bool.{Bool, true, false, not}
-use mathlib.Core.List.{List, [], ◌∷◌, ◌++◌}
-use Prim.Native.Nat.{ℕ, ◌-◌, ◌≤◌, ◌<◌}
-use native.Mathlib.Omega.{arith}
-use lib.ListN.{length, take, drop}
-use lib.Dec.{ltb}
-use borrow.Author.Tests.{ltb-true, ltb-false, le-ltb}
+use Rattle.std.proofs.Common.{◌≡◌, refl, sym, ap, ◌∙◌, subst, ◌⊎◌, inl, inr, ◌↔◌, Bool, true, false, not, List, [], ◌∷◌, ◌++◌, ℕ, ◌-◌, ◌≤◌, ◌<◌, arith, length, take, drop, ltb, ltb-true}
+use Rattle.std.proofs.Common.{ltb-false, le-ltb}
 use Rattle.lists.specs.Lists.{all, filter, from, mem, rising}
 use Rattle.lists.specs.Areas.{over}
 use Rattle.lists.proofs.Truth.{bool_iff, false_true, not_so, and_left, and_right, or_cases}

@@ -1,9 +1,5 @@
 -- A visit's records as code writes them, chain by chain. Assumes nothing.
-use mathlib.Core.Path.{◌≡◌, sym, ap, ◌∙◌}
-use mathlib.Core.List.{List, [], ◌∷◌, ◌++◌}
-use Prim.Native.Nat.{ℕ, suc, ◌+◌, ◌-◌, ◌≤◌, ◌<◌}
-use native.Mathlib.Omega.{arith}
-use lib.ListN.{get_or, take, drop}
+use Rattle.std.proofs.Common.{◌≡◌, sym, ap, ◌∙◌, List, [], ◌∷◌, ◌++◌, ℕ, suc, ◌+◌, ◌-◌, ◌≤◌, ◌<◌, arith, get_or, take, drop}
 use Rattle.lists.specs.Areas.{part}
 use Rattle.moves.specs.declared.writing.Kind.{Kind}
 use Rattle.moves.specs.declared.writing.Kind.TheVariants.{Retreat, Advance, Apply}

@@ -1,16 +1,10 @@
 -- What a writer leaves, in closed form: the whole records that fit, and the rest of the list untouched. Assumes nothing.
-use mathlib.Core.Path.{◌≡◌, refl, sym, ap, ◌∙◌}
-use mathlib.Core.Logic.{⊎_elim}
-use mathlib.Core.Bool.{Bool, true, false}
-use mathlib.Core.List.{List, [], ◌∷◌, ◌++◌, append_assoc}
-use Prim.Native.Nat.{ℕ, suc, ◌+◌, ◌*◌, ◌/◌, ◌-◌, ◌<◌, ◌≤◌}
-use native.Mathlib.Nat.{sub-zero, zero-add}
-use native.Mathlib.Numerals.{add-one, add-two}
-use native.Mathlib.Omega.{arith}
-use borrow.Author.Tests.{lt-ltb, le-ltb}
-use lib.ListN.{length, take, drop, length-set, length-append, take-append-drop}
-use lib.Seq.{sets-eq, take_at, drop-append-add, drop-drop, length-take-le, take-nil}
-use lib.Dec.{ltb, leb-suc-suc}
+use Rattle.std.proofs.Common.{◌≡◌, refl, sym, ap, ◌∙◌, ⊎_elim, Bool, true, false, List, [], ◌∷◌, ◌++◌, append_assoc, ℕ, suc, ◌+◌, ◌*◌, ◌/◌, ◌-◌, ◌<◌, ◌≤◌, zero-add, add-one, arith, lt-ltb, le-ltb}
+use Rattle.std.proofs.Common.{length, take, drop, length-set, length-append, take-append-drop, take_at, drop-drop, length-take-le, ltb}
+use native.Mathlib.Nat.{sub-zero}
+use native.Mathlib.Numerals.{add-two}
+use lib.Seq.{sets-eq, drop-append-add, take-nil}
+use lib.Dec.{leb-suc-suc}
 use Rattle.lists.proofs.Truth.{lt_or_le}
 use Rattle.moves.specs.declared.writing.Out.{Out}
 use Rattle.moves.specs.Emit.{kind_word, Rec, Writing, put3, emit}

@@ -1,8 +1,5 @@
 -- Records written in turn: two lists of records, and runs applied. Assumes nothing.
-use mathlib.Core.Path.{◌≡◌, refl}
-use mathlib.Core.List.{List, [], ◌∷◌, ◌++◌}
-use Prim.Native.Nat.{ℕ, suc, ◌+◌, ◌-◌, ◌≤◌, ◌<◌}
-use native.Mathlib.Omega.{arith}
+use Rattle.std.proofs.Common.{◌≡◌, refl, List, [], ◌∷◌, ◌++◌, ℕ, suc, ◌+◌, ◌-◌, ◌≤◌, ◌<◌, arith}
 use Rattle.moves.specs.declared.writing.Kind.TheVariants.{Apply}
 use Rattle.moves.specs.Emit.{Rec, Writing, step_of, emit_one, emit, applies}
 

@@ -1,11 +1,7 @@
 -- What one set has of a chain and another has not is a piece of the chain. Assumes nothing.
-use mathlib.Core.Path.{◌≡◌, refl, sym, ap, ◌∙◌}
-use mathlib.Core.Bool.{Bool, true, false, not, cond, ◌&&◌}
-use mathlib.Core.List.{List, [], ◌∷◌}
-use Prim.Native.Nat.{ℕ, suc, ◌+◌, ◌-◌, ◌≤◌, ◌<◌}
-use native.Mathlib.Omega.{arith}
-use lib.ListN.{length, get_or, take, drop, length-take, length-drop}
-use lib.Seq.{get_or-take, get_or-drop, ext_get_or, drop-nil}
+use Rattle.std.proofs.Common.{◌≡◌, refl, sym, ap, ◌∙◌, Bool, true, false, not, cond, ◌&&◌, List, [], ◌∷◌, ℕ, suc, ◌+◌, ◌-◌, ◌≤◌, ◌<◌, arith, length, get_or, take, drop, length-take, length-drop}
+use Rattle.std.proofs.Common.{get_or-take, get_or-drop, ext_get_or}
+use lib.Seq.{drop-nil}
 use Rattle.lists.specs.Lists.{bit, filter, count}
 use Rattle.lists.specs.Areas.{part}
 use Rattle.tables.proofs.Prefixes.{Falls, none_after, tail}

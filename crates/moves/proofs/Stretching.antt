@@ -1,13 +1,6 @@
 -- Stretches written run by run. Assumes nothing.
-use mathlib.Core.Path.{◌≡◌, refl}
-use mathlib.Core.Bool.{Bool, true, false}
-use mathlib.Core.List.{List, [], ◌∷◌}
-use Prim.Native.Nat.{ℕ, suc, ◌+◌, ◌-◌, ◌≤◌, ◌<◌}
-use native.Mathlib.Numerals.{add-one}
-use native.Mathlib.Omega.{arith}
-use lib.ListN.{length, get_or, take, drop, length-drop, drop_of_length-le}
-use lib.Seq.{drop-cons, take_all, get_or-drop}
-use lib.Dec.{eqb}
+use Rattle.std.proofs.Common.{◌≡◌, refl, Bool, true, false, List, [], ◌∷◌, ℕ, suc, ◌+◌, ◌-◌, ◌≤◌, ◌<◌, add-one, arith, length, get_or, take, drop, length-drop, drop_of_length-le, drop-cons}
+use Rattle.std.proofs.Common.{take_all, get_or-drop, eqb}
 use Rattle.moves.specs.declared.writing.Kind.{Kind}
 use Rattle.moves.specs.Emit.{Writing, emit_one, emit}
 use Rattle.moves.specs.Stretches.{Below, Open, span_of, pick_l, pick_o, stretch_of, begun, stretch_from, stretches, stretch_on}

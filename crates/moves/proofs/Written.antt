@@ -1,10 +1,6 @@
 -- What the writer leaves of the definitions' steps is what the definitions write, cut to the room. Assumes nothing.
-use mathlib.Core.Path.{◌≡◌, refl, sym, ap, ap₂, ◌∙◌}
-use mathlib.Core.List.{List, [], ◌∷◌, ◌++◌, map}
-use Prim.Native.Nat.{ℕ, zero, suc, ◌+◌, ◌-◌, ◌*◌, ◌/◌}
-use native.Mathlib.Omega.{arith}
-use lib.ListN.{length, get_or, take, drop, length-map}
-use lib.Dec.{ltb}
+use Rattle.std.proofs.Common.{◌≡◌, refl, sym, ap, ap₂, ◌∙◌, List, [], ◌∷◌, ◌++◌, map, ℕ, zero, suc, ◌+◌, ◌-◌, ◌*◌, ◌/◌, arith, length, get_or, take, drop, ltb}
+use lib.ListN.{length-map}
 use Rattle.lists.specs.Lists.{concat, from}
 use Rattle.lists.specs.Areas.{over}
 use Rattle.model.specs.Graph.{Graph, start}

@@ -1,14 +1,9 @@
 -- The bits of words of any width: joined, counted, and set one by one. Assumes nothing.
-use mathlib.Core.Path.{◌≡◌, refl, sym, ap, ap₂, ◌∙◌}
-use mathlib.Core.Bool.{Bool, true, false, ◌||◌}
-use mathlib.Core.List.{List, [], ◌∷◌, ◌++◌}
-use Prim.Native.Nat.{ℕ, zero, suc, ◌+◌, ◌*◌, ◌/◌, ◌%◌, ◌^◌, ◌<◌, max}
-use native.Mathlib.Omega.{arith}
-use native.Mathlib.Nat.{pow-suc, zero-add, suc-add, zero-mul, suc-mul}
-use lib.ListN.{length, get_or, set, replicate, length-append, replicate-append-replicate}
+use Rattle.std.proofs.Common.{◌≡◌, refl, sym, ap, ap₂, ◌∙◌, Bool, true, false, ◌||◌, List, [], ◌∷◌, ◌++◌, ℕ, zero, suc, ◌+◌, ◌*◌, ◌/◌, ◌%◌, ◌^◌, ◌<◌, max, arith, pow-suc, zero-add, suc-add}
+use Rattle.std.proofs.Common.{zero-mul, suc-mul, length, get_or, set, replicate, length-append, eqb, bit_or}
+use lib.ListN.{replicate-append-replicate}
 use lib.Seq.{set-append_left}
-use lib.Dec.{eqb}
-use lib.Bits.{bit_or, or_step, or_zero_r}
+use lib.Bits.{or_step, or_zero_r}
 use lib.Count.{ones, ones_in, ones_step}
 use Rattle.std.specs.Prelude.{count_ones}
 use Rattle.std.specs.List.{sum_by}

@@ -1,11 +1,6 @@
 -- The chains of the runs so far, and each run's place on them. Assumes nothing.
-use mathlib.Core.Path.{◌≡◌, refl, sym, ap, ◌∙◌, subst}
-use mathlib.Core.Logic.{◌⊎◌, inl, inr}
-use mathlib.Core.Bool.{Bool, true, false, cond}
-use mathlib.Core.List.{List, [], ◌∷◌, ◌++◌}
-use Prim.Native.Nat.{ℕ, zero, suc, ◌≤◌, ◌<◌, max}
-use native.Mathlib.Omega.{arith}
-use lib.ListN.{length, get_or, length-append, length-map, get_or-append, get_or-map}
+use Rattle.std.proofs.Common.{◌≡◌, refl, sym, ap, ◌∙◌, subst, ◌⊎◌, inl, inr, Bool, true, false, cond, List, [], ◌∷◌, ◌++◌, ℕ, zero, suc, ◌≤◌, ◌<◌, max, arith, length, get_or, length-append}
+use lib.ListN.{length-map, get_or-append, get_or-map}
 use lib.Seq.{get_or-append_seam}
 use Rattle.lists.specs.Lists.{all, mem, count}
 use Rattle.lists.proofs.Truth.{eq_or-not}

@@ -1,15 +1,7 @@
 -- Children counted run by run. Assumes nothing.
-use mathlib.Core.Path.{◌≡◌, refl, sym, ap, ap₂, ◌∙◌}
-use mathlib.Core.Logic.{◌⊎◌, inl, inr}
-use mathlib.Core.List.{List, [], ◌∷◌}
-use Prim.Native.Nat.{ℕ, zero, suc, ◌+◌, ◌-◌, ◌*◌, ◌≤◌, ◌<◌, ◌^◌}
-use native.Mathlib.Nat.{suc-mul, zero-add}
-use native.Mathlib.Numerals.{add-one}
-use native.Mathlib.Omega.{arith}
-use lib.ListN.{length, get_or, take, set, length-set, replicate, length-replicate, get_or-replicate, get_or-eq_default}
-use lib.Seq.{take-suc, get_or-set_same, get_or-set_other}
-use lib.Dec.{eqb}
-use borrow.Author.Tests.{eq-eqb, ne_eqb}
+use Rattle.std.proofs.Common.{◌≡◌, refl, sym, ap, ap₂, ◌∙◌, ◌⊎◌, inl, inr, List, [], ◌∷◌, ℕ, zero, suc, ◌+◌, ◌-◌, ◌*◌, ◌≤◌, ◌<◌, ◌^◌, suc-mul, zero-add, add-one, arith, length, get_or, take, set}
+use Rattle.std.proofs.Common.{length-set, replicate, take-suc, get_or-set_same, get_or-set_other, eqb, eq-eqb, ne_eqb}
+use lib.ListN.{length-replicate, get_or-replicate, get_or-eq_default}
 use Rattle.lists.specs.Lists.{bit, count, occurs}
 use Rattle.lists.proofs.Truth.{lt_or_le, eq_or-not}
 use Rattle.lists.proofs.Counts.{count-append, count_le}

@@ -1,11 +1,5 @@
 -- The covers of the definition: a run's is its own bits joined with its children's. Assumes nothing.
-use mathlib.Core.Path.{◌≡◌, refl, sym, ap, ◌∙◌}
-use mathlib.Core.Bool.{Bool, true, false, cond}
-use mathlib.Core.List.{List, [], ◌∷◌}
-use Prim.Native.Nat.{ℕ, zero, suc, ◌+◌, ◌-◌, ◌<◌}
-use native.Mathlib.Omega.{arith}
-use lib.ListN.{length, get_or, drop, length-drop}
-use lib.Seq.{get_or-drop}
+use Rattle.std.proofs.Common.{◌≡◌, refl, sym, ap, ◌∙◌, Bool, true, false, cond, List, [], ◌∷◌, ℕ, zero, suc, ◌+◌, ◌-◌, ◌<◌, arith, length, get_or, drop, length-drop, get_or-drop}
 use Rattle.lists.specs.Lists.{mem, filter, from, upto}
 use Rattle.lists.proofs.Truth.{not_so}
 use Rattle.model.specs.History.{at}

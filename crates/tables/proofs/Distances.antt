@@ -1,10 +1,5 @@
 -- The distance of two versions, by prefix sums. Assumes nothing.
-use mathlib.Core.Path.{◌≡◌, refl, sym, ap, ap₂, ◌∙◌}
-use mathlib.Core.List.{List, [], ◌∷◌}
-use Prim.Native.Nat.{ℕ, zero, suc, ◌+◌, ◌<◌}
-use native.Mathlib.Omega.{arith}
-use native.Mathlib.Numerals.{add-one}
-use lib.ListN.{length, get_or, take}
+use Rattle.std.proofs.Common.{◌≡◌, refl, sym, ap, ap₂, ◌∙◌, List, [], ◌∷◌, ℕ, zero, suc, ◌+◌, ◌<◌, arith, add-one, length, get_or, take}
 use Rattle.lists.specs.Lists.{mem, sum}
 use Rattle.lists.proofs.Counts.{count_le}
 use Rattle.model.specs.History.{at, histories}

@@ -1,15 +1,8 @@
 -- The kids of each run, placed run by run. Assumes nothing.
-use mathlib.Core.Path.{◌≡◌, refl, sym, ap, ◌∙◌, subst}
-use mathlib.Core.Logic.{◌⊎◌, inl, inr}
-use mathlib.Core.Bool.{Bool, true}
-use mathlib.Core.List.{List, [], ◌∷◌, ◌++◌, append-nil, append_assoc}
-use Prim.Native.Nat.{ℕ, suc, ◌+◌, ◌≤◌, ◌<◌}
-use native.Mathlib.Numerals.{add-one}
-use native.Mathlib.Omega.{arith}
-use lib.ListN.{length, get_or, set, replicate, length-set, length-append, length-replicate, replicate-append-replicate, get_or-append}
-use lib.Seq.{get_or-set_same, get_or-set_other, get_or_at}
-use lib.Dec.{eqb}
-use borrow.Author.Tests.{eq-eqb, ne_eqb}
+use Rattle.std.proofs.Common.{◌≡◌, refl, sym, ap, ◌∙◌, subst, ◌⊎◌, inl, inr, Bool, true, List, [], ◌∷◌, ◌++◌, append-nil, append_assoc, ℕ, suc, ◌+◌, ◌≤◌, ◌<◌, add-one, arith, length, get_or, set}
+use Rattle.std.proofs.Common.{replicate, length-set, length-append, get_or-set_same, get_or-set_other, eqb, eq-eqb, ne_eqb}
+use lib.ListN.{length-replicate, replicate-append-replicate, get_or-append}
+use lib.Seq.{get_or_at}
 use Rattle.lists.specs.Lists.{bit, mem, occurs}
 use Rattle.lists.proofs.Truth.{lt_or_le, eq_or-not, lt_of_ne}
 use Rattle.lists.proofs.Members.{mem-first, mem-rest}

@@ -1,12 +1,8 @@
 -- The tables' first lists in their area: as they are lent, cleared, and with one run more. Assumes nothing.
-use mathlib.Core.Path.{◌≡◌, refl, sym, ap, ap₂, ◌∙◌}
-use mathlib.Core.Logic.{◌⊎◌, inl, inr}
-use mathlib.Core.List.{List, ◌++◌}
-use Prim.Native.Nat.{ℕ, ◌+◌, ◌-◌, ◌*◌, ◌≤◌, ◌<◌}
-use native.Mathlib.Nat.{zero-add}
-use native.Mathlib.Omega.{arith}
-use lib.ListN.{length, get_or, take, drop, set, replicate, length-append, length-drop, length-replicate, get_or-eq_default}
-use lib.Seq.{drop-set-lt, drop-set-add, take-set-le, take-set-lt, take_at, get_or-take, get_or-drop}
+use Rattle.std.proofs.Common.{◌≡◌, refl, sym, ap, ap₂, ◌∙◌, ◌⊎◌, inl, inr, List, ◌++◌, ℕ, ◌+◌, ◌-◌, ◌*◌, ◌≤◌, ◌<◌, zero-add, arith, length, get_or, take, drop, set, replicate, length-append}
+use Rattle.std.proofs.Common.{length-drop, drop-set-lt, take_at, get_or-take, get_or-drop}
+use lib.ListN.{length-replicate, get_or-eq_default}
+use lib.Seq.{drop-set-add, take-set-le, take-set-lt}
 use Rattle.lists.specs.Areas.{part}
 use Rattle.lists.proofs.Truth.{lt_or_le}
 use Rattle.lists.proofs.Pads.{zeros_get}

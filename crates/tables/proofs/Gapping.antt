@@ -1,11 +1,5 @@
 -- Gaps and events of versions, chain by chain, and the sizes of two versions beside their distance. Assumes nothing.
-use mathlib.Core.Path.{◌≡◌, ◌∙◌}
-use mathlib.Core.Logic.{◌⊎◌, inl, inr}
-use mathlib.Core.List.{List}
-use Prim.Native.Nat.{ℕ, zero, suc, ◌+◌, ◌-◌, ◌≤◌, ◌<◌}
-use native.Mathlib.Omega.{arith}
-use lib.ListN.{length, get_or, set}
-use lib.Seq.{get_or-set_same, get_or-set_other}
+use Rattle.std.proofs.Common.{◌≡◌, ◌∙◌, ◌⊎◌, inl, inr, List, ℕ, zero, suc, ◌+◌, ◌-◌, ◌≤◌, ◌<◌, arith, length, get_or, set, get_or-set_same, get_or-set_other}
 use Rattle.lists.proofs.Truth.{eq_or-not}
 use Rattle.tables.specs.Gaps.{gap_at, gaps_from}
 use Rattle.tables.specs.Sizes.{share_at, events_from, row_in, Sized}

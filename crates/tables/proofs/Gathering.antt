@@ -1,15 +1,8 @@
 -- The parents of a range's runs, gathered run by run. Assumes nothing.
-use mathlib.Core.Path.{◌≡◌, refl, sym, ap, ap₂, ◌∙◌}
-use mathlib.Core.Bool.{Bool, true, false, cond}
-use mathlib.Core.List.{List, [], ◌∷◌, ◌++◌, map, append_assoc, append-nil}
-use Prim.Native.Nat.{ℕ, zero, suc, ◌+◌, ◌-◌, ◌≤◌, ◌<◌}
-use native.Mathlib.Numerals.{add-one}
-use native.Mathlib.Nat.{zero-add, suc-add, add-zero}
-use native.Mathlib.Omega.{arith}
-use lib.ListN.{length, get_or, take, drop, set, length-append, length-drop, drop_of_length-le, take-append-drop}
-use lib.Seq.{drop-cons, append_snoc, set-append_seam, set-append_left, length-take-le}
-use lib.Dec.{leb}
-use borrow.Author.Tests.{le-leb, lt-leb}
+use Rattle.std.proofs.Common.{◌≡◌, refl, sym, ap, ap₂, ◌∙◌, Bool, true, false, cond, List, [], ◌∷◌, ◌++◌, map, append_assoc, append-nil, ℕ, zero, suc, ◌+◌, ◌-◌, ◌≤◌, ◌<◌, add-one, zero-add}
+use Rattle.std.proofs.Common.{suc-add, add-zero, arith, length, get_or, take, drop, set, length-append, length-drop, drop_of_length-le, take-append-drop, drop-cons, length-take-le, leb, le-leb}
+use lib.Seq.{append_snoc, set-append_seam, set-append_left}
+use borrow.Author.Tests.{lt-leb}
 use Rattle.lists.specs.Lists.{filter, concat}
 use Rattle.lists.specs.Areas.{over, part, group_starts}
 use Rattle.lists.proofs.Counts.{length_snoc}

@@ -1,12 +1,6 @@
 -- Bits joined with the covers of runs, in whatever order, and in the lowest 127 bits alone. Assumes nothing.
-use mathlib.Core.Path.{◌≡◌, refl, ap, ◌∙◌}
-use mathlib.Core.Bool.{Bool, true, false, ◌||◌}
-use mathlib.Core.List.{List, [], ◌∷◌}
-use Prim.Native.Nat.{ℕ, zero, suc, ◌+◌, ◌/◌, ◌≤◌, ◌<◌}
-use native.Mathlib.Omega.{arith}
-use native.Mathlib.Numerals.{add-one}
-use lib.ListN.{length, get_or, take, drop, drop_of_length-le}
-use lib.Seq.{drop-cons}
+use Rattle.std.proofs.Common.{◌≡◌, refl, ap, ◌∙◌, Bool, true, false, ◌||◌, List, [], ◌∷◌, ℕ, zero, suc, ◌+◌, ◌/◌, ◌≤◌, ◌<◌, arith, add-one, length, get_or, take, drop, drop_of_length-le}
+use Rattle.std.proofs.Common.{drop-cons}
 use Rattle.lists.specs.Lists.{count, mem, bit, from, upto, ceil}
 use Rattle.lists.proofs.Members.{mem-first, mem-rest}
 use Rattle.lists.proofs.Between.{within-after}

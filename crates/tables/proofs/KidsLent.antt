@@ -1,9 +1,5 @@
 -- A range's groups, scratch and tables as they are lent to the code that lists children. Assumes nothing.
-use mathlib.Core.Path.{◌≡◌, ap, ◌∙◌}
-use mathlib.Core.List.{List}
-use Prim.Native.Nat.{ℕ, ◌+◌, ◌≤◌}
-use native.Mathlib.Omega.{arith}
-use lib.ListN.{length, get_or, length-take}
+use Rattle.std.proofs.Common.{◌≡◌, ap, ◌∙◌, List, ℕ, ◌+◌, ◌≤◌, arith, length, get_or, length-take}
 use Rattle.tables.specs.Lanes.{lane}
 use Rattle.tables.specs.Laid.{grouped, heads_in, items_in, Sound}
 use Rattle.tables.specs.Indexed.{Summed}

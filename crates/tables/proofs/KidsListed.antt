@@ -1,14 +1,6 @@
 -- Kids are children where no parent is named twice, and their tables are the children's. Assumes nothing.
-use mathlib.Core.Path.{◌≡◌, refl, sym, ap, ap₂, ◌∙◌}
-use mathlib.Core.Logic.{◌⊎◌, inl, inr}
-use mathlib.Core.Bool.{Bool, true, false, cond}
-use mathlib.Core.List.{List, [], ◌∷◌, ◌++◌, append-nil}
-use Prim.Native.Nat.{ℕ, zero, suc, ◌+◌, ◌-◌, ◌≤◌, ◌<◌}
-use native.Mathlib.Numerals.{add-one}
-use native.Mathlib.Omega.{arith}
-use lib.ListN.{length, get_or, drop, replicate}
-use lib.Seq.{get_or-take, get_or-drop, ext_get_or}
-use borrow.Author.Tests.{eq-eqb, ne_eqb, lt-ltb, le-ltb}
+use Rattle.std.proofs.Common.{◌≡◌, refl, sym, ap, ap₂, ◌∙◌, ◌⊎◌, inl, inr, Bool, true, false, cond, List, [], ◌∷◌, ◌++◌, append-nil, ℕ, zero, suc, ◌+◌, ◌-◌, ◌≤◌, ◌<◌, add-one, arith, length}
+use Rattle.std.proofs.Common.{get_or, drop, replicate, get_or-take, get_or-drop, ext_get_or, eq-eqb, ne_eqb, lt-ltb, le-ltb}
 use Rattle.lists.specs.Lists.{bit, mem, occurs, rising, filter, from, upto}
 use Rattle.lists.specs.Areas.{part}
 use Rattle.lists.proofs.Truth.{lt_or_le, eq_or-not}

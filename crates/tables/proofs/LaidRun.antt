@@ -1,9 +1,5 @@
 -- A run laid in lent parts of the tables. Assumes nothing.
-use mathlib.Core.Path.{◌≡◌, refl, sym, ap, ◌∙◌}
-use mathlib.Core.List.{List}
-use Prim.Native.Nat.{ℕ, ◌+◌, ◌*◌, ◌≤◌, ◌<◌, max}
-use native.Mathlib.Omega.{arith}
-use lib.ListN.{length, get_or, replicate}
+use Rattle.std.proofs.Common.{◌≡◌, refl, sym, ap, ◌∙◌, List, ℕ, ◌+◌, ◌*◌, ◌≤◌, ◌<◌, max, arith, length, get_or, replicate}
 use lib.Seq.{paste}
 use Rattle.std.specs.Prelude.{Some, None}
 use Rattle.lists.specs.Areas.{part}

@@ -1,11 +1,7 @@
 -- Lists of w words in one area: read, lent, stored; storing one keeps those before it. Assumes nothing.
-use mathlib.Core.Path.{◌≡◌, sym, ap, ◌∙◌}
-use mathlib.Core.List.{List, ◌++◌, append_assoc}
-use Prim.Native.Nat.{ℕ, suc, ◌+◌, ◌-◌, ◌*◌, ◌≤◌, ◌<◌}
-use native.Mathlib.Omega.{arith}
-use native.Mathlib.Nat.{suc-mul, mul-le-mul_right}
-use lib.ListN.{length, get_or, take, drop, length-drop}
-use lib.Seq.{paste, length-paste, length-take-le, take_at, drop_at, take-length, get_or-take, get_or-drop}
+use Rattle.std.proofs.Common.{◌≡◌, sym, ap, ◌∙◌, List, ◌++◌, append_assoc, ℕ, suc, ◌+◌, ◌-◌, ◌*◌, ◌≤◌, ◌<◌, arith, suc-mul, mul-le-mul_right, length, get_or, take, drop, length-drop}
+use Rattle.std.proofs.Common.{length-take-le, take_at, drop_at, get_or-take, get_or-drop}
+use lib.Seq.{paste, length-paste, take-length}
 use Rattle.lists.specs.Areas.{part}
 use Rattle.lists.proofs.Groups.{part-take}
 use Rattle.tables.specs.Lanes.{lane, Kept}

@@ -1,14 +1,7 @@
 -- A run's row, made by joining its parents' rows. Assumes nothing.
-use mathlib.Core.Path.{◌≡◌, refl, sym, ap, ◌∙◌, subst}
-use mathlib.Core.Logic.{◌⊎◌, inl, inr}
-use mathlib.Core.Bool.{Bool, true, false, cond}
-use mathlib.Core.List.{List, [], ◌∷◌, ◌++◌, append_assoc}
-use Prim.Native.Nat.{ℕ, zero, suc, ◌+◌, ◌-◌, ◌≤◌, ◌<◌, max}
-use native.Mathlib.Omega.{arith}
-use lib.ListN.{length, get_or, take, set, length-append, length-set}
-use lib.Seq.{get_or-set_same, get_or-set_other, drop-append_seam, ext_get_or, get_or-take, take_at, length-take-le}
-use lib.Dec.{eqb}
-use borrow.Author.Tests.{eq-eqb}
+use Rattle.std.proofs.Common.{◌≡◌, refl, sym, ap, ◌∙◌, subst, ◌⊎◌, inl, inr, Bool, true, false, cond, List, [], ◌∷◌, ◌++◌, append_assoc, ℕ, zero, suc, ◌+◌, ◌-◌, ◌≤◌, ◌<◌, max, arith, length}
+use Rattle.std.proofs.Common.{get_or, take, set, length-append, length-set, get_or-set_same, get_or-set_other, ext_get_or, get_or-take, take_at, length-take-le, eqb, eq-eqb}
+use lib.Seq.{drop-append_seam}
 use Rattle.lists.specs.Lists.{any, all, mem, count}
 use Rattle.lists.specs.Areas.{part}
 use Rattle.lists.proofs.Truth.{eq_or-not, or_left, or_right}

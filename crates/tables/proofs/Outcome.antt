@@ -1,12 +1,5 @@
 -- A whole range laid, run by run. Assumes nothing.
-use mathlib.Core.Path.{◌≡◌, refl, sym, ap, ◌∙◌, subst}
-use mathlib.Core.Bool.{Bool, true, false}
-use mathlib.Core.List.{List}
-use Prim.Native.Nat.{ℕ, suc, ◌+◌, ◌≤◌, ◌<◌}
-use native.Mathlib.Omega.{arith}
-use lib.ListN.{length, get_or}
-use lib.Dec.{ltb}
-use borrow.Author.Tests.{ltb-true, ltb-false}
+use Rattle.std.proofs.Common.{◌≡◌, refl, sym, ap, ◌∙◌, subst, Bool, true, false, List, ℕ, suc, ◌+◌, ◌≤◌, ◌<◌, arith, length, get_or, ltb, ltb-true, ltb-false}
 use Rattle.std.specs.Prelude.{Option, Some, None, MatchOption}
 use Rattle.lists.specs.Areas.{over, part}
 use Rattle.model.specs.History.{at, histories}

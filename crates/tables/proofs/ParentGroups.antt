@@ -1,11 +1,5 @@
 -- The parents of each run as they stand in their area and are lent from it. Assumes nothing.
-use mathlib.Core.Path.{◌≡◌, ap, ◌∙◌}
-use mathlib.Core.List.{List, [], ◌∷◌}
-use Prim.Native.Nat.{ℕ, suc, ◌+◌, ◌<◌}
-use native.Mathlib.Numerals.{add-one}
-use native.Mathlib.Omega.{arith}
-use lib.ListN.{length, get_or, take, length-take}
-use lib.Seq.{get_or-take}
+use Rattle.std.proofs.Common.{◌≡◌, ap, ◌∙◌, List, [], ◌∷◌, ℕ, suc, ◌+◌, ◌<◌, add-one, arith, length, get_or, take, length-take, get_or-take}
 use Rattle.lists.specs.Areas.{part}
 use Rattle.lists.proofs.Members.{get_d_mem}
 use Rattle.lists.proofs.Groups.{length_part, length-groups, group_at}

@@ -1,12 +1,8 @@
 -- One run more in the tables and the row area. Assumes nothing.
-use mathlib.Core.Path.{◌≡◌, refl, sym, ap, ◌∙◌, subst}
-use mathlib.Core.Logic.{◌⊎◌, inl, inr}
-use mathlib.Core.List.{List, [], ◌∷◌, ◌++◌}
-use Prim.Native.Nat.{ℕ, zero, suc, ◌+◌, ◌*◌, ◌≤◌, ◌<◌}
-use native.Mathlib.Numerals.{add-one}
-use native.Mathlib.Omega.{arith}
-use lib.ListN.{length, get_or, take, drop, set, replicate, length-append, length-set, length-take, length-drop, length-replicate}
-use lib.Seq.{paste, get_or-set_same, get_or-set_other, take-append_seam, drop-append-add, get_or-take, drop-drop}
+use Rattle.std.proofs.Common.{◌≡◌, refl, sym, ap, ◌∙◌, subst, ◌⊎◌, inl, inr, List, [], ◌∷◌, ◌++◌, ℕ, zero, suc, ◌+◌, ◌*◌, ◌≤◌, ◌<◌, add-one, arith, length, get_or, take, drop, set, replicate}
+use Rattle.std.proofs.Common.{length-append, length-set, length-take, length-drop, get_or-set_same, get_or-set_other, get_or-take, drop-drop}
+use lib.ListN.{length-replicate}
+use lib.Seq.{paste, take-append_seam, drop-append-add}
 use Rattle.lists.specs.Areas.{over, part}
 use Rattle.lists.proofs.Truth.{eq_or-not}
 use Rattle.lists.proofs.Members.{get_d_mem}

@@ -1,14 +1,8 @@
 -- Counts along a list in sets that meet it in a prefix. Assumes nothing.
-use mathlib.Core.Path.{◌≡◌, refl, sym, ap, ◌∙◌}
-use mathlib.Core.Logic.{◌⊎◌, inl, inr}
-use mathlib.Core.Bool.{Bool, true, false, ◌&&◌, ◌||◌}
-use mathlib.Core.List.{List, [], ◌∷◌, ◌++◌}
-use Prim.Native.Nat.{ℕ, zero, suc, ◌+◌, ◌≤◌, ◌<◌, max}
-use native.Mathlib.Omega.{arith}
-use lib.ListN.{length, get_or, length-append, get_or-append}
+use Rattle.std.proofs.Common.{◌≡◌, refl, sym, ap, ◌∙◌, ◌⊎◌, inl, inr, Bool, true, false, ◌&&◌, ◌||◌, List, [], ◌∷◌, ◌++◌, ℕ, zero, suc, ◌+◌, ◌≤◌, ◌<◌, max, arith, length, get_or, length-append}
+use Rattle.std.proofs.Common.{ltb, eqb, lt-ltb, le-ltb, eq-eqb, ne_eqb}
+use lib.ListN.{get_or-append}
 use lib.Seq.{get_or-append_seam}
-use lib.Dec.{ltb, eqb}
-use borrow.Author.Tests.{lt-ltb, le-ltb, eq-eqb, ne_eqb}
 use Rattle.lists.specs.Lists.{bit, all, mem, count}
 use Rattle.lists.proofs.Truth.{lt_or_le, eq_or-not, false_true, or_cases}
 use Rattle.lists.proofs.Members.{get_d_mem, all-at}

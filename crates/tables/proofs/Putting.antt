@@ -1,13 +1,7 @@
 -- A run put among the kids of each of its parents, parent by parent. Assumes nothing.
-use mathlib.Core.Path.{◌≡◌, refl, sym, ap, ◌∙◌, subst}
-use mathlib.Core.Logic.{◌⊎◌, inl, inr}
-use mathlib.Core.List.{List, [], ◌∷◌}
-use Prim.Native.Nat.{ℕ, ◌+◌, ◌≤◌, ◌<◌}
-use native.Mathlib.Numerals.{add-one}
-use native.Mathlib.Omega.{arith}
-use lib.ListN.{length, get_or, drop, set, length-set}
-use lib.Seq.{drop-cons, drop-length, get_or-set_same, get_or-set_other}
-use borrow.Author.Tests.{eq-eqb}
+use Rattle.std.proofs.Common.{◌≡◌, refl, sym, ap, ◌∙◌, subst, ◌⊎◌, inl, inr, List, [], ◌∷◌, ℕ, ◌+◌, ◌≤◌, ◌<◌, add-one, arith, length, get_or, drop, set, length-set, drop-cons, get_or-set_same}
+use Rattle.std.proofs.Common.{get_or-set_other, eq-eqb}
+use lib.Seq.{drop-length}
 use Rattle.lists.specs.Lists.{bit, occurs}
 use Rattle.lists.proofs.Truth.{eq_or-not}
 use Rattle.lists.proofs.Members.{mem-first, mem-rest}

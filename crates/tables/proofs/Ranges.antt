@@ -1,15 +1,7 @@
 -- Words joined in place, and the bits from one place up to another set one by one. Assumes nothing.
-use mathlib.Core.Path.{◌≡◌, refl, sym, ap, ◌∙◌}
-use mathlib.Core.Bool.{Bool, true, false}
-use mathlib.Core.Logic.{◌⊎◌, inl, inr}
-use mathlib.Core.List.{List, [], ◌∷◌, ◌++◌, map}
-use Prim.Native.Nat.{ℕ, zero, suc, ◌+◌, ◌*◌, ◌/◌, ◌%◌, ◌^◌, ◌≤◌, ◌<◌}
-use native.Mathlib.Omega.{arith}
-use native.Mathlib.Numerals.{add-one}
-use native.Mathlib.Nat.{mod-lt, div-add-mod'}
-use lib.ListN.{length, get_or, take, drop, set, replicate, drop_of_length-le, take-append-drop}
-use lib.Seq.{drop-cons, take-suc-set, drop-set-lt, append_snoc}
-use lib.Bits.{bit_or}
+use Rattle.std.proofs.Common.{◌≡◌, refl, sym, ap, ◌∙◌, Bool, true, false, ◌⊎◌, inl, inr, List, [], ◌∷◌, ◌++◌, map, ℕ, zero, suc, ◌+◌, ◌*◌, ◌/◌, ◌%◌, ◌^◌, ◌≤◌, ◌<◌, arith, add-one, mod-lt}
+use Rattle.std.proofs.Common.{div-add-mod', length, get_or, take, drop, set, replicate, drop_of_length-le, take-append-drop, drop-cons, take-suc-set, drop-set-lt, bit_or}
+use lib.Seq.{append_snoc}
 use Rattle.lists.specs.Lists.{from, upto}
 use Rattle.lists.proofs.Truth.{lt_eq_gt, lt_or_le}
 use Rattle.lists.proofs.Between.{within, within_in, within-before, within-after, none_within}

@@ -1,15 +1,9 @@
 -- The parents gathered are those of the range, and every one is below its run. Assumes nothing.
-use mathlib.Core.Path.{◌≡◌, refl, sym, ap, ap₂, ◌∙◌, subst}
-use mathlib.Core.Logic.{◌⊎◌, inl, inr}
-use mathlib.Core.Bool.{true, false}
-use mathlib.Core.List.{List, [], ◌∷◌, ◌++◌, map, map-append, append-nil}
-use Prim.Native.Nat.{ℕ, zero, suc, ◌+◌, ◌-◌, ◌≤◌, ◌<◌}
-use native.Mathlib.Numerals.{add-one}
-use native.Mathlib.Omega.{arith}
-use lib.ListN.{length, get_or, take, drop, length-append, length-drop, drop_of_length-le, get_or-append, get_or-eq_default}
-use lib.Seq.{take-suc, take_all, take_at, drop_at, get_or-drop, get_or-append_seam, take-append_seam, length-take-le}
-use lib.Dec.{leb}
-use borrow.Author.Tests.{leb-true}
+use Rattle.std.proofs.Common.{◌≡◌, refl, sym, ap, ap₂, ◌∙◌, subst, ◌⊎◌, inl, inr, true, false, List, [], ◌∷◌, ◌++◌, map, append-nil, ℕ, zero, suc, ◌+◌, ◌-◌, ◌≤◌, ◌<◌, add-one, arith, length}
+use Rattle.std.proofs.Common.{get_or, take, drop, length-append, length-drop, drop_of_length-le, take-suc, take_all, take_at, drop_at, get_or-drop, length-take-le, leb, leb-true}
+use mathlib.Core.List.{map-append}
+use lib.ListN.{get_or-append, get_or-eq_default}
+use lib.Seq.{get_or-append_seam, take-append_seam}
 use Rattle.lists.specs.Lists.{mem, filter, concat}
 use Rattle.lists.specs.Areas.{over, part, group_starts, groups, climbs}
 use Rattle.lists.proofs.Truth.{lt_or_le, eq_or-not, and_right, false_true}

@@ -1,16 +1,8 @@
 -- Versions as the code keeps them: how far the first runs, and a run with its history, reach along each chain. Assumes nothing.
-use mathlib.Core.Path.{◌≡◌, refl, sym, ap, ◌∙◌}
-use mathlib.Core.Logic.{◌⊎◌, inl, inr}
-use mathlib.Core.Bool.{Bool, true, false, cond, ◌||◌}
-use mathlib.Core.List.{List, [], ◌∷◌, ◌++◌}
-use Prim.Native.Nat.{ℕ, zero, suc, ◌+◌, ◌-◌, ◌≤◌, ◌<◌, min}
-use native.Mathlib.Omega.{arith}
-use native.Mathlib.Numerals.{add-one}
-use lib.ListN.{length, get_or, set, take, drop, replicate, length-replicate, get_or-append, get_or-eq_default}
-use lib.Seq.{get_or-set_same, get_or-set_other, get_or-take, get_or-drop, length-take-le}
+use Rattle.std.proofs.Common.{◌≡◌, refl, sym, ap, ◌∙◌, ◌⊎◌, inl, inr, Bool, true, false, cond, ◌||◌, List, [], ◌∷◌, ◌++◌, ℕ, zero, suc, ◌+◌, ◌-◌, ◌≤◌, ◌<◌, min, arith, add-one, length, get_or}
+use Rattle.std.proofs.Common.{set, take, drop, replicate, get_or-set_same, get_or-set_other, get_or-take, get_or-drop, length-take-le, eqb, eq-eqb, ne_eqb}
+use lib.ListN.{length-replicate, get_or-append, get_or-eq_default}
 use Rattle.std.proofs.lemmas.List.{get_or-append_right}
-use lib.Dec.{eqb}
-use borrow.Author.Tests.{eq-eqb, ne_eqb}
 use Rattle.lists.specs.Lists.{mem, count, from, upto}
 use Rattle.lists.proofs.Truth.{eq_or-not, lt_or_le}
 use Rattle.lists.proofs.Pads.{zeros_get}

@@ -1,12 +1,6 @@
 -- There is room for every run's kids: where they begin climbs, and there are no more of them than parents. Assumes nothing.
-use mathlib.Core.Path.{◌≡◌, refl, ap}
-use mathlib.Core.Logic.{◌⊎◌, inl, inr}
-use mathlib.Core.List.{List, [], ◌∷◌, ◌++◌}
-use Prim.Native.Nat.{ℕ, zero, suc, ◌+◌, ◌≤◌, ◌<◌}
-use native.Mathlib.Omega.{arith}
-use lib.ListN.{length, get_or, take, replicate, length-append, length-replicate}
-use lib.Dec.{eqb}
-use borrow.Author.Tests.{eq-eqb, ne_eqb}
+use Rattle.std.proofs.Common.{◌≡◌, refl, ap, ◌⊎◌, inl, inr, List, [], ◌∷◌, ◌++◌, ℕ, zero, suc, ◌+◌, ◌≤◌, ◌<◌, arith, length, get_or, take, replicate, length-append, eqb, eq-eqb, ne_eqb}
+use lib.ListN.{length-replicate}
 use Rattle.lists.specs.Lists.{bit, count, occurs, concat}
 use Rattle.lists.proofs.Truth.{eq_or-not}
 use Rattle.model.specs.History.{at}

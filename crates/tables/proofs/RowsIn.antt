@@ -1,10 +1,5 @@
 -- A run's row is a part of the row area, and says how far the run's history reaches. Assumes nothing.
-use mathlib.Core.Path.{◌≡◌, ap, ◌∙◌}
-use mathlib.Core.List.{List, ◌++◌}
-use Prim.Native.Nat.{ℕ, suc, ◌+◌, ◌≤◌, ◌<◌}
-use native.Mathlib.Numerals.{add-one}
-use native.Mathlib.Omega.{arith}
-use lib.ListN.{length, get_or, drop, length-append}
+use Rattle.std.proofs.Common.{◌≡◌, ap, ◌∙◌, List, ◌++◌, ℕ, suc, ◌+◌, ◌≤◌, ◌<◌, add-one, arith, length, get_or, drop, length-append}
 use Rattle.lists.specs.Areas.{over, part}
 use Rattle.model.specs.History.{at, histories}
 use Rattle.model.proofs.Histories.{Below}

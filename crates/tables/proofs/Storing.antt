@@ -1,11 +1,8 @@
 -- What `index` leaves: the sums in their area, and all together. Assumes nothing.
-use mathlib.Core.Path.{◌≡◌, refl, sym, ap, ◌∙◌, subst}
-use mathlib.Core.Logic.{◌⊎◌, inl, inr}
-use mathlib.Core.List.{List, ◌++◌}
-use Prim.Native.Nat.{ℕ, ◌+◌, ◌-◌, ◌*◌, ◌≤◌, ◌<◌, ◌^◌}
-use native.Mathlib.Omega.{arith}
-use lib.ListN.{length, get_or, take, drop, get_or-append}
-use lib.Seq.{length_front, length-take-le, get_or-append-add, get_or-drop}
+use Rattle.std.proofs.Common.{◌≡◌, refl, sym, ap, ◌∙◌, subst, ◌⊎◌, inl, inr, List, ◌++◌, ℕ, ◌+◌, ◌-◌, ◌*◌, ◌≤◌, ◌<◌, ◌^◌, arith, length, get_or, take, drop, length-take-le, get_or-append-add}
+use Rattle.std.proofs.Common.{get_or-drop}
+use lib.ListN.{get_or-append}
+use lib.Seq.{length_front}
 use Rattle.lists.proofs.Truth.{lt_or_le}
 use Rattle.tables.specs.Lanes.{lane, Kept}
 use Rattle.tables.specs.Tables.{size_in}

@@ -1,12 +1,7 @@
 -- Prefix sums and scattered places, written one by one. Assumes nothing.
-use mathlib.Core.Path.{◌≡◌, refl, sym, ap, ap₂, ◌∙◌}
-use mathlib.Core.Logic.{◌⊎◌, inl, inr}
-use mathlib.Core.List.{List, [], ◌∷◌}
-use Prim.Native.Nat.{ℕ, zero, suc, ◌+◌, ◌≤◌, ◌<◌}
-use native.Mathlib.Omega.{arith}
-use native.Mathlib.Numerals.{add-one}
-use lib.ListN.{length, get_or, take, set, get_or-eq_default, length-set}
-use lib.Seq.{get_or-set_same, get_or-set_other}
+use Rattle.std.proofs.Common.{◌≡◌, refl, sym, ap, ap₂, ◌∙◌, ◌⊎◌, inl, inr, List, [], ◌∷◌, ℕ, zero, suc, ◌+◌, ◌≤◌, ◌<◌, arith, add-one, length, get_or, take, set, length-set, get_or-set_same}
+use Rattle.std.proofs.Common.{get_or-set_other}
+use lib.ListN.{get_or-eq_default}
 use Rattle.lists.specs.Lists.{sum, from}
 use Rattle.lists.proofs.Truth.{lt_or_le, eq_or-not}
 use Rattle.model.specs.History.{at}

@@ -1,12 +1,9 @@
 -- A run's cover written and weighed, the last run first, gives the weights of the definition. Assumes nothing.
-use mathlib.Core.Path.{◌≡◌, sym, ap, ◌∙◌}
-use mathlib.Core.Bool.{Bool}
-use mathlib.Core.List.{List, map}
-use Prim.Native.Nat.{ℕ, zero, suc, ◌+◌, ◌-◌, ◌*◌, ◌/◌, ◌%◌, min, ◌≤◌, ◌<◌}
-use native.Mathlib.Omega.{arith}
-use native.Mathlib.Nat.{div-lt_iff_lt-mul, div-eq_of_lt-le, mul-le-mul_right, le_of_eq, le_trans}
-use lib.ListN.{length, get_or, take, drop, length-take, get_or-map}
-use lib.Seq.{paste, length-paste, drop-paste, drop-drop, get_or-take}
+use Rattle.std.proofs.Common.{◌≡◌, sym, ap, ◌∙◌, Bool, List, map, ℕ, zero, suc, ◌+◌, ◌-◌, ◌*◌, ◌/◌, ◌%◌, min, ◌≤◌, ◌<◌, arith, div-lt_iff_lt-mul, mul-le-mul_right, le_of_eq, le_trans, length}
+use Rattle.std.proofs.Common.{get_or, take, drop, length-take, drop-drop, get_or-take}
+use native.Mathlib.Nat.{div-eq_of_lt-le}
+use lib.ListN.{get_or-map}
+use lib.Seq.{paste, length-paste, drop-paste}
 use lib.Ieee.Nearest.{div_mono}
 use Rattle.std.proofs.lemmas.Grind.{div_ceil_times}
 use Rattle.lists.specs.Lists.{mem, ceil}

@@ -1,13 +1,7 @@
 -- Runs weighed from the last to the first have the weights of the definition. Assumes nothing.
-use mathlib.Core.Path.{◌≡◌, sym, ap, ◌∙◌}
-use mathlib.Core.Bool.{Bool, true, false}
-use mathlib.Core.Logic.{◌⊎◌, inl, inr}
-use mathlib.Core.List.{List, [], map}
-use Prim.Native.Nat.{ℕ, suc, ◌+◌, ◌/◌, ◌≤◌, ◌<◌}
-use native.Mathlib.Omega.{arith}
-use native.Mathlib.Numerals.{add-one}
-use lib.ListN.{length, get_or, take, set, get_or-map}
-use lib.Seq.{get_or-set_same, get_or-set_other}
+use Rattle.std.proofs.Common.{◌≡◌, sym, ap, ◌∙◌, Bool, true, false, ◌⊎◌, inl, inr, List, [], map, ℕ, suc, ◌+◌, ◌/◌, ◌≤◌, ◌<◌, arith, add-one, length, get_or, take, set, get_or-set_same}
+use Rattle.std.proofs.Common.{get_or-set_other}
+use lib.ListN.{get_or-map}
 use Rattle.lists.specs.Lists.{count, mem, ceil, upto}
 use Rattle.lists.specs.Areas.{part}
 use Rattle.lists.proofs.Truth.{eq_or-not}

@@ -1,15 +1,7 @@
 -- Each way out of the archive points is what their definition says: the runs that are marked by what the passes find start at them. Assumes
 -- nothing.
-use mathlib.Core.Path.{◌≡◌, refl, sym, ap, ap₂, ◌∙◌}
-use mathlib.Core.Logic.{◌⊎◌, inl, inr, ◌↔◌}
-use mathlib.Core.Bool.{Bool, true, false, cond}
-use mathlib.Core.List.{List, [], ◌∷◌, map}
-use Prim.Native.Nat.{ℕ, suc, ◌+◌, ◌≤◌, ◌<◌}
-use native.Mathlib.Omega.{arith}
-use lib.ListN.{length, take, drop, get_or, length-take, length-drop}
-use lib.Seq.{get_or-take, get_or-drop}
-use lib.Dec.{leb, eqb}
-use borrow.Author.Tests.{leb-true, le-leb}
+use Rattle.std.proofs.Common.{◌≡◌, refl, sym, ap, ap₂, ◌∙◌, ◌⊎◌, inl, inr, ◌↔◌, Bool, true, false, cond, List, [], ◌∷◌, map, ℕ, suc, ◌+◌, ◌≤◌, ◌<◌, arith, length, take, drop, get_or, length-take}
+use Rattle.std.proofs.Common.{length-drop, get_or-take, get_or-drop, leb, eqb, leb-true, le-leb}
 use Rattle.lists.specs.Lists.{all, filter, count, upto, mem, rising, below}
 use Rattle.lists.proofs.Truth.{lt_or_le, bool_iff}
 use Rattle.lists.proofs.Members.{get_d_all, all-from_on, filter_agree, filter_map}

@@ -1,12 +1,6 @@
 -- Run r parts the others, so that every run from r on has every run before r among its ancestors, exactly if each run from r on, by its own
 -- parents, lets r start at an archive point. Assumes nothing.
-use mathlib.Core.Path.{◌≡◌, refl, sym, ◌∙◌}
-use mathlib.Core.Logic.{◌⊎◌, inl, inr, ◌↔◌}
-use mathlib.Core.Bool.{Bool, true, false, cond}
-use mathlib.Core.List.{List, [], ◌∷◌}
-use Prim.Native.Nat.{ℕ, zero, suc, ◌-◌, ◌≤◌, ◌<◌}
-use native.Mathlib.Omega.{arith}
-use lib.ListN.{length, get_or}
+use Rattle.std.proofs.Common.{◌≡◌, refl, sym, ◌∙◌, ◌⊎◌, inl, inr, ◌↔◌, Bool, true, false, cond, List, [], ◌∷◌, ℕ, zero, suc, ◌-◌, ◌≤◌, ◌<◌, arith, length, get_or}
 use Rattle.lists.specs.Lists.{all, upto, mem, rising}
 use Rattle.lists.proofs.Truth.{lt_or_le, false_true}
 use Rattle.lists.proofs.Members.{mem_index, get_d_mem, all_of, all-at}

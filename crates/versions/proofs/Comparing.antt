@@ -1,14 +1,7 @@
 -- The passes behind the concurrency list flag a run's ancestors, the run itself and its descendants. Assumes nothing.
-use mathlib.Core.Path.{◌≡◌, refl, sym, ap, ◌∙◌, subst}
-use mathlib.Core.Logic.{◌⊎◌, inl, inr}
-use mathlib.Core.Bool.{Bool, true, false, not, cond, ◌&&◌}
-use mathlib.Core.List.{List}
-use Prim.Native.Nat.{ℕ, zero, suc, ◌+◌, ◌-◌, ◌<◌, ◌≤◌}
-use native.Mathlib.Omega.{arith}
-use lib.ListN.{length, get_or, set, length-set}
-use lib.Seq.{get_or-set_same, get_or-set_other}
-use lib.Dec.{leb, ltb, eqb}
-use borrow.Author.Tests.{le-leb, leb-true, lt-ltb, eq-eqb, ne_eqb, eqb-true, eqb-false, not-true}
+use Rattle.std.proofs.Common.{◌≡◌, refl, sym, ap, ◌∙◌, subst, ◌⊎◌, inl, inr, Bool, true, false, not, cond, ◌&&◌, List, ℕ, zero, suc, ◌+◌, ◌-◌, ◌<◌, ◌≤◌, arith, length, get_or, set, length-set}
+use Rattle.std.proofs.Common.{get_or-set_same, get_or-set_other, leb, ltb, eqb, le-leb, leb-true, lt-ltb, eq-eqb, ne_eqb, eqb-true}
+use borrow.Author.Tests.{eqb-false, not-true}
 use Rattle.lists.specs.Lists.{bit, any, mem}
 use Rattle.lists.proofs.Truth.{lt_or_le, eq_or-not, not_so, and_left, and_right, and_both, and_false}
 use Rattle.lists.proofs.Members.{any_intro, any_elim}

@@ -1,14 +1,7 @@
 -- The first children that are noted tell which runs have no child below a run. Assumes nothing.
-use mathlib.Core.Path.{◌≡◌, refl, sym, ◌∙◌}
-use mathlib.Core.Logic.{◌⊎◌, inl, inr}
-use mathlib.Core.Bool.{Bool, true, false, not, cond, ◌||◌}
-use mathlib.Core.List.{List, [], ◌∷◌}
-use Prim.Native.Nat.{ℕ, zero, suc, ◌≤◌, ◌<◌}
-use native.Mathlib.Omega.{arith}
-use lib.ListN.{length, get_or, set, length-set}
-use lib.Seq.{get_or-set_same, get_or-set_other}
-use lib.Dec.{leb, eqb}
-use borrow.Author.Tests.{eq-eqb, ne_eqb, le-leb, lt-leb}
+use Rattle.std.proofs.Common.{◌≡◌, refl, sym, ◌∙◌, ◌⊎◌, inl, inr, Bool, true, false, not, cond, ◌||◌, List, [], ◌∷◌, ℕ, zero, suc, ◌≤◌, ◌<◌, arith, length, get_or, set, length-set}
+use Rattle.std.proofs.Common.{get_or-set_same, get_or-set_other, leb, eqb, eq-eqb, ne_eqb, le-leb}
+use borrow.Author.Tests.{lt-leb}
 use Rattle.lists.specs.Lists.{all, upto, mem}
 use Rattle.lists.proofs.Truth.{lt_or_le, eq_or-not, lt_of_ne, false_true, not_so}
 use Rattle.lists.proofs.Members.{all_of, all-at}

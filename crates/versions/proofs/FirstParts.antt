@@ -1,11 +1,6 @@
 -- A set of held events that has, of each run, the first events up to an end: whether it is closed, and which of its events are maximal, run by
 -- run. Assumes nothing.
-use mathlib.Core.Path.{◌≡◌, sym, ap, ◌∙◌}
-use mathlib.Core.Logic.{◌⊎◌, inl, inr, ◌↔◌}
-use mathlib.Core.Bool.{true}
-use mathlib.Core.List.{List, [], ◌∷◌}
-use Prim.Native.Nat.{ℕ, suc, ◌-◌, ◌≤◌, ◌<◌}
-use native.Mathlib.Omega.{arith}
+use Rattle.std.proofs.Common.{◌≡◌, sym, ap, ◌∙◌, ◌⊎◌, inl, inr, ◌↔◌, true, List, [], ◌∷◌, ℕ, suc, ◌-◌, ◌≤◌, ◌<◌, arith}
 use Rattle.lists.specs.Lists.{mem}
 use Rattle.lists.proofs.Truth.{eq_or-not, lt_or_le, lt_of_ne}
 use Rattle.lists.proofs.Members.{mem-first, mem_one, mem-map, map-mem, all-at}

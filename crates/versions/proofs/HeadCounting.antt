@@ -1,11 +1,5 @@
 -- How many heads lie below a run, and whether a run has all of them for parents, by counts. Assumes nothing.
-use mathlib.Core.Path.{◌≡◌, refl, sym, ap, ◌∙◌}
-use mathlib.Core.Bool.{Bool, true, not, ◌&&◌}
-use mathlib.Core.List.{List, [], ◌∷◌}
-use Prim.Native.Nat.{ℕ, zero, suc, ◌+◌, ◌≤◌, ◌<◌}
-use native.Mathlib.Omega.{arith}
-use lib.ListN.{length}
-use lib.Dec.{eqb}
+use Rattle.std.proofs.Common.{◌≡◌, refl, sym, ap, ◌∙◌, Bool, true, not, ◌&&◌, List, [], ◌∷◌, ℕ, zero, suc, ◌+◌, ◌≤◌, ◌<◌, arith, length, eqb}
 use Rattle.lists.specs.Lists.{all, filter, count, from, upto, mem, rising}
 use Rattle.lists.proofs.Truth.{not_so, and_true}
 use Rattle.lists.proofs.Members.{all_of, all_both}

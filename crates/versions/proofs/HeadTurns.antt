@@ -1,16 +1,8 @@
 -- The loops behind the archive points, turn by turn. Assumes nothing.
-use mathlib.Core.Path.{◌≡◌, refl, sym, ap, ◌∙◌}
-use mathlib.Core.Logic.{◌⊎◌, inl, inr}
-use mathlib.Core.Bool.{Bool, true, false, cond}
-use mathlib.Core.List.{List, [], ◌∷◌}
-use Prim.Native.Nat.{ℕ, ◌+◌, ◌-◌, ◌≤◌, ◌<◌}
-use native.Mathlib.Numerals.{add-one}
-use native.Mathlib.Omega.{arith}
+use Rattle.std.proofs.Common.{Some, None, slice_get, ◌≡◌, refl, sym, ap, ◌∙◌, ◌⊎◌, inl, inr, Bool, true, false, cond, List, [], ◌∷◌, ℕ, ◌+◌, ◌-◌, ◌≤◌, ◌<◌, add-one, arith, length, get_or, drop}
+use Rattle.std.proofs.Common.{set, get_or-set_same, get_or-set_other}
 use mir.Val.{bool_byte}
-use Rattle.std.proofs.Common.{Some, None, slice_get}
 use Rattle.std.proofs.lemmas.Option.{get_or_from_slice_get, slice_get-get_or}
-use lib.ListN.{length, get_or, drop, set}
-use lib.Seq.{get_or-set_same, get_or-set_other}
 use Rattle.lists.specs.Lists.{bit, count, below}
 use Rattle.lists.proofs.Bounds.{below_of, below_at}
 use Rattle.lists.proofs.Truth.{eq_or-not, lt_of_ne, lt_or_le}

@@ -1,13 +1,7 @@
 -- The wanted parents by runs are those of the definition, and so is refusal 17. Assumes nothing.
-use mathlib.Core.Path.{◌≡◌, refl, sym, ap, ◌∙◌}
-use mathlib.Core.Logic.{◌⊎◌, inl, inr, ◌↔◌}
-use mathlib.Core.Bool.{Bool, true, false, not, ◌||◌}
-use mathlib.Core.List.{List, [], map}
-use Prim.Native.Nat.{ℕ, zero, suc, ◌-◌, ◌≤◌, ◌<◌}
-use native.Mathlib.Omega.{arith}
-use lib.ListN.{length, get_or}
-use lib.Dec.{eqb}
-use borrow.Author.Tests.{eq-eqb, ne_eqb, eqb-true, eqb-false, not-true}
+use Rattle.std.proofs.Common.{◌≡◌, refl, sym, ap, ◌∙◌, ◌⊎◌, inl, inr, ◌↔◌, Bool, true, false, not, ◌||◌, List, [], map, ℕ, zero, suc, ◌-◌, ◌≤◌, ◌<◌, arith, length, get_or, eqb, eq-eqb, ne_eqb}
+use Rattle.std.proofs.Common.{eqb-true}
+use borrow.Author.Tests.{eqb-false, not-true}
 use Rattle.lists.specs.Lists.{all, filter, from, upto, mem, rising}
 use Rattle.lists.proofs.Truth.{eq_or-not, false_true, bool_iff, not_so, and_left, and_right, and_both, or_cases, or_left, or_right}
 use Rattle.lists.proofs.Members.{mem-map, map-mem, all_of, all-at}

@@ -1,8 +1,5 @@
 -- Some numbers, or the starts of some runs, written one by one. Assumes nothing.
-use mathlib.Core.Path.{◌≡◌, sym, ap}
-use mathlib.Core.List.{List, [], ◌∷◌, map}
-use Prim.Native.Nat.{ℕ, ◌+◌, ◌<◌, ◌≤◌}
-use lib.ListN.{length, drop, get_or}
+use Rattle.std.proofs.Common.{◌≡◌, sym, ap, List, [], ◌∷◌, map, ℕ, ◌+◌, ◌<◌, ◌≤◌, length, drop, get_or}
 use Rattle.graph.specs.Records.{Put, put, put_all}
 use Rattle.versions.proofs.Passes.{left-first, left_none, item_below}
 

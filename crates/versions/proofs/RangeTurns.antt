@@ -1,14 +1,6 @@
 -- The loops behind the wanted parents, turn by turn, and whether words are ranges. Assumes nothing.
-use mathlib.Core.Path.{◌≡◌, refl, sym, ap, ◌∙◌}
-use mathlib.Core.Logic.{◌⊎◌, inl, inr}
-use mathlib.Core.Bool.{Bool, true, false, cond}
-use mathlib.Core.List.{List, [], ◌∷◌, ◌++◌, map}
-use Prim.Native.Nat.{ℕ, zero, suc, ◌+◌, ◌-◌, ◌≤◌, ◌<◌}
-use native.Mathlib.Numerals.{add-one}
-use native.Mathlib.Omega.{arith}
-use lib.ListN.{length, get_or, take, drop, length-append}
-use lib.Seq.{get_or-take, get_or-drop}
-use lib.Dec.{eqb}
+use Rattle.std.proofs.Common.{◌≡◌, refl, sym, ap, ◌∙◌, ◌⊎◌, inl, inr, Bool, true, false, cond, List, [], ◌∷◌, ◌++◌, map, ℕ, zero, suc, ◌+◌, ◌-◌, ◌≤◌, ◌<◌, add-one, arith, length, get_or, take}
+use Rattle.std.proofs.Common.{drop, length-append, get_or-take, get_or-drop, eqb}
 use Rattle.lists.specs.Lists.{all, filter, from, upto, rising}
 use Rattle.lists.proofs.Truth.{lt_or_le, false_true, not_so, and_false, and_true}
 use Rattle.lists.proofs.Members.{all-at, all_both}

@@ -1,13 +1,7 @@
 -- What rising words mark, a first and an end in turn: an event exactly if those at most the event are odd in number. Assumes nothing.
-use mathlib.Core.Path.{◌≡◌, refl, sym, ap, ◌∙◌}
-use mathlib.Core.Logic.{◌⊎◌, inl, inr, ◌↔◌}
-use mathlib.Core.Bool.{Bool, true, false, not, cond, ◌&&◌, ◌||◌}
-use mathlib.Core.List.{List, [], ◌∷◌}
-use Prim.Native.Nat.{ℕ, suc, ◌+◌, ◌-◌, ◌%◌, ◌≤◌, ◌<◌, min}
-use native.Mathlib.Omega.{arith}
-use lib.ListN.{length, get_or}
-use lib.Dec.{leb, eqb}
-use borrow.Author.Tests.{ltb-true, leb-true, lt-ltb, le-leb, lt-leb, eq-eqb, ne_eqb, eqb-true, leb-false}
+use Rattle.std.proofs.Common.{◌≡◌, refl, sym, ap, ◌∙◌, ◌⊎◌, inl, inr, ◌↔◌, Bool, true, false, not, cond, ◌&&◌, ◌||◌, List, [], ◌∷◌, ℕ, suc, ◌+◌, ◌-◌, ◌%◌, ◌≤◌, ◌<◌, min, arith, length, get_or}
+use Rattle.std.proofs.Common.{leb, eqb, ltb-true, leb-true, lt-ltb, le-leb, eq-eqb, ne_eqb, eqb-true, leb-false}
+use borrow.Author.Tests.{lt-leb}
 use Rattle.lists.specs.Lists.{bit, count, from, mem, rising}
 use Rattle.lists.proofs.Truth.{eq_or-not, lt_or_le, false_true, bool_iff, not_so, and_left, and_right, or_cases, or-first, or-last}
 use Rattle.lists.proofs.Members.{mem-first, mem-append, all_of, all-at}

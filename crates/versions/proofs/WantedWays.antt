@@ -1,13 +1,6 @@
 -- Each way out of the wanted parents is what their definition says. Assumes nothing.
-use mathlib.Core.Path.{◌≡◌, refl, sym, ap, ◌∙◌}
-use mathlib.Core.Bool.{true, false, not, ◌&&◌, ◌||◌}
-use mathlib.Core.List.{List, [], ◌∷◌, map}
-use Prim.Native.Nat.{ℕ, suc, ◌+◌, ◌-◌, ◌≤◌, ◌<◌}
-use native.Mathlib.Omega.{arith}
-use lib.ListN.{length, get_or, take, length-take}
-use lib.Seq.{get_or-take}
-use lib.Dec.{eqb}
-use borrow.Author.Tests.{lt-ltb, le-ltb}
+use Rattle.std.proofs.Common.{◌≡◌, refl, sym, ap, ◌∙◌, true, false, not, ◌&&◌, ◌||◌, List, [], ◌∷◌, map, ℕ, suc, ◌+◌, ◌-◌, ◌≤◌, ◌<◌, arith, length, get_or, take, length-take, get_or-take, eqb}
+use Rattle.std.proofs.Common.{lt-ltb, le-ltb}
 use Rattle.lists.specs.Lists.{all, upto, mem}
 use Rattle.lists.proofs.Truth.{false_true, not_so}
 use Rattle.lists.proofs.Members.{all_same, filter_agree}

@@ -1,14 +1,8 @@
 -- A held record's arrays give the definitions' ranges of its graph. Assumes nothing.
-use mathlib.Core.Path.{◌≡◌, sym, ap, ap₂, ◌∙◌}
-use mathlib.Core.Logic.{◌⊎◌, inl, inr}
-use mathlib.Core.Bool.{true, false}
-use mathlib.Core.List.{List, [], ◌∷◌, ◌++◌, map, map-append}
-use Prim.Native.Nat.{ℕ, zero, suc, ◌+◌, ◌-◌, ◌≤◌, ◌<◌}
-use native.Mathlib.Numerals.{add-one}
-use native.Mathlib.Omega.{arith}
-use lib.ListN.{length, get_or, take, drop, length-drop, length-take, get_or-eq_default}
-use lib.Seq.{take-suc, get_or-drop, get_or-take, length-take-le}
-use lib.Dec.{leb}
+use Rattle.std.proofs.Common.{◌≡◌, sym, ap, ap₂, ◌∙◌, ◌⊎◌, inl, inr, true, false, List, [], ◌∷◌, ◌++◌, map, ℕ, zero, suc, ◌+◌, ◌-◌, ◌≤◌, ◌<◌, add-one, arith, length, get_or, take, drop}
+use Rattle.std.proofs.Common.{length-drop, length-take, take-suc, get_or-drop, get_or-take, length-take-le, leb}
+use mathlib.Core.List.{map-append}
+use lib.ListN.{get_or-eq_default}
 use Rattle.lists.specs.Lists.{filter, mem, rising}
 use Rattle.lists.specs.Areas.{part, groups}
 use Rattle.lists.proofs.Truth.{lt_or_le, false_true}

@@ -1,12 +1,5 @@
 -- The parents of a range's runs, numbered within it, stand once each. Assumes nothing.
-use mathlib.Core.Path.{◌≡◌, refl}
-use mathlib.Core.Bool.{true}
-use mathlib.Core.List.{List, [], ◌∷◌, map}
-use Prim.Native.Nat.{ℕ, zero, suc, ◌-◌}
-use native.Mathlib.Omega.{arith}
-use lib.ListN.{get_or, take, drop}
-use lib.Dec.{leb}
-use borrow.Author.Tests.{leb-true}
+use Rattle.std.proofs.Common.{◌≡◌, refl, true, List, [], ◌∷◌, map, ℕ, zero, suc, ◌-◌, arith, get_or, take, drop, leb, leb-true}
 use Rattle.lists.specs.Lists.{filter, rising}
 use Rattle.lists.specs.Scans.{groups_fit}
 use Rattle.lists.proofs.Members.{mem-filter}

@@ -1,12 +1,6 @@
 -- Runs started and woken in lists by value, of which the first has room for more than the range's runs. Assumes nothing.
-use mathlib.Core.Path.{◌≡◌, sym, ap, ◌∙◌}
-use mathlib.Core.Bool.{◌&&◌}
-use mathlib.Core.List.{List}
-use Prim.Native.Nat.{ℕ, ◌+◌, ◌-◌, ◌≤◌, ◌<◌}
-use native.Mathlib.Omega.{arith}
-use lib.ListN.{length, get_or, take, set}
-use lib.Seq.{get_or-take, length-take-le, take-set-lt}
-use lib.Dec.{leb, ltb}
+use Rattle.std.proofs.Common.{◌≡◌, sym, ap, ◌∙◌, ◌&&◌, List, ℕ, ◌+◌, ◌-◌, ◌≤◌, ◌<◌, arith, length, get_or, take, set, get_or-take, length-take-le, leb, ltb}
+use lib.Seq.{take-set-lt}
 use Rattle.lists.specs.Lists.{bit, count as count_of}
 use Rattle.walk.specs.Readiness.{Wakes, start_of, wake_of}
 use Rattle.walk.proofs.Starting.{waits_are, start-waits, start-known, start-ready}

@@ -1,9 +1,5 @@
 -- Children and weights as they are tabled for a range. Assumes nothing.
-use mathlib.Core.Path.{◌≡◌, sym, ap, subst}
-use mathlib.Core.List.{List}
-use Prim.Native.Nat.{ℕ, ◌+◌, ◌-◌, ◌≤◌}
-use native.Mathlib.Omega.{arith}
-use lib.ListN.{length, get_or, length-drop}
+use Rattle.std.proofs.Common.{◌≡◌, sym, ap, subst, List, ℕ, ◌+◌, ◌-◌, ◌≤◌, arith, length, get_or, length-drop}
 use Rattle.tables.specs.Lanes.{lane, Kept}
 use Rattle.tables.specs.Laid.{heads_in, items_in, grouped, Sound}
 use Rattle.tables.specs.Tables.{Children}

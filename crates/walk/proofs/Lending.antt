@@ -1,9 +1,6 @@
 -- The lists of a range's tables as they are lent: parts of one area. Assumes nothing.
-use mathlib.Core.Path.{◌≡◌, sym, ap, ◌∙◌}
-use mathlib.Core.List.{List}
-use Prim.Native.Nat.{ℕ, ◌+◌, ◌-◌, ◌*◌, ◌<◌}
-use lib.ListN.{length, get_or, take, drop, length-drop}
-use lib.Seq.{take-length, get_or-take}
+use Rattle.std.proofs.Common.{◌≡◌, sym, ap, ◌∙◌, List, ℕ, ◌+◌, ◌-◌, ◌*◌, ◌<◌, length, get_or, take, drop, length-drop, get_or-take}
+use lib.Seq.{take-length}
 use Rattle.tables.specs.Lanes.{lane}
 use Rattle.tables.specs.Laid.{heads_in, items_in}
 use Rattle.tables.proofs.Laning.{lane_lent}

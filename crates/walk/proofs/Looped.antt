@@ -1,12 +1,6 @@
 -- The invariant of the walk's loop, as the code's loop carries it. Assumes nothing.
-use mathlib.Core.Path.{◌≡◌, sym, ◌∙◌}
-use mathlib.Core.Bool.{false}
-use lib.Dec.{eqb}
-use borrow.Author.Tests.{eq-eqb}
-use mathlib.Core.Logic.{◌⊎◌, inl, inr}
+use Rattle.std.proofs.Common.{◌≡◌, sym, ◌∙◌, false, eqb, eq-eqb, ◌⊎◌, inl, inr, ℕ, ◌+◌, ◌-◌, ◌*◌, ◌≤◌, ◌<◌, ◌^◌, arith}
 use Rattle.lists.proofs.Truth.{lt_or_le, false_true}
-use Prim.Native.Nat.{ℕ, ◌+◌, ◌-◌, ◌*◌, ◌≤◌, ◌<◌, ◌^◌}
-use native.Mathlib.Omega.{arith}
 use Rattle.model.specs.Steps.{steps_of}
 use Rattle.moves.specs.Emit.{Writing, emit}
 use Rattle.moves.specs.Moves.{recs}

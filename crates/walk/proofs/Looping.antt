@@ -1,17 +1,9 @@
 -- The walk's loop over the tables of its range: what a visit needs, and what it leaves. Assumes nothing.
-use mathlib.Core.Path.{◌≡◌, refl, sym, ap, ap₂, ◌∙◌, subst}
-use mathlib.Core.Logic.{◌⊎◌, inl, inr}
-use mathlib.Core.Bool.{true, not}
-use mathlib.Core.List.{List, [], ◌∷◌, ◌++◌}
+use Rattle.std.proofs.Common.{◌≡◌, refl, sym, ap, ap₂, ◌∙◌, subst, ◌⊎◌, inl, inr, true, not, List, [], ◌∷◌, ◌++◌, ℕ, suc, ◌+◌, ◌-◌, ◌*◌, ◌≤◌, ◌<◌, ◌^◌, min, max, suc-mul, arith, length, get_or}
+use Rattle.std.proofs.Common.{take, replicate, get_or-take, eqb, eqb-true}
 use mathlib.Core.Option.{Option, none, some}
 use Rattle.std.specs.Prelude as code
-use Prim.Native.Nat.{ℕ, suc, ◌+◌, ◌-◌, ◌*◌, ◌≤◌, ◌<◌, ◌^◌, min, max}
-use native.Mathlib.Nat.{suc-mul}
-use native.Mathlib.Omega.{arith}
-use lib.ListN.{length, get_or, take, replicate, length-replicate}
-use lib.Seq.{get_or-take}
-use lib.Dec.{eqb}
-use borrow.Author.Tests.{eqb-true}
+use lib.ListN.{length-replicate}
 use Rattle.lists.specs.Lists.{mem, filter, upto, reverse}
 use Rattle.lists.proofs.Truth.{false_true, or_cases}
 use Rattle.lists.proofs.Each.{All, members, all_map, all_take, all-reverse}

@@ -1,11 +1,8 @@
 -- The last 64 ready runs, newest first, by their places. Assumes nothing.
-use mathlib.Core.Path.{◌≡◌, refl, sym, ap, ◌∙◌}
-use mathlib.Core.Logic.{◌⊎◌, inl, inr}
-use mathlib.Core.List.{List, [], ◌∷◌, ◌++◌, append_assoc}
-use Prim.Native.Nat.{ℕ, suc, ◌-◌, ◌≤◌, ◌<◌, min}
-use native.Mathlib.Omega.{arith}
-use lib.ListN.{length, get_or, take, length-append, length-take, get_or-append}
-use lib.Seq.{get_or-take, get_or-append_seam, length-take-le}
+use Rattle.std.proofs.Common.{◌≡◌, refl, sym, ap, ◌∙◌, ◌⊎◌, inl, inr, List, [], ◌∷◌, ◌++◌, append_assoc, ℕ, suc, ◌-◌, ◌≤◌, ◌<◌, min, arith, length, get_or, take, length-append, length-take}
+use Rattle.std.proofs.Common.{get_or-take, length-take-le}
+use lib.ListN.{get_or-append}
+use lib.Seq.{get_or-append_seam}
 use Rattle.lists.specs.Lists.{reverse}
 use Rattle.lists.proofs.Truth.{eq_or-not}
 

@@ -1,13 +1,7 @@
 -- A range's tables, once its parents and rows are laid: what they need, and that they are those of the range. Assumes nothing.
-use mathlib.Core.Path.{◌≡◌, refl, sym, ap, ap₂, ◌∙◌}
-use mathlib.Core.Logic.{◌⊎◌, inl, inr}
-use mathlib.Core.Bool.{true}
-use mathlib.Core.List.{List, [], ◌∷◌, map}
-use Prim.Native.Nat.{ℕ, zero, suc, ◌+◌, ◌-◌, ◌≤◌, ◌<◌}
-use native.Mathlib.Numerals.{add-one}
-use native.Mathlib.Omega.{arith}
-use lib.ListN.{length, get_or, take, drop, length-drop, length-map, get_or-eq_default}
-use lib.Seq.{get_or-take, get_or-drop, take_all, length-take-le}
+use Rattle.std.proofs.Common.{◌≡◌, refl, sym, ap, ap₂, ◌∙◌, ◌⊎◌, inl, inr, true, List, [], ◌∷◌, map, ℕ, zero, suc, ◌+◌, ◌-◌, ◌≤◌, ◌<◌, add-one, arith, length, get_or, take, drop, length-drop}
+use Rattle.std.proofs.Common.{get_or-take, get_or-drop, take_all, length-take-le}
+use lib.ListN.{length-map, get_or-eq_default}
 use Rattle.lists.specs.Lists.{rising, sum}
 use Rattle.lists.specs.Areas.{part}
 use Rattle.lists.proofs.Truth.{lt_or_le}

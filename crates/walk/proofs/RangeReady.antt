@@ -1,10 +1,5 @@
 -- The tables prepared for a range whose rows are laid are the range's, and what its walk comes to is what the definitions say. Assumes nothing.
-use mathlib.Core.Path.{◌≡◌, sym, ap, ◌∙◌, subst}
-use mathlib.Core.Bool.{true}
-use mathlib.Core.List.{List}
-use Prim.Native.Nat.{ℕ, ◌+◌, ◌≤◌, ◌<◌}
-use native.Mathlib.Omega.{arith}
-use lib.ListN.{length, get_or, take}
+use Rattle.std.proofs.Common.{◌≡◌, sym, ap, ◌∙◌, subst, true, List, ℕ, ◌+◌, ◌≤◌, ◌<◌, arith, length, get_or, take}
 use Rattle.lists.specs.Lists.{rising}
 use Rattle.model.specs.History.{at, histories}
 use Rattle.model.specs.Range.{sizes_of}

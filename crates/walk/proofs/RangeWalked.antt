@@ -1,18 +1,12 @@
 -- What a range's walk comes to is what the definitions say: rows too long, or steps. Assumes nothing.
-use mathlib.Core.Path.{◌≡◌, sym, ap, ap₂, ◌∙◌}
-use mathlib.Core.Bool.{true, false}
-use mathlib.Core.List.{List, []}
+use Rattle.std.proofs.Common.{◌≡◌, sym, ap, ap₂, ◌∙◌, true, false, List, [], ℕ, ◌+◌, ◌-◌, ◌≤◌, min, max, arith, length, lt-ltb, le-ltb}
 use mathlib.Core.Option.{none}
-use Prim.Native.Nat.{ℕ, ◌+◌, ◌-◌, ◌≤◌, min, max}
-use native.Mathlib.Omega.{arith}
-use lib.ListN.{length}
 use Rattle.lists.specs.Lists.{upto}
 use Rattle.model.specs.Choice.{Range, newly_ready}
 use Rattle.model.specs.Steps.{Step, visits, steps_of}
 use Rattle.model.specs.Walk.{rows_into, rows_too_long}
 use Rattle.std.specs.Prelude.{Option, Some, None}
 use Rattle.std.proofs.lemmas.Option.{MatchOption-at_none, MatchOption-at_some}
-use borrow.Author.Tests.{lt-ltb, le-ltb}
 use Rattle.tables.specs.declared.rows.Area.{Area}
 use Rattle.tables.specs.Laid.{shares, RangeLaid}
 use Rattle.tables.proofs.Gathering.{shares-length}

@@ -1,14 +1,7 @@
 -- The ranges of a cut replayed one after another are the definitions' full replay. Assumes nothing.
-use mathlib.Core.Path.{◌≡◌, refl, sym, ap, ap₂, ◌∙◌, subst}
-use mathlib.Core.Logic.{◌⊎◌, inl, inr}
-use mathlib.Core.Bool.{Bool, true, false, cond}
-use mathlib.Core.List.{List, [], ◌∷◌, ◌++◌, map, append_assoc, append-nil}
-use Prim.Native.Nat.{ℕ, zero, suc, ◌-◌, ◌/◌, ◌≤◌, ◌<◌}
-use native.Mathlib.Omega.{arith}
-use lib.ListN.{length, take, length-append}
+use Rattle.std.proofs.Common.{◌≡◌, refl, sym, ap, ap₂, ◌∙◌, subst, ◌⊎◌, inl, inr, Bool, true, false, cond, List, [], ◌∷◌, ◌++◌, map, append_assoc, append-nil, ℕ, zero, suc, ◌-◌, ◌/◌, ◌≤◌, ◌<◌}
+use Rattle.std.proofs.Common.{arith, length, take, length-append, ltb, eqb, lt-ltb, le-ltb, eq-eqb, ne_eqb}
 use lib.Seq.{take-nil}
-use lib.Dec.{ltb, eqb}
-use borrow.Author.Tests.{lt-ltb, le-ltb, eq-eqb, ne_eqb}
 use Rattle.lists.specs.Lists.{from}
 use Rattle.lists.specs.Areas.{over}
 use Rattle.lists.proofs.Truth.{lt_or_le, eq_or-not}

@@ -1,9 +1,5 @@
 -- What is read of a run, by the tables that a walk is given. Assumes nothing.
-use mathlib.Core.Path.{◌≡◌, sym, ap, ap₂, ◌∙◌}
-use mathlib.Core.List.{List}
-use Prim.Native.Nat.{ℕ, ◌+◌, ◌≤◌, ◌<◌}
-use native.Mathlib.Omega.{arith}
-use lib.ListN.{length, get_or}
+use Rattle.std.proofs.Common.{◌≡◌, sym, ap, ap₂, ◌∙◌, List, ℕ, ◌+◌, ◌≤◌, ◌<◌, arith, length, get_or}
 use Rattle.lists.specs.Areas.{part}
 use Rattle.model.specs.History.{at}
 use Rattle.tables.specs.Laid.{heads_in, items_in}

@@ -1,12 +1,7 @@
 -- A run taken out of the ready list: what stands after it moves one place down. Assumes nothing.
-use mathlib.Core.Path.{◌≡◌, sym, ap, ◌∙◌, subst}
-use mathlib.Core.Bool.{true, not}
-use mathlib.Core.List.{List, [], ◌∷◌, ◌++◌, append_assoc}
-use Prim.Native.Nat.{ℕ, zero, suc, ◌+◌, ◌-◌, ◌<◌, ◌≤◌}
-use native.Mathlib.Omega.{arith}
-use lib.ListN.{length, get_or, take, drop, length-drop, length-take, length-append}
+use Rattle.std.proofs.Common.{◌≡◌, sym, ap, ◌∙◌, subst, true, not, List, [], ◌∷◌, ◌++◌, append_assoc, ℕ, zero, suc, ◌+◌, ◌-◌, ◌<◌, ◌≤◌, arith, length, get_or, take, drop, length-drop, length-take}
+use Rattle.std.proofs.Common.{length-append, eqb}
 use lib.Seq.{paste, length_paste_head, take-append_seam}
-use lib.Dec.{eqb}
 use Rattle.lists.specs.Lists.{filter}
 use Rattle.model.specs.Choice.{Range, is_ready}
 use Rattle.model.proofs.Choosing.{ready_after}

@@ -1,9 +1,5 @@
 -- One visit by its parts: what they leave together. Assumes nothing.
-use mathlib.Core.Path.{◌≡◌, ap, ◌∙◌, subst}
-use mathlib.Core.List.{List}
-use Prim.Native.Nat.{ℕ, ◌+◌, ◌-◌, ◌≤◌, ◌<◌, ◌^◌}
-use native.Mathlib.Omega.{arith}
-use lib.ListN.{length, get_or}
+use Rattle.std.proofs.Common.{◌≡◌, ap, ◌∙◌, subst, List, ℕ, ◌+◌, ◌-◌, ◌≤◌, ◌<◌, ◌^◌, arith, length, get_or}
 use Rattle.std.specs.Prelude.{Some}
 use Rattle.tables.specs.Reached.{arrived, Holds}
 use Rattle.moves.specs.Emit.{emit}

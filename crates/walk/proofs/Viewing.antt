@@ -1,10 +1,6 @@
 -- A candidate weighed by the code and by the definitions. Assumes nothing.
-use mathlib.Core.Path.{◌≡◌, refl, sym}
-use mathlib.Core.Bool.{Bool, true, false}
-use mathlib.Core.List.{List}
+use Rattle.std.proofs.Common.{◌≡◌, refl, sym, Bool, true, false, List, ℕ, get_or}
 use mathlib.Core.Option.{none, some}
-use Prim.Native.Nat.{ℕ}
-use lib.ListN.{get_or}
 use Rattle.std.specs.Prelude.{Option, Some, None}
 use Rattle.lists.proofs.Truth.{false_true}
 use Rattle.model.specs.Choice.{Best, better, free}

@@ -1,13 +1,7 @@
 -- What runs wait for: a run is ready exactly if it is due and waits for nothing, and what a visit takes from it. Assumes nothing.
-use mathlib.Core.Path.{◌≡◌, refl, sym, ap, ◌∙◌}
-use mathlib.Core.Logic.{◌⊎◌, inl, inr}
-use mathlib.Core.Bool.{Bool, true, false, not, ◌&&◌, ◌||◌}
-use mathlib.Core.List.{List, [], ◌∷◌}
-use Prim.Native.Nat.{ℕ, ◌+◌, ◌-◌, ◌≤◌, ◌<◌}
-use native.Mathlib.Omega.{arith}
-use lib.ListN.{length}
-use lib.Dec.{leb, ltb, eqb}
-use borrow.Author.Tests.{lt-ltb, le-ltb, ltb-true, ltb-false, eq-eqb, ne_eqb, eqb-true, le-leb, lt-leb, not-true}
+use Rattle.std.proofs.Common.{◌≡◌, refl, sym, ap, ◌∙◌, ◌⊎◌, inl, inr, Bool, true, false, not, ◌&&◌, ◌||◌, List, [], ◌∷◌, ℕ, ◌+◌, ◌-◌, ◌≤◌, ◌<◌, arith, length, leb, ltb, eqb, lt-ltb, le-ltb}
+use Rattle.std.proofs.Common.{ltb-true, ltb-false, eq-eqb, ne_eqb, eqb-true, le-leb}
+use borrow.Author.Tests.{lt-leb, not-true}
 use Rattle.lists.specs.Lists.{bit, all, mem, count, from, upto}
 use Rattle.lists.proofs.Truth.{lt_or_le, eq_or-not, not_so, and_left, and_right, and_true, and_false, and_assoc, or-first, or-last, or_false}
 use Rattle.lists.proofs.Counts.{mem-from, from-mem, from-length, count_same, all_none}

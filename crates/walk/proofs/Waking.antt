@@ -1,16 +1,10 @@
 -- Runs woken one after another, and what the state then says. Assumes nothing.
-use mathlib.Core.Path.{◌≡◌, refl, sym, ap, ◌∙◌, subst}
-use mathlib.Core.Logic.{◌⊎◌, inl, inr}
-use mathlib.Core.Bool.{Bool, true, false, cond, ◌||◌, false≢true}
-use mathlib.Core.List.{List, [], ◌∷◌, ◌++◌, append_assoc, append-nil}
-use Prim.Native.Nat.{ℕ, suc, ◌+◌, ◌-◌, ◌≤◌, ◌<◌}
-use native.Mathlib.Omega.{arith}
-use native.Mathlib.Numerals.{add-one}
+use Rattle.std.proofs.Common.{◌≡◌, refl, sym, ap, ◌∙◌, subst, ◌⊎◌, inl, inr, Bool, true, false, cond, ◌||◌, List, [], ◌∷◌, ◌++◌, append_assoc, append-nil, ℕ, suc, ◌+◌, ◌-◌, ◌≤◌, ◌<◌, arith}
+use Rattle.std.proofs.Common.{add-one, length, get_or, take, drop, set, length-set, drop_of_length-le, length-append, drop-cons, get_or-set_same, get_or-set_other, take-suc-set, leb, ltb, eqb}
+use Rattle.std.proofs.Common.{lt-ltb, le-ltb, le-leb, eq-eqb, ne_eqb, eqb-true}
+use mathlib.Core.Bool.{false≢true}
 use native.Mathlib.Nat.{sub-zero}
-use lib.ListN.{length, get_or, take, drop, set, length-set, drop_of_length-le, length-append}
-use lib.Seq.{drop-cons, get_or-set_same, get_or-set_other, take-suc-set}
-use lib.Dec.{leb, ltb, eqb}
-use borrow.Author.Tests.{lt-ltb, le-ltb, le-leb, lt-leb, eq-eqb, ne_eqb, eqb-true}
+use borrow.Author.Tests.{lt-leb}
 use Rattle.lists.specs.Lists.{bit, mem, filter, from}
 use Rattle.lists.proofs.Truth.{eq_or-not, false_true}
 use Rattle.lists.proofs.Members.{mem-first, mem-rest, filter_agree}

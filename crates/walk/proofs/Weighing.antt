@@ -1,15 +1,8 @@
 -- One candidate weighed, and the next: what a best so far passes over without measuring, and what a distance broken off changes.
 -- Assumes nothing.
-use mathlib.Core.Path.{◌≡◌, sym, ap, subst, ◌∙◌}
-use mathlib.Core.Logic.{◌⊎◌, inl, inr}
-use mathlib.Core.Bool.{Bool, true, false, ◌&&◌}
+use Rattle.std.proofs.Common.{◌≡◌, sym, ap, subst, ◌∙◌, ◌⊎◌, inl, inr, Bool, true, false, ◌&&◌, List, ℕ, suc, ◌+◌, ◌-◌, ◌≤◌, ◌<◌, ◌^◌, arith, get_or, ltb, leb, eqb, le-ltb, eq-eqb, ne_eqb}
+use Rattle.std.proofs.Common.{eqb-true, ltb-true, leb-true}
 use Rattle.std.specs.Prelude.{Option, Some, None}
-use mathlib.Core.List.{List}
-use Prim.Native.Nat.{ℕ, suc, ◌+◌, ◌-◌, ◌≤◌, ◌<◌, ◌^◌}
-use native.Mathlib.Omega.{arith}
-use lib.ListN.{get_or}
-use lib.Dec.{ltb, leb, eqb}
-use borrow.Author.Tests.{le-ltb, eq-eqb, ne_eqb, eqb-true, ltb-true, leb-true}
 use Rattle.lists.proofs.Truth.{lt_or_le, false_true, and_left, and_right, or_cases}
 use Rattle.tables.specs.Sizes.{Within, events_from}
 use Rattle.tables.proofs.Gapping.{events-apart}

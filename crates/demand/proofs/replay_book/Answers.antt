@@ -1,5 +1,5 @@
 -- `demand::replay_book` meets its contract: demand 3's claim of the graph that the book gives. Assumes nothing.
-use mathlib.Core.Path.{◌∙◌, ap}
+use Rattle.std.proofs.Common.{◌∙◌, ap}
 use Rattle.model.specs.declared.answers.BookRead.{BookRead}
 use Rattle.model.specs.Replay.{replay_of}
 use Rattle.model.proofs.BookPrints.{book-claimed}

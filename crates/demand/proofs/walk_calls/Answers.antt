@@ -1,5 +1,5 @@
 -- `demand::walk_calls` meets its contract: demand 3's claim of what its two calls left. Assumes nothing.
-use mathlib.Core.Path.{◌∙◌, ap}
+use Rattle.std.proofs.Common.{◌∙◌, ap}
 use Rattle.model.specs.declared.record.CausalGraph.{CausalGraph}
 use Rattle.model.specs.Walk.{walk_of}
 use Rattle.model.proofs.Demand.{claim}

@@ -1,6 +1,5 @@
 -- `book::replaying::replayed` meets its contract: the book is read, and its graph is held. Assumes nothing.
-use mathlib.Core.Path.{sym, ◌∙◌, ap, subst}
-use mathlib.Core.List.{List}
+use Rattle.std.proofs.Common.{sym, ◌∙◌, ap, subst, List}
 use Rattle.model.specs.declared.answers.BookRead.{BookRead}
 use Rattle.model.specs.Broken.{Held}
 use Rattle.model.specs.Print.{Line}

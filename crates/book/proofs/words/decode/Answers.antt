@@ -1,6 +1,5 @@
 -- `book::words::decode` meets its contract: one more word stands in its place each turn. Assumes nothing.
-use Rattle.std.proofs.Common.{refl, sym, ◌∙◌, ap, List, ℕ, ◌*◌, drop, ◌++◌}
-use lib.ListN.{set}
+use Rattle.std.proofs.Common.{refl, sym, ◌∙◌, ap, List, ℕ, ◌*◌, drop, ◌++◌, set}
 use Rattle.model.specs.Book.{words_of}
 use Rattle.book.proofs.Decoding.{decode_next, decode_all, word_bytes}
 use Rattle.book.proofs.words.decode.Goals as goal

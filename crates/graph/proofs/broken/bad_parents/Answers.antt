@@ -1,6 +1,5 @@
 -- `graph::broken::bad_parents` meets its contract: where the groups cover the entries, each is asked. Assumes nothing.
-use Rattle.std.proofs.Common.{rules, ap, ◌≤◌, not, length}
-use lib.Seq.{length-take-le}
+use Rattle.std.proofs.Common.{rules, ap, ◌≤◌, not, length, length-take-le}
 use Rattle.model.specs.Record.{view}
 use Rattle.model.specs.Broken.{bad_parents}
 use Rattle.graph.proofs.Testing.{told, groups_climb}

@@ -1,5 +1,5 @@
 -- `graph::fresh::after` meets its contract: each of its tests, in their order, is one of the definition. Assumes nothing.
-use mathlib.Core.Path.{sym, ◌∙◌}
+use Rattle.std.proofs.Common.{sym, ◌∙◌}
 use Rattle.graph.proofs.Beginning.{after_unordered, after-unknown, after-long, after-done}
 use Rattle.graph.proofs.fresh.after.Goals as goal
 

@@ -1,8 +1,6 @@
 -- `graph::lookups::containing_in` meets its contract: before the first start, from the last on, or in the run that the scan finds. Assumes
 -- nothing.
-use mathlib.Core.Path.{sym, ap, ◌∙◌}
-use Prim.Native.Nat.{ℕ}
-use native.Mathlib.Omega.{arith}
+use Rattle.std.proofs.Common.{sym, ap, ◌∙◌, ℕ, arith}
 use Rattle.lists.proofs.Scanning.{last-take}
 use Rattle.model.specs.Answers.{containing_at}
 use Rattle.model.specs.Graph.{in_run}

@@ -1,8 +1,6 @@
 -- `graph::lookups::events` meets its contract: its two tests are those of the definition, and its reads are those of the graph. Assumes nothing.
-use Prim.Native.Nat.{suc}
-use native.Mathlib.Omega.{arith}
-use native.Mathlib.Numerals.{add-one}
-use borrow.Author.Tests.{le-leb, lt-leb}
+use Rattle.std.proofs.Common.{suc, arith, add-one, le-leb}
+use borrow.Author.Tests.{lt-leb}
 use Rattle.model.specs.Graph.{runs}
 use Rattle.model.specs.Record.{view}
 use Rattle.model.specs.Lookups.{events_of}

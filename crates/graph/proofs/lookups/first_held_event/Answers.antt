@@ -1,5 +1,5 @@
 -- `graph::lookups::first_held_event` meets its contract: its read is one of the graph. Assumes nothing.
-use mathlib.Core.Path.{refl}
+use Rattle.std.proofs.Common.{refl}
 use Rattle.model.specs.Lookups.{first_held_event_of}
 use Rattle.std.proofs.lemmas.Result.{err_from_is_err_and}
 use Rattle.graph.proofs.Views.{first-view}

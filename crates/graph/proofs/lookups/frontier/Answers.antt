@@ -1,5 +1,5 @@
 -- `graph::lookups::frontier` meets its contract: the array is the frontier with zeros after it. Assumes nothing.
-use mathlib.Core.Path.{refl, sym}
+use Rattle.std.proofs.Common.{refl, sym}
 use Rattle.model.specs.Record.{view}
 use Rattle.model.specs.declared.answers.FrontierEvents.{FrontierEvents}
 use Rattle.model.specs.Answers.{events_listed}

@@ -1,5 +1,5 @@
 -- `graph::lookups::is_empty` meets its contract: the run count is the number of runs. Assumes nothing.
-use mathlib.Core.Path.{refl}
+use Rattle.std.proofs.Common.{refl}
 use Rattle.model.specs.Lookups.{is_empty_of}
 use Rattle.std.proofs.lemmas.Result.{err_from_is_err_and}
 use Rattle.graph.proofs.Views.{runs-view}

@@ -1,9 +1,6 @@
 -- `graph::lookups::parents` meets its contract: the part of the entries between two starts is the run's group, and it is short enough. Assumes nothing.
-use mathlib.Core.Path.{sym, ap, ◌∙◌}
-use mathlib.Core.List.{[]}
-use native.Mathlib.Omega.{arith}
-use lib.ListN.{get_or}
-use borrow.Author.Tests.{le-leb, lt-leb}
+use Rattle.std.proofs.Common.{sym, ap, ◌∙◌, [], arith, get_or, le-leb}
+use borrow.Author.Tests.{lt-leb}
 use Rattle.lists.specs.Areas.{pad, part}
 use Rattle.model.specs.Graph.{runs}
 use Rattle.model.specs.Record.{view}

@@ -1,7 +1,6 @@
 -- `graph::lookups::start` meets its contract: its two tests are those of the definition, and its read is one of the graph. Assumes nothing.
-use Rattle.std.proofs.Common.{arith}
+use Rattle.std.proofs.Common.{arith, lt-ltb, le-ltb}
 use Rattle.std.proofs.lemmas.Result.{err_from_is_err_and}
-use borrow.Author.Tests.{lt-ltb, le-ltb}
 use Rattle.model.specs.Graph.{runs}
 use Rattle.model.specs.Record.{view}
 use Rattle.model.specs.Lookups.{start_of}

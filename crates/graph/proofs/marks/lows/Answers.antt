@@ -1,6 +1,5 @@
 -- `graph::marks::lows` meets its contract. The loop's invariant: the places from `i` on hold the lowest of what is seen from there on. Assumes nothing.
-use borrow.Author.Rules.{rules}
-use native.Mathlib.Omega.{arith}
+use Rattle.std.proofs.Common.{rules, arith}
 use Rattle.graph.proofs.Marking.{lows_start, lows_turn}
 use Rattle.graph.proofs.marks.lows.Goals as goal
 

@@ -1,6 +1,5 @@
 -- `graph::pushing::does_extend` meets its contract, by the test's two cases. Assumes nothing.
-use Rattle.std.proofs.Common.{arith, ap, ◌∙◌, ℕ, ◌-◌, ◌∷◌, []}
-use borrow.Author.Tests.{lt-ltb}
+use Rattle.std.proofs.Common.{arith, ap, ◌∙◌, ℕ, ◌-◌, ◌∷◌, [], lt-ltb}
 use Rattle.lists.specs.Lists.{same}
 use Rattle.lists.proofs.Scanning.{same-pointwise}
 use Rattle.model.specs.Graph.{extends}

@@ -1,7 +1,6 @@
 -- `graph::pushing::push_known` meets its contract: the last run grows, or refusals 6 to 8 in their order, or the splits and a new run. Assumes
 -- nothing.
-use Rattle.std.proofs.Common.{arith, sym, ◌∙◌, ◌+◌}
-use borrow.Author.Tests.{ltb-false}
+use Rattle.std.proofs.Common.{arith, sym, ◌∙◌, ◌+◌, ltb-false}
 use Rattle.graph.proofs.Views.{facts}
 use Rattle.graph.proofs.PushWays.{known_of, splits_are, some_runs, grown-out, grown-held, too_many_runs, too_many_entries, frontier_too_long, new-run, room, parted_len, parted_joins, joined-out, joined-held}
 use Rattle.graph.proofs.pushing.push_known.Goals as goal

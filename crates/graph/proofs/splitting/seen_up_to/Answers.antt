@@ -1,5 +1,5 @@
 -- `graph::splitting::seen_up_to` meets its contract, by the test's two cases. Assumes nothing.
-use borrow.Author.Tests.{eq-eqb, ne_eqb}
+use Rattle.std.proofs.Common.{eq-eqb, ne_eqb}
 use Rattle.graph.proofs.splitting.seen_up_to.Goals as goal
 
 pub returns-then-seen-start : goal.returns-then-seen-start

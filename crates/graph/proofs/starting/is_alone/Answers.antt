@@ -1,7 +1,5 @@
 -- `graph::starting::is_alone` meets its contract: its three ways out. Assumes nothing.
-use mathlib.Core.Path.{◌≡◌, sym, ap, ◌∙◌}
-use Prim.Native.Nat.{suc, ◌+◌}
-use native.Mathlib.Omega.{arith}
+use Rattle.std.proofs.Common.{◌≡◌, sym, ap, ◌∙◌, suc, ◌+◌, arith}
 use Rattle.model.specs.Graph.{runs, marked}
 use Rattle.model.specs.Record.{view}
 use Rattle.graph.proofs.Views.{facts, runs-view}

@@ -1,8 +1,5 @@
 -- `graph::starting::start_in` meets its contract: each way out of a start in a run is one law. Assumes nothing.
-use mathlib.Core.Path.{sym, ap, ◌∙◌}
-use mathlib.Core.Bool.{Bool, not, true}
-use native.Mathlib.Omega.{arith}
-use borrow.Author.Rules.{rules}
+use Rattle.std.proofs.Common.{sym, ap, ◌∙◌, Bool, not, true, arith, rules}
 use Rattle.model.specs.declared.record.CausalGraph.{CausalGraph}
 use Rattle.model.specs.Start.{told, start_refused}
 use Rattle.graph.proofs.Views.{facts}

@@ -1,5 +1,5 @@
 -- `graph::starting::take_held` meets its contract: the record is that of the graph with nothing changed since. Assumes nothing.
-use native.Mathlib.Omega.{arith}
+use Rattle.std.proofs.Common.{arith}
 use Rattle.graph.proofs.Views.{facts}
 use Rattle.graph.proofs.StartWays.{take-taken}
 use Rattle.graph.proofs.starting.take_held.Goals as goal

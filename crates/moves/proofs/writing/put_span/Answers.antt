@@ -1,6 +1,5 @@
 -- `moves::writing::put_span` meets its contract: a record for a stretch of runs. Assumes nothing.
-use mathlib.Core.Path.{ap, ◌∙◌}
-use Prim.Native.Nat.{ℕ, ◌+◌}
+use Rattle.std.proofs.Common.{ap, ◌∙◌, ℕ, ◌+◌}
 use Rattle.moves.specs.Emit.{emit_one, step_of}
 use Rattle.moves.proofs.writing.put_span.Goals as goal
 

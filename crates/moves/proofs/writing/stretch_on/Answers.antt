@@ -1,6 +1,5 @@
 -- `moves::writing::stretch_on` meets its contract: a stretch goes on, or is written. Assumes nothing.
-use borrow.Author.Tests.{eq-eqb, ne_eqb}
-use Rattle.std.proofs.Common.{ap}
+use Rattle.std.proofs.Common.{ap, eq-eqb, ne_eqb}
 use Rattle.moves.specs.Emit.{Writing}
 use Rattle.moves.specs.Stretches.{stretch_on, begun}
 use Rattle.moves.proofs.writing.stretch_on.Goals as goal

@@ -1,6 +1,5 @@
 -- `tables::groups::put_group` meets its contract: a run's group, and its end. Assumes nothing.
-use mathlib.Core.Path.{ap}
-use native.Mathlib.Omega.{arith}
+use Rattle.std.proofs.Common.{ap, arith}
 use Rattle.tables.specs.Gather.{Gathered, end_group, put_group}
 use Rattle.tables.proofs.Gathering.{puts_count}
 use Rattle.tables.proofs.groups.put_group.Goals as goal

@@ -1,7 +1,5 @@
 -- `graph::records::Records::put` meets its contract: by whether a record did not fit before, and whether this one does. Assumes nothing.
-use Rattle.std.proofs.Common.{arith, append_assoc, ◌≡◌, ◌+◌, ◌*◌, ◌-◌}
-use lib.Seq.{drop-drop}
-use borrow.Author.Tests.{lt-ltb, le-ltb}
+use Rattle.std.proofs.Common.{arith, append_assoc, ◌≡◌, ◌+◌, ◌*◌, ◌-◌, drop-drop, lt-ltb, le-ltb}
 use Rattle.graph.specs.Records.{put}
 use Rattle.graph.proofs.records.Records.put.Goals as goal
 

@@ -1,7 +1,6 @@
 -- `walk::visiting::Progress::visit_all`: how it begins, a visit more, and its two ends.
-use Rattle.std.proofs.Common.{◌≡◌, ◌+◌, ◌-◌, sym, ap, ◌∙◌, subst, arith}
+use Rattle.std.proofs.Common.{◌≡◌, ◌+◌, ◌-◌, sym, ap, ◌∙◌, subst, arith, eqb-true}
 use Rattle.walk.specs.Given.{Given, Prepared}
-use borrow.Author.Tests.{eqb-true}
 use Rattle.walk.proofs.Looped.{some_ready, looped_start, looped_fit, looped_none, looped_next, looped_end, looped_moved}
 use Rattle.walk.proofs.visiting.Progress.visit_all.Goals as goal
 
