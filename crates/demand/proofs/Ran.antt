@@ -36,17 +36,19 @@ module _ (made : CausalGraph × Log) (C : Claimed made.0 made.1) (rows steps : L
     done = λ i j p q. ap (λ (y : WalkResult). y.0.outcome) e ∙ C.walk_done a b known first rows steps i j p q;
   }
 
--- Full replays and walks of the graph that calls made, and of the one that a book gives
-pub calls_replayed : (ws rows steps : List ℕ) (g : CausalGraph) (x : WalkResult) → g ≡ (called_by ws).0 → x ≡ replay_of g rows steps → Replayed (called_by ws) rows steps x
-calls_replayed ws rows steps g x made e =
-    replayed (called_by ws) (claim (fresh_in ws) (calls_in ws)) rows steps x
-    (e ∙ ap (λ (h : CausalGraph). replay_of h rows steps) made)
+-- A full replay and a walk of the graph that calls made
+module _ (ws rows steps : List ℕ) (g : CausalGraph) (x : WalkResult) (made : g ≡ (called_by ws).0) where
+  pub calls_replayed : x ≡ replay_of g rows steps → Replayed (called_by ws) rows steps x
+  calls_replayed e =
+      replayed (called_by ws) (claim (fresh_in ws) (calls_in ws)) rows steps x
+      (e ∙ ap (λ (h : CausalGraph). replay_of h rows steps) made)
 
-pub calls_walked : (ws rows steps : List ℕ) (g : CausalGraph) (x : WalkResult) (a b known first : ℕ) → g ≡ (called_by ws).0 → x ≡ walk_of g a b known first rows steps → WalkedOver (called_by ws) a b known first rows steps x
-calls_walked ws rows steps g x a b known first made e =
-    walked-over (called_by ws) (claim (fresh_in ws) (calls_in ws)) rows steps x a b known first
-    (e ∙ ap (λ (h : CausalGraph). walk_of h a b known first rows steps) made)
+  pub calls_walked : (a b known first : ℕ) → x ≡ walk_of g a b known first rows steps → WalkedOver (called_by ws) a b known first rows steps x
+  calls_walked a b known first e =
+      walked-over (called_by ws) (claim (fresh_in ws) (calls_in ws)) rows steps x a b known first
+      (e ∙ ap (λ (h : CausalGraph). walk_of h a b known first rows steps) made)
 
+-- A full replay of the graph that a book gives
 pub book_replayed : (bytes rows steps : List ℕ) (b : BookRead) (x : WalkResult) → b ≡ book_of bytes → x ≡ replay_of b.graph rows steps → Replayed (book_by bytes) rows steps x
 book_replayed bytes rows steps b x read e =
     replayed (book_by bytes) (book-claimed bytes) rows steps x
