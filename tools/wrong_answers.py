@@ -232,6 +232,7 @@ def edited(text, old, new, which=None):
     if which is None:
         assert len(parts) == 2, (len(parts) - 1, old)
         which = 0
+    assert which < len(parts) - 1, (which, len(parts) - 1, old)
     return old.join(parts[: which + 1]) + new + old.join(parts[which + 1 :])
 
 

@@ -9,6 +9,7 @@ use book::Printed;
 use model::{EventRunIndex, Walked};
 
 // The calls that the words say, and then a full replay. Words can say every list of calls: `calls::every_list`.
+#[tactic(auto, using(crate::proofs::Ran::calls_replayed))]
 pub fn replay_calls(words: &[u32], rows: &mut [u32], steps: &mut [u32]) -> Walked
     ensures { Replayed (called_by words.now)
         rows.old steps.old (result, rows.new, steps.new) }
@@ -16,7 +17,8 @@ pub fn replay_calls(words: &[u32], rows: &mut [u32], steps: &mut [u32]) -> Walke
     walk::replaying::replay(calls::made_by(words), rows, steps)
 }
 
-// The same calls, and then a walk.
+// The same calls, and then a walk, which is given `known` and `first` as 01's call is.
+#[tactic(auto, using(crate::proofs::Ran::calls_walked))]
 pub fn walk_calls(
     words: &[u32],
     first_run: EventRunIndex,
@@ -41,6 +43,7 @@ pub fn walk_calls(
 }
 
 // A book's bytes, and then a full replay of the graph that it gives.
+#[tactic(auto, using(crate::proofs::Ran::book_replayed))]
 pub fn replay_book(bytes: &[u8], rows: &mut [u32], steps: &mut [u32]) -> Walked
     ensures { Replayed (book_by bytes.now)
         rows.old steps.old (result, rows.new, steps.new) }
@@ -51,6 +54,7 @@ pub fn replay_book(bytes: &[u8], rows: &mut [u32], steps: &mut [u32]) -> Walked
 }
 
 // What `replay` prints of a book, into a lent buffer.
+#[tactic(auto, using(crate::proofs::Ran::book_printed))]
 pub fn print_book(bytes: &[u8], out: &mut [u8]) -> Printed
     ensures { BookPrinted bytes.now out.old (result, out.new) }
 {

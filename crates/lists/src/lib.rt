@@ -30,14 +30,11 @@ pub fn is_rising(s: &[u32]) -> bool
 }
 
 // Whether every number is 0.
+#[tactic(auto, using(crate::proofs::Scanning::below_one))]
 pub fn is_zero(s: &[u32]) -> bool
     ensures { result ≡ zeros s.now }
 {
-    let mut is_zero = true;
-    for x in s {
-        is_zero &= *x == 0;
-    }
-    is_zero
+    all_below(s, 1)
 }
 
 // Whether the numbers are below `limit`.
@@ -45,6 +42,7 @@ pub fn all_below(s: &[u32], limit: u32) -> bool
     ensures { result ≡ below limit s.now }
 {
     let mut is_below = true;
+    // A `fold` is slower.
     for x in s {
         is_below &= *x < limit;
     }
@@ -58,7 +56,8 @@ pub fn last_at_most(s: &[u32], e: u32) -> usize
     s.iter().rposition(|x| *x <= e).unwrap_or(0)
 }
 
-// Whether the numbers never fall, and the last of them is `last`.
+// Whether the numbers never fall, and the last of them is `last`. A scan of its own: one for this and `is_rising` would take the test of two
+// neighbours as a closure, and say of that closure what each of the loops says here.
 pub fn is_climb(s: &[u32], last: usize) -> bool
     ensures { result ≡ climbs last s.now }
 {
@@ -105,7 +104,7 @@ pub fn is_between<'a>(first: u32, highs: &'a [u32], s: &'a [u32]) -> bool
         .all(|(x, high)| first <= *x && *x <= *high)
 }
 
-// Those that are not among `ps`.
+// Those that are not among `ps`. Filters into a list by value differ in what they go over and in their test, and share `push_if`.
 pub fn keep_all(a: &[u32], ps: &[u32]) -> Kept
     requires { length a.now ≤ max_kept }
     ensures { result ≡ filter (λ e. not (mem e ps.now)) a.now }

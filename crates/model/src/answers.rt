@@ -71,14 +71,16 @@ pub struct Changed<T> {
     pub answer: Result<T, Refusal>,
 }
 
-// A run's parents, which are runs: `count` of them, then zeros.
+// A run's parents, which are runs: `count` of them, then zeros. An array and a count, since 01's answers are values of one size; a type beside
+// `FrontierEvents`, since runs must not be taken for events.
 #[derive(Clone, Copy)]
 pub struct ParentRuns {
     pub runs: [u32; MAX_RUNS],
     pub count: usize,
 }
 
-// The frontier, which is events: `count` of them, then zeros.
+// The frontier, which is events: `count` of them, then zeros. An array and a count, since 01's answers are values of one size; a type beside
+// `ParentRuns`, since events must not be taken for runs.
 #[derive(Clone, Copy)]
 pub struct FrontierEvents {
     pub events: [u32; MAX_FRONTIER],

@@ -9,7 +9,8 @@ pub struct EventIndex(pub u32);
 #[derive(Clone, Copy, Debug, PartialEq, Eq, PartialOrd, Ord)]
 pub struct EventRunIndex(pub u32);
 
-// An event graph: each event's parents, without its operation. Arrays hold bare numbers; every place past a count is 0.
+// An event graph: each event's parents, without its operation. Arrays with counts beside them, as 01's record is: a value of one size, of bare
+// numbers, in which every place past a count is 0.
 #[derive(Clone, Copy)]
 pub struct CausalGraph {
     // Events: run i is events starts[i] up to, not including, starts[i + 1].
