@@ -3,7 +3,6 @@
 // A list of calls given as words, made by the public calls: a fresh start, then pushes, run starts and takes, each by value or lent.
 // specs/ says which calls the words are.
 mod forms;
-pub mod lending;
 mod said;
 
 ghost use Rattle.std.specs.Prelude.{◌≡◌};
