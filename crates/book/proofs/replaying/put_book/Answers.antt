@@ -1,14 +1,11 @@
--- `book::replaying::lines` meets its contract: what the book answered decides. Assumes nothing.
-use Rattle.std.proofs.Common.{List, ◌∙◌, ap}
-use Rattle.model.specs.Print.{Line}
-use Rattle.book.specs.Output.{printing}
-use Rattle.book.proofs.Whole.{line_printed, lines_whole, lines_refused}
-use Rattle.book.proofs.replaying.lines.Goals as goal
+-- `book::replaying::put_book` meets its contract: what the book answered decides. Assumes nothing.
+use Rattle.book.specs.Turns.{read_of}
+use Rattle.book.specs.Writing.{state}
+use Rattle.book.proofs.Whole.{put_whole, put_refused}
+use Rattle.book.proofs.replaying.put_book.Goals as goal
 
-pub returns-in-Ok : goal.returns-in-Ok
-returns-in-Ok c = (rw c.known.ensures at c.replay_lines.ensures) ∙ ap (λ (ls : List Line). printing ls c.args.out.now) (lines_whole c.args.read c.in-Ok.is)
+pub returns-in-Ok-clause-written : goal.returns-in-Ok-clause-written
+returns-in-Ok-clause-written c = put_whole (read_of c.args.read) (state c.args.out.now) _ c.in-Ok.is c.put_replay.ensures.written
 
-pub returns-in-Err : goal.returns-in-Err
-returns-in-Err c =
-    line_printed c.args.out.now _ _ c.refusal_line.ensures c.alone.ensures
-    ∙ ap (λ (ls : List Line). printing ls c.args.out.now) (lines_refused c.args.read _ c.in-Err.is)
+pub returns-in-Err-clause-written : goal.returns-in-Err-clause-written
+returns-in-Err-clause-written c = put_refused (read_of c.args.read) (state c.args.out.now) _ _ _ c.in-Err.is c.refusal_line.ensures c.put.ensures.written
