@@ -1,5 +1,5 @@
 -- The words that bytes begin with: how many, the next of them, those that are left after some. Assumes nothing.
-use Rattle.std.proofs.Common.{◌≡◌, refl, sym, ◌∙◌, ap, List, [], ◌∷◌, ◌++◌, ℕ, zero, suc, ◌+◌, ◌-◌, ◌*◌, ◌/◌, ◌<◌, ◌≤◌, length, get_or, take, drop, append_assoc, append-nil, add-one, arith}
+use Rattle.std.proofs.Common.{◌≡◌, refl, sym, ◌∙◌, ap, List, [], ◌∷◌, ℕ, zero, suc, ◌+◌, ◌-◌, ◌*◌, ◌/◌, ◌<◌, ◌≤◌, length, get_or, take, drop, arith}
 use Rattle.std.proofs.Common.{length-drop, Bool, true, false, subst, ltb, drop-drop, get_or-drop, get_or-take}
 use Rattle.std.proofs.Math.Option.{none, some, none-ne-some, some-injective}
 use Rattle.std.specs.List.{IsSplitAt}

@@ -5,10 +5,9 @@ ghost use Rattle.book.specs.Output.{ended, put_lines, printing, lines_of};
 ghost use Rattle.book.specs.Turns.{read_of};
 ghost use Rattle.book.specs.Writing.{state, same_buffer};
 
-use crate::printing;
 use crate::printing::{Lines, Printed};
-use crate::reading;
 use crate::reading::HeldRead;
+use crate::{printing, reading};
 use graph::held::HeldGraph;
 use model::{LENT_ROWS, LENT_STEPS};
 
@@ -29,6 +28,7 @@ fn put_replay(g: &HeldGraph, out: &mut Lines)
 }
 
 // Puts the lines of a book that was read.
+#[tactic(auto, using(crate::proofs::Whole::put_whole))]
 fn put_book(read: HeldRead, out: &mut Lines)
     ensures same_buffer { same_buffer out.new out.old }
     ensures written { state out.new ≡ put_lines (state out.old) (map ended (lines_of (read_of read))) }
@@ -40,6 +40,7 @@ fn put_book(read: HeldRead, out: &mut Lines)
 }
 
 // Replays a book: writes the lines that `replay` prints of it, the whole ones that fit.
+#[tactic(auto, using(crate::proofs::Whole::printed_is))]
 pub fn replayed(bytes: &[u8], out: &mut [u8]) -> Printed
     ensures { (result, out.new) ≡ printing (printed bytes.now) out.old }
 {

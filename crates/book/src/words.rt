@@ -14,6 +14,7 @@ pub(crate) struct Words<'a> {
 }
 
 // The little-endian words that bytes begin with, as many as the list has places.
+#[tactic(auto, using(crate::proofs::Decoding::words_read))]
 pub(crate) fn decode(bytes: &[u8], words: &mut [u32])
     requires { 4 * length words.old ≤ length bytes.now }
     ensures { words.new ≡ words_of (length words.old) bytes.now }

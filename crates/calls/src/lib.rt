@@ -37,6 +37,7 @@ pub fn made_by(words: &[u32]) -> CausalGraph
 
 // Words can say every list of calls, so that what is said of words is about all of them: a claim, as the contract of a function with nothing
 // to do.
+#[tactic(auto, using(crate::proofs::Covering::every_list))]
 pub fn every_list()
     ensures { EveryList }
 {}

@@ -77,6 +77,7 @@ impl<'a> StepReader<'a> {
 }
 
 // What is written as steps is read as the same steps: a claim, as the contract of a function with nothing to do.
+#[tactic(auto, using(crate::proofs::Back::round_trip))]
 pub fn round_trip()
     ensures { RoundTrip }
 {}

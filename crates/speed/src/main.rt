@@ -109,7 +109,10 @@ fn run(script: &Script, rows: &mut [u32; MAX_ROWS], steps: &mut [u32; MAX_STEPS]
     let g = built.graph;
     match script.task {
         Task::Nothing => Told::default(),
-        Task::Replay => repeat(times, || Told::from(walk::replaying::replay(g, rows, steps))),
+        Task::Replay => repeat(
+            times,
+            || Told::from(walk::replaying::replay(g, rows, steps)),
+        ),
         Task::Pushes => repeat(times, || pushes(script)),
         Task::ArchivePoints => repeat(times, || {
             Told::from(versions::archive::archive_points(g, steps))
