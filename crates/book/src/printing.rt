@@ -66,7 +66,7 @@ impl Line {
     }
 }
 
-// A name and a number, as a line. No `Display`: `write!` promises its text only where it answers `Ok`, and nowhere that it does.
+// A name and a number, as a line. The lines here are no `Display`: `write!` promises its text only where it answers `Ok`, and nowhere that it does.
 #[tactic(auto, unfolding(model::specs::Print::ascii))]
 fn one(name: &[u8], n: u64) -> Line
     requires { length name.now ≤ 8 }
