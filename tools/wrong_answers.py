@@ -138,8 +138,8 @@ READER = [
     ("reader::step_at", "takes kind 4 as a step", "kind_four"),
     ("reader::step_at", "the last step is the end", "lib.rt", "let [kind, a, b, ..] = left", "let [kind, a, b, _, ..] = left"),
     ("reader::step_at", "an advance read as a retreat", "lib.rt", "Some(WalkStep::Advance(a, b))", "Some(WalkStep::Retreat(a, b))"),
-    ("reader::step_from", "an apply's end as its run", "lib.rt", "Some(WalkStep::Apply(a))", "Some(WalkStep::Apply(b))"),
-    ("reader::step_from", "an open's end is its first run", "lib.rt", "Some(WalkStep::Open(a, b))", "Some(WalkStep::Open(a, a))"),
+    ("reader::step_at", "an apply's end as its run", "lib.rt", "Some(WalkStep::Apply(a))", "Some(WalkStep::Apply(b))"),
+    ("reader::step_at", "an open's end is its first run", "lib.rt", "Some(WalkStep::Open(a, b))", "Some(WalkStep::Open(a, a))"),
 ]
 
 LENT = [
@@ -149,9 +149,9 @@ LENT = [
 ]
 
 CALLS = [
-    ("calls::lending::push", "gives back the graph that it was given", "lending.rt", "    Changed {\n        graph: h,", "    Changed {\n        graph: g,", 0),
-    ("calls::lending::start_run_at", "gives back the graph that it was given", "lending.rt", "    Changed {\n        graph: h,", "    Changed {\n        graph: g,", 1),
-    ("calls::lending::take_changed_from", "gives back the graph that it was given", "lending.rt", "    Changed {\n        graph: h,", "    Changed {\n        graph: g,", 2),
+    ("calls::Form::push", "lent, gives back the graph that it was given", "forms.rt", "Changed { graph: h, answer }", "Changed { graph: g, answer }", 0),
+    ("calls::Form::start_run_at", "lent, gives back the graph that it was given", "forms.rt", "Changed { graph: h, answer }", "Changed { graph: g, answer }", 1),
+    ("calls::Form::take_changed_from", "lent, gives back the graph that it was given", "forms.rt", "Changed { graph: h, answer }", "Changed { graph: g, answer }", 2),
     ("calls::made_by", "a push's graph is dropped", "push_dropped"),
     ("calls::made_by", "a run start at another event", "another_event"),
     ("calls::made_by", "an after is made as new", "said.rt", "                made.graph\n", "                graph::fresh::new()\n"),
@@ -206,9 +206,9 @@ BOOK = [
     ("reading::read", "pushes counted from 1", "pushes_from_one"),
     ("reading::read", "a book of 65,537 bytes is taken", "reading.rt", "if MAX_BOOK < bytes.len() {", "if MAX_BOOK < bytes.len() - 1 {"),
     ("reading::read", "the header's frontier is not tried, and pushes are made under a header that is refused", "reading.rt", "header.frontier);", "&header.frontier[0..0]);"),
-    ("reading::read", "a refused header is told as push 0", "reading.rt", "answered(made.graph, Err(BookRefusal::Refused(r)))", "answered(made.graph, Err(BookRefusal::PushRefused(r, 0)))"),
+    ("reading::read", "a refused header is told as push 0", "reading.rt", "answered(held, Err(BookRefusal::Refused(r)))", "answered(held, Err(BookRefusal::PushRefused(r, 0)))"),
     ("reading::read", "a refused push does not end it", "reading.rt", "Err(r) => Err(BookRefusal::PushRefused(r, k)),", "Err(_) => Ok(left),"),
-    ("reading::read", "no bytes are refused with 14", "reading.rt", "return answered(graph::fresh::new(), Ok(()));", "return answered(graph::fresh::new(), Err(BookRefusal::Refused(Refusal::BookTooShort)));"),
+    ("reading::read", "no bytes are refused with 14", "reading.rt", "return answered(fresh(), Ok(()));", "return answered(fresh(), Err(BookRefusal::Refused(Refusal::BookTooShort)));"),
     ("reading::read", "a book of one byte is taken for the empty one", "reading.rt", "if bytes.is_empty() {", "if bytes[..bytes.len() / 2].is_empty() {"),
     ("replaying::replayed", "prints no steps", "replaying.rt", "&steps[..words]", "&steps[..0]"),
     ("replaying::replayed", "leaves out a line that just fits", "full_buffer"),

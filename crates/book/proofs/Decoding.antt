@@ -1,12 +1,10 @@
 -- The words that bytes begin with: how many, the next of them, those that are left after some. Assumes nothing.
-use Rattle.std.proofs.Common.{◌≡◌, refl, sym, ◌∙◌, ap, List, [], ◌∷◌, ◌++◌, ℕ, zero, suc, ◌+◌, ◌-◌, ◌*◌, ◌/◌, ◌<◌, ◌≤◌, length, get_or, take, drop, append_assoc, append-nil, add-one, arith}
-use Rattle.std.proofs.Common.{drop-cons, length-drop, Bool, true, false, subst, set, ltb, drop-drop, get_or-drop}
+use Rattle.std.proofs.Common.{◌≡◌, refl, sym, ◌∙◌, ap, List, [], ◌∷◌, ℕ, zero, suc, ◌+◌, ◌-◌, ◌*◌, ◌/◌, ◌<◌, ◌≤◌, length, get_or, take, drop, arith}
+use Rattle.std.proofs.Common.{length-drop, Bool, true, false, subst, ltb, drop-drop, get_or-drop, get_or-take}
 use Rattle.std.proofs.Math.Option.{none, some, none-ne-some, some-injective}
-use Rattle.std.specs.Int.{w32, from_le_bytes}
 use Rattle.std.specs.List.{IsSplitAt}
-use lib.Seq.{set_at}
+use Rattle.byteorder.specs.Endian.{little_number, IsRead}
 use Rattle.model.specs.Book.{word, words_of, take_words}
-use Rattle.std.proofs.lemmas.List.{drop_all}
 use Rattle.model.proofs.BookWords.{Parted, taken, cut_off}
 
 pub words_length : (n : ℕ) (bs : List ℕ) → length (words_of n bs) ≡ n
@@ -32,27 +30,25 @@ take_words_lem (suc m) n bs =
     let e : suc m + n ≡ suc (m + n) = omega arith in
     ap (λ k. take (suc m) (words_of k bs)) e ∙ ap (λ ws. word bs ∷ ws) (take_words_lem m n (drop 4 bs))
 
-words_snoc : (n : ℕ) (bs : List ℕ) → words_of (suc n) bs ≡ words_of n bs ++ word (drop (4 * n) bs) ∷ []
-unfolding words_of
-words_snoc zero bs = refl
-words_snoc (suc n) bs = ap (λ ws. word bs ∷ ws) (words_snoc n (drop 4 bs) ∙ ap (λ cs. words_of n (drop 4 bs) ++ word cs ∷ []) (after_one n bs))
-
--- One more word in its place
-pub decode_next : (bs l : List ℕ) (i : ℕ) → i < length l → set (words_of i bs ++ drop i l) i (word (drop (4 * i) bs)) ≡ words_of (i + 1) bs ++ drop (i + 1) l
-decode_next bs l i h =
-    rw (add-one i, words_snoc i bs, append_assoc, drop-cons l i 0 h)
-    (set_at (words_of i bs) (get_or l i 0) (drop (suc i) l) (word (drop (4 * i) bs)) i (words_length i bs))
-
-pub decode_all : (bs l : List ℕ) (i : ℕ) → length l ≤ i → i ≤ length l → words_of i bs ++ drop i l ≡ words_of (length l) bs
-decode_all bs l i h k =
-    let e : i ≡ length l = omega arith in
-    ap (λ (n : ℕ). words_of n bs ++ drop n l) e ∙ ap (λ (r : List ℕ). words_of (length l) bs ++ r) (drop_all (length l) l (omega arith)) ∙ append-nil (words_of (length l) bs)
-
--- A word by its four bytes
-pub word_bytes : (bs : List ℕ) (at : ℕ) →
-    word (drop at bs) ≡ from_le_bytes w32 (get_or bs at 0 ∷ get_or bs (at + 1) 0 ∷ get_or bs (at + 2) 0 ∷ get_or bs (at + 3) 0 ∷ [])
+-- A word of a part is the word of the whole, where the part has it
+word_part : (bs : List ℕ) (n k : ℕ) → k < n → little_number 4 (drop (4 * k) (take (4 * n) bs)) ≡ word (drop (4 * k) bs)
 unfolding word
-word_bytes bs at = let e : at + 0 ≡ at = omega arith in rw (get_or-drop at bs 0 0, get_or-drop at bs 1 0, get_or-drop at bs 2 0, get_or-drop at bs 3 0, e)
+word_part bs n k h = omega (arith, byte 0 (omega arith), byte 1 (omega arith), byte 2 (omega arith), byte 3 (omega arith))
+  where
+    byte : (j : ℕ) → j < 4 → get_or (drop (4 * k) (take (4 * n) bs)) j 0 ≡ get_or (drop (4 * k) bs) j 0
+    byte j l = get_or-drop (4 * k) (take (4 * n) bs) j 0 ∙ get_or-take (4 * n) bs (4 * k + j) 0 (omega arith) ∙ sym (get_or-drop (4 * k) bs j 0)
+
+each_word : (ws bs : List ℕ) → ((k : ℕ) → k < length ws → get_or ws k 0 ≡ word (drop (4 * k) bs)) → ws ≡ words_of (length ws) bs
+unfolding words_of
+each_word [] bs h = refl
+each_word (w ∷ ws) bs h =
+    ap (λ x. x ∷ ws) (h 0 (omega arith))
+    ∙ ap (λ xs. word bs ∷ xs) (each_word ws (drop 4 bs) (λ k l. h (suc k) (omega arith) ∙ ap word (sym (after_one k bs))))
+
+-- What was read of the bytes
+pub words_read : (bs part ws : List ℕ) (n : ℕ) → length ws ≡ n → part ≡ take (4 * n) bs → IsRead (λ m xs. little_number m xs) 4 part ws → ws ≡ words_of n bs
+words_read bs part ws n len e read =
+    each_word ws bs (λ k l. read k l ∙ ap (λ xs. little_number 4 (drop (4 * k) xs)) e ∙ word_part bs n k (omega arith)) ∙ ap (λ m. words_of m bs) len
 
 -- Words taken from the front, where `ws` are the words of the bytes `bs`
 module _ (bs ws : List ℕ) (d : ws ≡ words_of (length bs / 4) bs) (n : ℕ) where

@@ -10,6 +10,7 @@ use Rattle.model.specs.Reader.{decoded}
 use Rattle.model.specs.Print.{Line as PrintLine, text}
 use Rattle.book.specs.declared.printing.Printed.{Printed}
 use Rattle.book.specs.Output.{ended, step_bytes, word_lines, put_line, put_lines, printing}
+use Rattle.book.specs.Writing.{unused}
 
 -- Where a line goes
 module _ (p : Printed) (out xs : List ℕ) where
@@ -132,18 +133,10 @@ lines_room (x ∷ xs) front rest = go (lt_or_le (length rest) (length x)) (lines
     go (inl h) later = room-none x xs front rest h
     go (inr h) later = room-some x xs front rest later h
 
--- Nothing printed yet
-abbrev pub unused : Printed
-unused = record { used = 0; short = false }
-
 -- Lines put one after the other are what `printing` says
 pub lines_printing : (ls : List PrintLine) (out : List ℕ) → put_lines (unused, out) (map ended ls) ≡ printing ls out
 unfolding printing after text ended
 lines_printing ls out = lines_room (map ended ls) [] out ∙ put_eq (omega arith) refl refl
-
-pub line_printing : (l : PrintLine) (out : List ℕ) → put_line (unused, out) (ended l) ≡ printing (l ∷ []) out
-unfolding put_lines
-line_printing l out = lines_printing (l ∷ []) out
 
 pub put-append : (w : Printed × List ℕ) (xs ys : List (List ℕ)) → put_lines w (xs ++ ys) ≡ put_lines (put_lines w xs) ys
 unfolding put_lines

@@ -88,9 +88,9 @@ by_outcome : ℕ → List ℕ → CausalGraph → Outcome → BookRead
 by_outcome n left g o = elim o [ Ok _ ↦ read_pushes n 0 g left | Err r ↦ book_read g (Err (BookRefused r)) ]
 
 module _ (bs : List ℕ) where
-  pub header_cut : (b : BookRead) (g : CausalGraph) → header bs ≡ none → g ≡ new_of → b ≡ book_read g (Err (BookRefused BookTooShort)) → b ≡ read_header bs
+  pub header_cut : (b : BookRead) → header bs ≡ none → b ≡ book_read new_of (Err (BookRefused BookTooShort)) → b ≡ read_header bs
   unfolding ends_early
-  header_cut b g e n q = q ∙ ap (λ (x : CausalGraph). book_read x (Err (BookRefused BookTooShort))) n ∙ sym (header_read bs ∙ ap headed e)
+  header_cut b e q = q ∙ sym (header_read bs ∙ ap headed e)
 
   module _ (first : ℕ) (frontier : List ℕ) (n : ℕ) (left : List ℕ) (e : header bs ≡ some (first, frontier, n, left))
       (m : Made) (q : m ≡ after_of first frontier) where

@@ -26,7 +26,8 @@ use Rattle.lists.proofs.Pads.{take-over}
 use Rattle.book.specs.declared.printing.Printed.{Printed}
 use Rattle.book.specs.Output.{ended, step_bytes, word_lines, put_line, put_lines, printing, lines_of}
 use Rattle.book.proofs.Numbers.{Smalls, replay_numbers}
-use Rattle.book.proofs.Fits.{unused, lines_printing, line_printing, put-append}
+use Rattle.book.specs.Writing.{unused}
+use Rattle.book.proofs.Fits.{lines_printing, put-append}
 use Rattle.std.specs.Prelude.{Ok, Err, Result}
 use Rattle.model.specs.declared.answers.BookRefusal.{BookRefusal}
 
@@ -118,20 +119,17 @@ module _ (g : CausalGraph) (H : Held g) where
         ap (λ (ss : List Step). map step_line ss ++ last_line w.outcome w.moved ∷ [])
         (said-steps (take (3 * w.count) steps) all.1 (ap said words_are ∙ said-words all.1))
 
-    pub replay_printed : (out out₁ out₂ l : List ℕ) (b p r : Printed) → b ≡ unused →
-        (p, out₁) ≡ put_lines (b, out) (word_lines (take (3 * w.count) steps)) →
-        l ≡ ended (last_line w.outcome w.moved) → (r, out₂) ≡ put_line (p, out₁) l → (r, out₂) ≡ printing (replay_lines g) out
+    pub replay_put : (w₀ w₁ w₂ : Printed × List ℕ) (l : List ℕ) → w₁ ≡ put_lines w₀ (word_lines (take (3 * w.count) steps)) →
+        l ≡ ended (last_line w.outcome w.moved) → w₂ ≡ put_line w₁ l → w₂ ≡ put_lines w₀ (map ended (replay_lines g))
     unfolding put_lines
-    replay_printed out out₁ out₂ l b p r eb ep el er =
+    replay_put w₀ w₁ w₂ l ep el er =
         let last = last_line w.outcome w.moved in
-        let stepped : (p, out₁) ≡ put_lines (unused, out) (map ended (map step_line all.1)) =
-        ep ∙ ap (λ (x : Printed). put_lines (x, out) (word_lines (take (3 * w.count) steps))) eb ∙
-        ap (λ (ws : List ℕ). put_lines (unused, out) (word_lines ws)) words_are ∙
-        ap (put_lines (unused, out)) (words_lines all.1) in
-        er ∙ ap (put_line (p, out₁)) el ∙ ap (λ (x : Printed × List ℕ). put_line x (ended last)) stepped ∙
-        sym (put-append (unused, out) (map ended (map step_line all.1)) (ended last ∷ [])) ∙
-        ap (put_lines (unused, out)) (sym (map-append (map step_line all.1) (last ∷ []))) ∙
-        lines_printing (map step_line all.1 ++ last ∷ []) out ∙ ap (λ (ls : List PrintLine). printing ls out) (sym lines_are)
+        let stepped : w₁ ≡ put_lines w₀ (map ended (map step_line all.1)) =
+        ep ∙ ap (λ (ws : List ℕ). put_lines w₀ (word_lines ws)) words_are ∙ ap (put_lines w₀) (words_lines all.1) in
+        er ∙ ap (put_line w₁) el ∙ ap (λ (x : Printed × List ℕ). put_line x (ended last)) stepped ∙
+        sym (put-append w₀ (map ended (map step_line all.1)) (ended last ∷ [])) ∙
+        ap (put_lines w₀) (sym (map-append (map step_line all.1) (last ∷ []))) ∙
+        ap (λ (ls : List PrintLine). put_lines w₀ (map ended ls)) (sym lines_are)
 
 -- A replay's lines: at most 4,096 steps of small numbers, and a last line
 pub replay_text_lem : (g : CausalGraph) → Held g →
@@ -144,10 +142,6 @@ replay_text_lem g H =
       (lines_are g H r.0 r.1 r.2 refl, few g H, replay_numbers (view g) 512 (length steps₀ / 3) rows₀ H.limits.runs),
     )
 
--- A single line
-pub line_printed : (out l : List ℕ) (x : PrintLine) {w : Printed × List ℕ} → l ≡ ended x → w ≡ put_line (unused, out) l → w ≡ printing (x ∷ []) out
-line_printed out l x e p = p ∙ ap (put_line (unused, out)) e ∙ line_printing x out
-
 -- The lines of a book by its answer
 unfoldable pub by_answer : CausalGraph → Result (Unit {0}) BookRefusal → List PrintLine
 by_answer g a = elim a [
@@ -155,15 +149,21 @@ by_answer g a = elim a [
   | Err r ↦ refusal_line r ∷ []
 ]
 
-module _ (b : BookRead) where
-  pub lines_whole : b.answer ≡ Ok tt → replay_lines b.graph ≡ lines_of b
+-- put one after the other
+module _ (b : BookRead) (w₀ w₁ : Printed × List ℕ) where
+  pub put_whole : b.answer ≡ Ok tt → w₁ ≡ put_lines w₀ (map ended (replay_lines b.graph)) → w₁ ≡ put_lines w₀ (map ended (lines_of b))
   unfolding lines_of by_answer
-  lines_whole e = sym (ap (by_answer b.graph) e)
+  put_whole e q = q ∙ ap (λ (a : Result (Unit {0}) BookRefusal). put_lines w₀ (map ended (by_answer b.graph a))) (sym e)
 
-  pub lines_refused : (r : BookRefusal) → b.answer ≡ Err r → refusal_line r ∷ [] ≡ lines_of b
-  unfolding lines_of by_answer
-  lines_refused r e = sym (ap (by_answer b.graph) e)
+  pub put_refused : (r : BookRefusal) (l : List ℕ) → b.answer ≡ Err r → l ≡ ended (refusal_line r) → w₁ ≡ put_line w₀ l →
+      w₁ ≡ put_lines w₀ (map ended (lines_of b))
+  unfolding lines_of by_answer put_lines
+  put_refused r l e el q =
+      q ∙ ap (put_line w₀) el ∙ ap (λ (a : Result (Unit {0}) BookRefusal). put_lines w₀ (map ended (by_answer b.graph a))) (sym e)
 
-pub printed-is : (bytes : List ℕ) → lines_of (book_of bytes) ≡ printed bytes
+-- and what they leave from the start of a buffer
+pub printed_is : (bytes out : List ℕ) (b : BookRead) (w : Printed × List ℕ) → b ≡ book_of bytes → w ≡ put_lines (unused, out) (map ended (lines_of b)) →
+    w ≡ printing (printed bytes) out
 unfolding lines_of printed
-printed-is bytes = refl
+printed_is bytes out b w e q =
+    q ∙ lines_printing (lines_of b) out ∙ ap (λ (x : BookRead). printing (lines_of x) out) e

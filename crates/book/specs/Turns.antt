@@ -1,9 +1,15 @@
--- What one push of a book does to the reading. Assumes nothing.
+-- What was read of a book, and what one push of it does to the reading. Assumes nothing.
 use Rattle.std.specs.Prelude.{◌≡◌, List, ℕ, suc, Result, Ok, Err}
 use Rattle.model.specs.declared.record.CausalGraph.{CausalGraph}
 use Rattle.model.specs.declared.answers.BookRefusal.{BookRefusal}
+use Rattle.model.specs.declared.answers.BookRead.{BookRead}
 use Rattle.model.specs.Book.{book_read, read_pushes}
 use Rattle.book.specs.declared.words.Words.{Words}
+use Rattle.book.specs.declared.reading.HeldRead.{HeldRead}
+
+-- what was read, as the public call answers it
+abbrev pub read_of : HeldRead → BookRead
+read_of r = record { graph = r.held.graph; answer = r.answer }
 
 -- push k was taken, which leaves graph h, and the book goes on: `n` pushes more are then as before it `suc n`; or it was refused, which ends
 -- the book, however many pushes follow

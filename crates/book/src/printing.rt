@@ -1,11 +1,12 @@
 // What `replay` prints, line by line, into a lent buffer: the whole lines that fit.
-ghost use Rattle.std.specs.Prelude.{◌≡◌, false, not, ◌&&◌, ℕ, List, [], ◌++◌, ◌+◌, ◌≤◌, length, take, leb};
+ghost use Rattle.std.specs.Prelude.{◌≡◌, not, ◌&&◌, ℕ, List, [], ◌++◌, ◌+◌, ◌≤◌, length, take, leb};
 ghost use Rattle.model.specs.Refusals;
 ghost use Rattle.model.specs.Print;
 ghost use Rattle.model.specs.Print.{ascii, last_line, refused_line, push_refused_line, refusal_line};
 ghost use Rattle.model.specs.Reader.{decoded};
 ghost use Rattle.book.specs.Output;
 ghost use Rattle.book.specs.Output.{max_line, step_bytes, word_lines, put_line, put_lines};
+ghost use Rattle.book.specs.Writing.{unused, state, same_buffer};
 
 use itoa::Buffer;
 use model::{BookRefusal, EventRunIndex, Refusal, WalkStep};
@@ -65,7 +66,7 @@ impl Line {
     }
 }
 
-// A name and a number, as a line.
+// A name and a number, as a line. The lines here are no `Display`: `write!` promises its text only where it answers `Ok`, and nowhere that it does.
 #[tactic(auto, unfolding(model::specs::Print::ascii))]
 fn one(name: &[u8], n: u64) -> Line
     requires { length name.now ≤ 8 }
@@ -138,53 +139,69 @@ pub(crate) fn last_line(outcome: Result<(), Refusal>, moved: u64) -> Line
     }
 }
 
-// How many bytes of a lent buffer are used, and whether a line did not fit.
+// How many bytes of a lent buffer are used, and whether a line did not fit: a flag and no `Err`, since `used` is told either way.
 #[derive(Clone, Copy)]
 pub struct Printed {
     pub used: usize,
     pub short: bool,
 }
 
-impl Printed {
-    // Nothing printed yet.
-    pub(crate) fn new() -> Self
-        ensures { result ≡ record { used = 0; short = false } }
+// Lines put one after the other into a lent buffer.
+#[derive(Drop)]
+pub(crate) struct Lines<'a> {
+    out: &'a mut [u8],
+    pub(crate) printed: Printed,
+}
+
+impl<'a> Lines<'a> {
+    // No line yet.
+    pub(crate) fn over(out: &'a mut [u8]) -> Lines<'a>
+        ensures over { result.out.ghost_name ≡ out.entry.ghost_name }
+        ensures begun { state result ≡ (unused, out.old) }
     {
-        Printed {
-            used: 0,
-            short: false,
+        Lines {
+            out,
+            printed: Printed {
+                used: 0,
+                short: false,
+            },
         }
     }
 
-    // Whether `n` bytes more fit into `room`, and all before them did.
-    fn fits(&self, n: usize, room: usize) -> bool
-        ensures { result ≡ (not self.now.short && leb (self.now.used + n) room) }
+    // Whether `n` bytes more fit, and all before them did.
+    fn fits(&self, n: usize) -> bool
+        ensures { result ≡ (not self.now.printed.short && leb (self.now.printed.used + n) (length self.now.out.now)) }
     {
-        !self.short && n <= room && self.used <= room - n
+        let room = self.out.len();
+        let printed = self.printed;
+        !printed.short && n <= room && printed.used <= room - n
     }
 
-    // Puts a line after the used bytes, if it fits and all before it did.
+    // Puts a line after the others, if it fits and all before it did.
     #[tactic(auto, unfolding(crate::specs::Output::put_line))]
-    pub(crate) fn put(&mut self, out: &mut [u8], line: &Line)
-        ensures { (self.new, out.new) ≡ put_line (self.old, out.old) line.now }
+    pub(crate) fn put(&mut self, line: &Line)
+        ensures same_buffer { same_buffer self.new self.old }
+        ensures written { state self.new ≡ put_line (state self.old) line.now }
     {
         let text = &line.bytes[..line.count];
-        if !self.fits(text.len(), out.len()) {
-            self.short = true;
+        if !self.fits(text.len()) {
+            self.printed.short = true;
             return;
         }
-        let at = self.used;
-        self.used += text.len();
-        out[at..self.used].copy_from_slice(text);
+        let at = self.printed.used;
+        let end = at + text.len();
+        self.out[at..end].copy_from_slice(text);
+        self.printed.used = end;
     }
 
     // Puts a line for each step of a list of words.
-    pub(crate) fn put_steps(&mut self, out: &mut [u8], steps: &[u32])
-        ensures { (self.new, out.new) ≡ put_lines (self.old, out.old) (word_lines steps.now) }
+    pub(crate) fn put_steps(&mut self, steps: &[u32])
+        ensures same_buffer { same_buffer self.new self.old }
+        ensures written { state self.new ≡ put_lines (state self.old) (word_lines steps.now) }
     {
         for step in steps.chunks_exact(3) {
             let line = step_line(step[0], EventRunIndex(step[1]), EventRunIndex(step[2]));
-            self.put(out, &line);
+            self.put(&line);
         }
     }
 }

@@ -3,6 +3,8 @@ ghost use Rattle.std.specs.Prelude.{◌≡◌, [], ◌∷◌, ◌/◌, ◌*◌, 
 ghost use Rattle.std.proofs.Math.Option.{none, some};
 ghost use Rattle.model.specs.Book.{words_of, take_words, take_counted};
 
+use byteorder::{ByteOrder, LittleEndian};
+
 // What is left of a book: its bytes, and the whole words that they begin with.
 #[derive(Clone, Copy)]
 pub(crate) struct Words<'a> {
@@ -12,14 +14,12 @@ pub(crate) struct Words<'a> {
 }
 
 // The little-endian words that bytes begin with, as many as the list has places.
+#[tactic(auto, using(crate::proofs::Decoding::words_read))]
 pub(crate) fn decode(bytes: &[u8], words: &mut [u32])
     requires { 4 * length words.old ≤ length bytes.now }
     ensures { words.new ≡ words_of (length words.old) bytes.now }
 {
-    for (i, word) in words.iter_mut().enumerate() {
-        let at = 4 * i;
-        *word = u32::from_le_bytes([bytes[at], bytes[at + 1], bytes[at + 2], bytes[at + 3]]);
-    }
+    LittleEndian::read_u32_into(&bytes[..4 * words.len()], words);
 }
 
 impl<'a> Words<'a> {

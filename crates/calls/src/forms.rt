@@ -3,16 +3,16 @@ ghost use Rattle.std.specs.Prelude.{◌≡◌};
 ghost use Rattle.model.specs.Push.{push_of};
 ghost use Rattle.model.specs.Start.{start_run_at_of, take_changed_from_of};
 
-use crate::lending;
 use model::{CausalGraph, Changed, EventIndex, EventRunIndex};
 
-// A call takes the graph and gives one back, or changes one that it is lent.
+// A call takes the graph and gives one back, or changes one that it is lent: a copy, here, so that both forms answer by value.
 #[derive(Clone, Copy)]
 pub enum Form {
     ByValue,
     Lent,
 }
 
+// Three methods, alike but for the call: each call has parameters, an answer and an equation of its own, which a trait would say again.
 impl Form {
     // Pushes events.
     pub fn push(
@@ -25,7 +25,11 @@ impl Form {
     {
         match self {
             Form::ByValue => graph::pushing::push(g, parents, len),
-            Form::Lent => lending::push(g, parents, len),
+            Form::Lent => {
+                let mut h = g;
+                let answer = lent::push(&mut h, parents, len);
+                Changed { graph: h, answer }
+            }
         }
     }
 
@@ -35,7 +39,11 @@ impl Form {
     {
         match self {
             Form::ByValue => graph::starting::start_run_at(g, at),
-            Form::Lent => lending::start_run_at(g, at),
+            Form::Lent => {
+                let mut h = g;
+                let answer = lent::start_run_at(&mut h, at);
+                Changed { graph: h, answer }
+            }
         }
     }
 
@@ -45,7 +53,11 @@ impl Form {
     {
         match self {
             Form::ByValue => graph::starting::take_changed_from(g),
-            Form::Lent => lending::take_changed_from(g),
+            Form::Lent => {
+                let mut h = g;
+                let answer = lent::take_changed_from(&mut h);
+                Changed { graph: h, answer }
+            }
         }
     }
 }

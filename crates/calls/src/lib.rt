@@ -3,7 +3,6 @@
 // A list of calls given as words, made by the public calls: a fresh start, then pushes, run starts and takes, each by value or lent.
 // specs/ says which calls the words are.
 mod forms;
-pub mod lending;
 mod said;
 
 ghost use Rattle.std.specs.Prelude.{◌≡◌};
@@ -38,6 +37,7 @@ pub fn made_by(words: &[u32]) -> CausalGraph
 
 // Words can say every list of calls, so that what is said of words is about all of them: a claim, as the contract of a function with nothing
 // to do.
+#[tactic(auto, using(crate::proofs::Covering::every_list))]
 pub fn every_list()
     ensures { EveryList }
 {}

@@ -56,12 +56,18 @@ range_read : (g : Graph) (a b known first : ℕ) (rows steps : List ℕ) → Rea
 unfolding walk_range
 range_read g a b known first rows steps = go (rows_too_long (range_of g a b) rows)
   where
+    room : ℕ
+    room = length steps / 3
+
+    all : List Step
+    all = steps_of (range_of g a b) a known first
+
     go : (t : Bool) → ReadsBack (elim t as (λ _. WalkResult) [
       | true ↦ unwalked RowsTooLong (rows_into (range_of g a b) rows) steps
-      | false ↦ wrote g (list_outcome (length steps / 3) (steps_of (range_of g a b) a known first)) (take (length steps / 3) (steps_of (range_of g a b) a known first)) (rows_into (range_of g a b) rows) steps
+      | false ↦ wrote g (list_outcome room all) (take room all) (rows_into (range_of g a b) rows) steps
     ])
     go true = unwalked-read RowsTooLong (rows_into (range_of g a b) rows) steps
-    go false = wrote-read g (list_outcome (length steps / 3) (steps_of (range_of g a b) a known first)) (take (length steps / 3) (steps_of (range_of g a b) a known first)) (rows_into (range_of g a b) rows) steps
+    go false = wrote-read g (list_outcome room all) (take room all) (rows_into (range_of g a b) rows) steps
 
 walks_read : (g : CausalGraph) (a b known first : ℕ) (rows steps : List ℕ) → ReadsBack (walk_of g a b known first rows steps)
 unfolding walk_of

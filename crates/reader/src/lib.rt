@@ -36,7 +36,8 @@ fn answer(step: Result<Option<WalkStep>, Refusal>, at: usize) -> StepAt
     StepAt { step, at }
 }
 
-// Three words decoded by their kind; at the end and at an unknown kind the place stays.
+// One `next` of a reader at a place, for callers that hold no reader: three words decoded by their kind; at the end and at an unknown kind
+// the place stays.
 pub fn step_at(words: &[u32], at: usize) -> StepAt
     ensures { (result.step, result.at) ≡ next_of words.now at }
 {
@@ -75,19 +76,8 @@ impl<'a> StepReader<'a> {
     }
 }
 
-// One `next` of a reader at a place, for callers that hold no reader.
-pub fn step_from(words: &[u32], at: usize) -> StepAt
-    ensures { (result.step, result.at) ≡ next_of words.now at }
-{
-    let mut reader = StepReader { words, at };
-    let step = reader.next();
-    StepAt {
-        step,
-        at: reader.at,
-    }
-}
-
 // What is written as steps is read as the same steps: a claim, as the contract of a function with nothing to do.
+#[tactic(auto, using(crate::proofs::Back::round_trip))]
 pub fn round_trip()
     ensures { RoundTrip }
 {}

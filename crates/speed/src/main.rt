@@ -6,9 +6,12 @@
 // ranges' words, and these. At most 16,384 words. A failed read or write ends it with an error.
 mod script;
 
-use model::{CausalGraph, MAX_RUNS, MAX_STARTS, Walked, Written};
-use script::{BYTES, Script, Task, WORDS};
+use byteorder::{ByteOrder, LittleEndian};
+use model::{CausalGraph, Walked, Written};
+use script::{Script, Task, WORDS};
 use std::{fmt, io};
+use stdio::BUFFER;
+use walk::{MAX_ROWS, MAX_STEPS};
 
 // The graph that the pushes give, the words that follow them, and whether the last push was refused.
 #[derive(Clone, Copy)]
@@ -35,10 +38,27 @@ impl fmt::Display for Told {
     }
 }
 
-// As many words as any graph's replay has.
-const MAX_ROWS: usize = MAX_RUNS * MAX_STARTS / 2;
+// What is printed of a replay.
+impl From<Walked> for Told {
+    fn from(w: Walked) -> Told {
+        Told {
+            count: w.count,
+            moved: w.moved,
+            refused: w.outcome.is_err(),
+        }
+    }
+}
 
-const MAX_STEPS: usize = 524288;
+// What is printed of a written list.
+impl From<Written> for Told {
+    fn from(w: Written) -> Told {
+        Told {
+            count: w.count as u64,
+            moved: 0,
+            refused: w.outcome.is_err(),
+        }
+    }
+}
 
 // Makes the pushes, from `new`, as far as their words are there.
 fn build<'a>(script: &Script<'a>) -> Built<'a> {
@@ -71,24 +91,6 @@ fn pushes(script: &Script) -> Told {
     }
 }
 
-// What is printed of a replay.
-fn walked(w: Walked) -> Told {
-    Told {
-        count: w.count,
-        moved: w.moved,
-        refused: w.outcome.is_err(),
-    }
-}
-
-// What is printed of a written list.
-fn listed(w: Written) -> Told {
-    Told {
-        count: w.count as u64,
-        moved: 0,
-        refused: w.outcome.is_err(),
-    }
-}
-
 // Does one thing so many times; what is printed of the last.
 fn repeat<F: FnMut() -> Told>(times: u32, mut once: F) -> Told
     requires { F.IsAlwaysCallable once }
@@ -107,14 +109,17 @@ fn run(script: &Script, rows: &mut [u32; MAX_ROWS], steps: &mut [u32; MAX_STEPS]
     let g = built.graph;
     match script.task {
         Task::Nothing => Told::default(),
-        Task::Replay => repeat(times, || walked(walk::replaying::replay(g, rows, steps))),
+        Task::Replay => repeat(
+            times,
+            || Told::from(walk::replaying::replay(g, rows, steps)),
+        ),
         Task::Pushes => repeat(times, || pushes(script)),
         Task::ArchivePoints => repeat(times, || {
-            listed(versions::archive::archive_points(g, steps))
+            Told::from(versions::archive::archive_points(g, steps))
         }),
         Task::WantedParents => match script::counted(built.rest) {
             Some((_, ranges, _)) => repeat(times, || {
-                listed(versions::wanted::wanted_parents(g, ranges, steps))
+                Told::from(versions::wanted::wanted_parents(g, ranges, steps))
             }),
             None => Told::default(),
         },
@@ -122,12 +127,12 @@ fn run(script: &Script, rows: &mut [u32; MAX_ROWS], steps: &mut [u32; MAX_STEPS]
 }
 
 fn main(rt: HostRuntime) -> io::Result<()> {
-    let mut bytes = [0; BYTES];
+    let mut bytes = [0; BUFFER];
     let mut words = [0; WORDS];
     let mut rows = [0; MAX_ROWS];
     let mut steps = [0; MAX_STEPS];
     stdio::fill(&mut rt.stdin(), &mut bytes).gave()?;
-    script::decode(&bytes, &mut words);
+    LittleEndian::read_u32_into(&bytes, &mut words);
     let told = run(&Script::new(&words), &mut rows, &mut steps);
     println!(rt; "{told}")
 }

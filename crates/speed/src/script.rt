@@ -1,9 +1,8 @@
 // The words on standard input, 0 after the last.
+use stdio::BUFFER;
 
-// As many bytes as the buffer has, and their words.
-pub const BYTES: usize = 65536;
-
-pub const WORDS: usize = BYTES / 4;
+// As many words as the buffer has.
+pub const WORDS: usize = BUFFER / 4;
 
 // What is done as often as the script says.
 #[derive(Clone, Copy)]
@@ -46,14 +45,6 @@ impl<'a> Script<'a> {
             pushes: words[2],
             rest: &words[3..],
         }
-    }
-}
-
-// The little-endian words of the bytes.
-pub fn decode(bytes: &[u8; BYTES], words: &mut [u32; WORDS]) {
-    let (quads, _) = bytes.as_chunks();
-    for (word, quad) in words.iter_mut().zip(quads) {
-        *word = u32::from_le_bytes(*quad);
     }
 }
 

@@ -11,6 +11,9 @@ pub mod reading;
 pub use reading::Reading;
 use std::io::Read;
 
+// The size of a program's buffer, in bytes: a multiple of four, so that a word never stands half in one filling of it and half in the next.
+pub const BUFFER: usize = 65536;
+
 // Reads until the buffer is full, the input ends or a read fails. After a failed read the reading says why. Of an input whose bytes are
 // known: those that came are its next ones, and it ended only where no byte is left.
 pub fn fill<R: Read>(input: &mut R, buf: &mut [u8]) -> Reading

@@ -64,16 +64,16 @@ impl Reading {
     {
         match got {
             Ok(0) => Reading {
-                count: self.count,
                 state: State::Ended,
+                ..self
             },
             Ok(n) => Reading {
                 count: self.count + n,
-                state: self.state,
+                ..self
             },
             Err(e) => Reading {
-                count: self.count,
                 state: State::Failed(e),
+                ..self
             },
         }
     }

@@ -1,23 +1,20 @@
-// The script's words, little-endian, from standard input by way of a buffer, whose length is a multiple of four: a word never
-// stands half in one filling of it and half in the next.
+// The script's words, little-endian, from standard input by way of a buffer, in which each word stands whole.
 ghost use Rattle.std.specs.Prelude.{◌≤◌};
-ghost use Rattle.trace.specs.declared.input.TheConstants.{BYTES};
+ghost use Rattle.stdio.specs.declared.TheConstants.{BUFFER};
 
 use crate::Stop;
 use std::io::Stdin;
-
-// The buffer's size.
-const BYTES: usize = 65536;
+use stdio::BUFFER;
 
 // Standard input and the buffer, whose bytes from `at` to `end` are still to be read.
 #[derive(Drop)]
 pub struct Source {
     stdin: Stdin,
-    bytes: [u8; BYTES],
+    bytes: [u8; BUFFER],
     at: usize,
     end: usize,
     ghost rising: { at ≤ end },
-    ghost within: { end ≤ BYTES },
+    ghost within: { end ≤ BUFFER },
 }
 
 impl Source {
@@ -25,7 +22,7 @@ impl Source {
     pub fn new(stdin: Stdin) -> Source {
         Source {
             stdin,
-            bytes: [0; BYTES],
+            bytes: [0; BUFFER],
             at: 0,
             end: 0,
         }

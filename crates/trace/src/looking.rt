@@ -93,10 +93,10 @@ pub fn reader(list: &[u32], out: &mut Out) -> io::Result<()> {
     out.write_all(b"reader")?;
     let mut at = 0;
     for _ in 0..list.len() / 3 + 1 {
-        let read = reader::step_from(list, at);
+        let read = reader::step_at(list, at);
         at = read.at;
         match read.step {
-            Ok(Some(s)) => step(s, out)?,
+            Ok(Some(step)) => put_step(step, out)?,
             Ok(None) => return out.write_all(b" end"),
             Err(r) => {
                 out.write_all(b" refused")?;
@@ -107,14 +107,21 @@ pub fn reader(list: &[u32], out: &mut Out) -> io::Result<()> {
     Ok(())
 }
 
-// A step: its kind's number, its first run, and the end of its runs.
-fn step(s: WalkStep, out: &mut Out) -> io::Result<()> {
-    let (kind, first, end) = match s {
+// A step's kind by its number, its first run, and the end of its runs.
+fn step_words(step: WalkStep) -> [u64; 3] {
+    let (kind, first, end) = match step {
         WalkStep::Retreat(a, b) => (0, a.0, u64::from(b.0)),
         WalkStep::Advance(a, b) => (1, a.0, u64::from(b.0)),
         WalkStep::Apply(r) => (2, r.0, u64::from(r.0) + 1),
         WalkStep::Open(a, b) => (3, a.0, u64::from(b.0)),
     };
-    out.words(&[kind, first])?;
-    out.number(end)
+    [kind, u64::from(first), end]
+}
+
+// Puts a step.
+fn put_step(step: WalkStep, out: &mut Out) -> io::Result<()> {
+    for word in step_words(step) {
+        out.number(word)?;
+    }
+    Ok(())
 }

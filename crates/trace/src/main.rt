@@ -18,7 +18,8 @@ use script::Words;
 use std::io;
 use std::io::Write;
 use std::process::ExitCode;
-use writing::{BLANK, Lists, MAX_ROWS, MAX_STEPS};
+use walk::{MAX_ROWS, MAX_STEPS};
+use writing::{BLANK, Lists};
 
 // Why no further call is made.
 #[derive(Clone, Copy)]

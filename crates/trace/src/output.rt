@@ -1,20 +1,18 @@
 // Standard output, by way of a buffer.
 ghost use Rattle.std.specs.Prelude.{◌≡◌, ◌≤◌, OnOk};
-ghost use Rattle.trace.specs.declared.output.TheConstants.{BYTES};
+ghost use Rattle.stdio.specs.declared.TheConstants.{BUFFER};
 
 use std::io;
 use std::io::{Stdout, Write};
-
-// The buffer's size.
-const BYTES: usize = 65536;
+use stdio::BUFFER;
 
 // Standard output and the buffer, whose first `used` bytes are still to be written.
 #[derive(Drop)]
 pub struct Out {
     stdout: Stdout,
-    bytes: [u8; BYTES],
+    bytes: [u8; BUFFER],
     used: usize,
-    ghost within: { used ≤ BYTES },
+    ghost within: { used ≤ BUFFER },
 }
 
 impl Write for Out {
@@ -26,7 +24,7 @@ impl Write for Out {
     // Puts bytes into the buffer. Where it is full, it is written first.
     fn write_all(&mut self, text: &[u8]) -> io::Result<()> {
         for byte in text {
-            if self.used == BYTES {
+            if self.used == BUFFER {
                 self.empty()?;
             }
             self.bytes[self.used] = *byte;
@@ -45,7 +43,7 @@ impl Out {
     pub fn new(stdout: Stdout) -> Out {
         Out {
             stdout,
-            bytes: [0; BYTES],
+            bytes: [0; BUFFER],
             used: 0,
         }
     }

@@ -1,8 +1,9 @@
 // The script's calls: an operation's number, its arguments, and the words that follow them.
 use crate::Stop;
 use crate::input::Source;
-use crate::writing::{MAX_ROWS, MAX_STEPS, Room};
+use crate::writing::Room;
 use model::{CausalGraph, EventIndex, EventRunIndex};
+use walk::{MAX_ROWS, MAX_STEPS};
 
 // The most words that may follow the arguments.
 pub const MAX_LIST: usize = 65536;

@@ -4,17 +4,13 @@ ghost use Rattle.std.specs.Prelude.{◌≤◌};
 
 use crate::output::Out;
 use crate::{Stop, answers};
-use model::{CausalGraph, EventRunIndex, MAX_RUNS, MAX_STARTS, Walked, Written};
+use model::{CausalGraph, EventRunIndex, Walked, Written};
 use std::io;
 use std::io::Write;
+use walk::{MAX_ROWS, MAX_STEPS};
 
 // What stands where nothing is written.
 pub const BLANK: u32 = u32::MAX;
-
-// The rows of any range, a word more for each run, and the room of the steps or of another list that a call writes.
-pub const MAX_ROWS: usize = MAX_RUNS * MAX_STARTS / 2;
-
-pub const MAX_STEPS: usize = 524288;
 
 // The lists that the program lends to calls.
 #[derive(Drop)]

@@ -8,3 +8,11 @@ mod ready;
 pub mod replaying;
 mod visiting;
 pub mod walking;
+
+use model::{MAX_RUNS, MAX_STARTS};
+
+// The row words of any range: a word more for each run.
+pub const MAX_ROWS: usize = MAX_RUNS * MAX_STARTS / 2;
+
+// The words of a step list, or of another list, that a program lends.
+pub const MAX_STEPS: usize = 524288;

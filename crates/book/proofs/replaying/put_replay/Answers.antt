@@ -1,7 +1,7 @@
--- `book::replaying::replay_lines` meets its contract: the steps that the replay wrote are those that are put, and the last line after them. Assumes nothing.
+-- `book::replaying::put_replay` meets its contract: the steps that the replay wrote are those that are put, and the last line after them. Assumes nothing.
 use Rattle.std.proofs.Common.{rules}
-use Rattle.book.proofs.Whole.{count_fits, replay_printed}
-use Rattle.book.proofs.replaying.replay_lines.Goals as goal
+use Rattle.book.proofs.Whole.{count_fits, replay_put}
+use Rattle.book.proofs.replaying.put_replay.Goals as goal
 
 pub overflow_mul-words : goal.overflow_mul-words
 overflow_mul-words c = let h = count_fits c.args.g.now.graph c.args.g.now.held _ _ _ c.replay_held-walked.ensures in search rules
@@ -12,7 +12,6 @@ slice_bounds-steps-end c = let h = count_fits c.args.g.now.graph c.args.g.now.he
 pub slice_bounds-put_steps-end : goal.slice_bounds-put_steps-end
 slice_bounds-put_steps-end c = let h = count_fits c.args.g.now.graph c.args.g.now.held _ _ _ c.replay_held-walked.ensures in search rules
 
-pub returns : goal.returns
-returns c =
-    replay_printed c.args.g.now.graph c.args.g.now.held _ _ _ c.replay_held-walked.ensures
-    c.args.out.now _ _ _ _ _ _ c.new-printed.ensures c.put_steps.ensures c.last_line.ensures c.put.ensures
+pub returns-clause-written : goal.returns-clause-written
+returns-clause-written c =
+    replay_put c.args.g.now.graph c.args.g.now.held _ _ _ c.replay_held-walked.ensures _ _ _ _ c.put_steps.ensures.written c.last_line.ensures c.put.ensures.written
