@@ -101,6 +101,7 @@ pub record SplitFits (x : Parts) (run : ℕ) : Type 0 where
 
 pub record AfterFits (x : Parts) (p : ℕ) : Type 0 where
   pub long : Long x
+  pub rises : rising (take (x.counts.runs + 1) x.starts) ≡ true
   pub fits : needs_in x.starts x.counts.runs p ≡ true → SplitFits x (last_at_most x.starts p x.counts.runs)
 
 -- a record with other such arrays and counts, its marks left as they were

@@ -9,18 +9,36 @@ use crate::held::HeldGraph;
 use crate::records::{Records, unwritten};
 use model::{CausalGraph, EventRunIndex, Refusal, Written};
 
-// 01's kinds of a range.
-const LINEAR: u32 = 0;
+// The kinds of a range, by the words that stand for them in a list.
+#[derive(Clone, Copy, Debug, PartialEq, Eq)]
+pub enum RangeKind {
+    Linear = 0,
+    Concurrent = 1,
+}
 
-const CONCURRENT: u32 = 1;
+// Any word other than 0 stands for Concurrent.
+impl From<u32> for RangeKind {
+    ghost use Rattle.std.specs.Prelude.{◌≡◌};
+    ghost use Rattle.graph.specs.Kinds.{kind_of};
+
+    ghost from_gives = { λ word kind. kind ≡ kind_of word };
+
+    #[tactic(auto, unfolding(crate::specs::Kinds::kind_of))]
+    fn from(word: u32) -> RangeKind {
+        match word {
+            0 => RangeKind::Linear,
+            _ => RangeKind::Concurrent,
+        }
+    }
+}
 
 // Writes the Linear from `first` to `end`, if it has a run.
 fn put_linear(out: &mut Records, first: EventRunIndex, end: EventRunIndex)
     ensures same_list { same_list out.new out.old }
     ensures written { state out.new ≡ put_ranges (state out.old) (pending first.0 end.0) }
 {
-    if first.0 < end.0 {
-        out.put([LINEAR, first.0, end.0]);
+    if first < end {
+        out.put([RangeKind::Linear as u32, first.0, end.0]);
     }
 }
 
@@ -39,7 +57,7 @@ fn cut_on(
         return first;
     }
     put_linear(out, first, a);
-    out.put([CONCURRENT, a.0, b.0]);
+    out.put([RangeKind::Concurrent as u32, a.0, b.0]);
     b
 }
 

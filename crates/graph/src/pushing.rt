@@ -29,10 +29,7 @@ pub(crate) struct Own {
 fn over(limit: usize, used: usize, more: usize) -> bool
     ensures { result ≡ ltb limit (used + more) }
 {
-    if limit < used {
-        return true;
-    }
-    limit - used < more
+    used.checked_add(more).is_none_or(|sum| limit < sum)
 }
 
 // Whether there are runs and the parents are just the last event.
@@ -109,7 +106,7 @@ fn grow_last(g: &HeldGraph, n: u32) -> CausalGraph
     let mut h = g.graph;
     h.starts[runs] = end;
     h.frontier[tips - 1] = end - 1;
-    h.changed_from = EventRunIndex((runs as u32 - 1).min(was.0));
+    h.changed_from = EventRunIndex(runs as u32 - 1).min(was);
     h
 }
 
@@ -128,12 +125,11 @@ fn add_own(g: &HeldGraph, items: &mut [u32; MAX_ENTRIES], t: Own, p: EventIndex)
         EventIndex(g.graph.starts[place]),
         EventIndex(g.graph.starts[next]),
     );
-    let was = t.seen;
     let n = t.count as usize;
     items[n] = run.0;
     Own {
         count: t.count + 1,
-        seen: EventIndex(was.0.max(after.0)),
+        seen: t.seen.max(after),
     }
 }
 
@@ -164,7 +160,7 @@ fn lower(from: EventRunIndex, lost: bool, run: EventRunIndex) -> EventRunIndex
     ensures { result.0 ≡ cond lost (min from.0 run.0) from.0 }
 {
     if lost {
-        return EventRunIndex(from.0.min(run.0));
+        return from.min(run);
     }
     from
 }
@@ -177,7 +173,7 @@ fn lower_all(g: &HeldGraph, seen: EventIndex, from: EventRunIndex) -> EventRunIn
     let marks = g.marks();
     for m in marks {
         let place = *m as usize;
-        c = lower(c, seen.0 < g.graph.starts[place], EventRunIndex(*m));
+        c = lower(c, seen < EventIndex(g.graph.starts[place]), EventRunIndex(*m));
     }
     c
 }
@@ -231,7 +227,7 @@ fn join(g: &HeldGraph, ps: &[u32], n: u32) -> CausalGraph
     tips.push(end - 1);
     let s = pick_seen(g, ps, start, t.seen);
     let was = g.graph.changed_from;
-    let low = EventRunIndex((g.graph.run_count as u32).min(was.0));
+    let low = EventRunIndex(g.graph.run_count as u32).min(was);
     let changed = lower_all(g, s, low);
     assemble(g, EventIndex(end), items, t, tips, s, changed)
 }
@@ -311,7 +307,7 @@ pub fn push(g: CausalGraph, parents: &[u32], len: u32) -> Changed<(EventIndex, E
             let answer = push_held(&mut held, parents, len);
             Changed {
                 graph: held.graph,
-                answer: answer,
+                answer,
             }
         }
         Err(r) => refused(g, r),

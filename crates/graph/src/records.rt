@@ -19,7 +19,7 @@ impl<'a> Records<'a> {
         ensures begun { state result ≡ (blank, list.old) }
     {
         Records {
-            list: list,
+            list,
             count: 0,
             short: false,
         }

@@ -14,7 +14,7 @@ use model::{CausalGraph, Containing, EventIndex, EventRunIndex};
 pub(crate) fn seen_up_to(seen: EventIndex, start: EventIndex, end: EventIndex) -> EventIndex
     ensures { result.0 ≡ cond (eqb seen.0 start.0) end.0 seen.0 }
 {
-    if seen.0 == start.0 {
+    if seen == start {
         return end;
     }
     seen
@@ -48,7 +48,7 @@ fn split_in(g: &mut CausalGraph, run: EventRunIndex, at: EventIndex)
     lists::insert_and_grow(&mut g.seen_prefix_len[..runs + 1], next, second.0, 0, 0);
     g.run_count = runs + 1;
     g.entry_count = entries + 1;
-    g.changed_from = EventRunIndex(run.0.min(was.0));
+    g.changed_from = run.min(was);
 }
 
 // Splits a run so that a new one starts at `at`.
@@ -69,8 +69,8 @@ fn split_after(g: &mut CausalGraph, p: EventIndex)
     requires { AfterFits (parts_of g.old) p.0 }
     ensures { g.new ≡ with_arrays g.old (after_in (parts_of g.old) p.0) }
 {
-    let starts = &g.starts[..];
-    let Containing::Run(run) = crate::lookups::containing_in(starts, g.run_count, p) else {
+    let starts = &g.starts[..g.run_count + 1];
+    let Containing::Run(run) = crate::lookups::containing_in(starts, p) else {
         return;
     };
     let next = run.0 as usize + 1;

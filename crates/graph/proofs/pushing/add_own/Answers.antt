@@ -1,5 +1,5 @@
 -- `graph::pushing::add_own` meets its contract: nothing for a parent that lies in no run, else its run is put in place. Assumes nothing.
-use Rattle.std.proofs.Common.{arith, ap, ◌+◌}
+use Rattle.std.proofs.Common.{arith, rules, ◌≡◌, max, ap, ◌+◌}
 use Rattle.lists.specs.Lists.{bit}
 use Rattle.graph.specs.Loops.{side_in}
 use Rattle.graph.proofs.Views.{facts}
@@ -40,6 +40,7 @@ returns c =
     let k = c.args.g.now in
     let g = k.graph in
     let t = c.args.t in
+    let later : c.max.result.0 ≡ max t.seen.0 c.seen_up_to-after.result.0 = search rules in
     own_yes g.starts g.seen_prefix_len g.run_count c.args.items.now t _ c.args.p.0 _ _
     (found g.starts g.run_count c.args.p.0 c.in-Run.run' (by_starts g k.held c.args.p.0 c.containing.ensures) c.in-Run.is) c.seen_up_to-after.ensures
-    (λ i. record { count = t.count + 1; seen = record { 0 = c.max.ensures i } })
+    (λ i. record { count = t.count + 1; seen = record { 0 = later i } })

@@ -1,5 +1,5 @@
 -- `graph::pushing::grow_last` meets its contract: the last start and the last of the frontier are set. Assumes nothing.
-use Rattle.std.proofs.Common.{arith}
+use Rattle.std.proofs.Common.{arith, rules}
 use Rattle.graph.proofs.Views.{facts}
 use Rattle.graph.proofs.Extending.{some_tip, grown-stored}
 use Rattle.graph.proofs.pushing.grow_last.Goals as goal
@@ -27,4 +27,4 @@ bounds-h-tips c =
 pub returns : goal.returns
 returns c =
     let k = c.args.g.now in
-    grown-stored k.graph k.held c.requires.some_runs c.args.n c.len.result.0 _ c.len.ensures c.min.ensures
+    grown-stored k.graph k.held c.requires.some_runs c.args.n c.len.result.0 c.min-h.result.0 c.len.ensures (search rules)

@@ -1,5 +1,5 @@
 -- `graph::pushing::join` meets its contract: each part of the new run is what the definition says. Assumes nothing.
-use Rattle.std.proofs.Common.{arith}
+use Rattle.std.proofs.Common.{arith, rules, ◌≡◌, min}
 use Rattle.graph.proofs.Views.{facts, runs-view, entries-view}
 use Rattle.graph.proofs.Owning.{own-begun, held-counted}
 use Rattle.graph.proofs.Assembling.{own-fits, left-room, joined-stored}
@@ -37,5 +37,6 @@ assemble-requires c =
 pub returns : goal.returns
 returns c =
     let k = c.args.g.now in
+    let low : c.min-low.result.0 ≡ min k.graph.run_count k.graph.changed_from.0 = search rules in
     joined-stored k.held c.len-start.ensures c.requires.joins (own-begun k.graph k.held) c.own_all-t.ensures (rw c.frontier.ensures at c.keep_all-tips.ensures) c.push.ensures
-    c.pick_seen-s.ensures c.min.ensures c.lower_all-changed.ensures c.assemble.ensures
+    c.pick_seen-s.ensures low c.lower_all-changed.ensures c.assemble.ensures
