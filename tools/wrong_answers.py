@@ -104,7 +104,7 @@ GRAPH = [
     ("cut::split_at_critical_versions_from", "a Linear ends where the Concurrent after it ends", "cut.rt", "put_linear(out, first, a)", "put_linear(out, first, b)"),
     ("cut::split_at_critical_versions", "refuses 'list too short' though the record fits", "records.rt", "self.list.len() / N <= self.count", "self.list.len() / N <= self.count + 1"),
     ("cut::split_at_critical_versions", "ranges of one run are Concurrent", "cut.rt", "if is_next(a.0, b.0) {", "if is_next(b.0, b.0) {"),
-    ("archive::archive_points", "count 0 where the list is too short", "records.rt", "count: self.count,\n                outcome: Err", "count: 0,\n                outcome: Err"),
+    ("archive::archive_points", "count 0 where the list is too short", "records.rt", "count: self.count,", "count: if outcome.is_err() { 0 } else { self.count },"),
 ]
 
 VERSIONS = [

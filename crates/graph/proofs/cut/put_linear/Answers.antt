@@ -9,7 +9,7 @@ returns-then-lt-clause-written c =
     let a = c.args in
     c.put.ensures.written ∙ sym (linear_put (state a.out.now) a.first.0 a.end.0 (search rules))
 
-pub returns-else-lt-clause-written : goal.returns-else-lt-clause-written
-returns-else-lt-clause-written c =
+pub returns-clause-written : goal.returns-clause-written
+returns-clause-written c =
     let a = c.args in
     sym (linear_none (state a.out.now) a.first.0 a.end.0 (search rules))
