@@ -20,10 +20,7 @@ fn over_limit(g: &CausalGraph) -> bool
 pub(crate) fn is_next(a: u32, b: u32) -> bool
     ensures { result ≡ eqb (a + 1) b }
 {
-    if b <= a {
-        return false;
-    }
-    b - a == 1
+    a.checked_add(1) == Some(b)
 }
 
 // A lent graph none of whose counts passes its limit.

@@ -33,11 +33,7 @@ impl From<u32> for RangeKind {
 }
 
 // Writes the Linear from `first` to `end`, if it has a run.
-fn put_linear(
-    out: &mut Records,
-    first: EventRunIndex,
-    end: EventRunIndex,
-) -> Result<(), Refusal>
+fn put_linear(out: &mut Records, first: EventRunIndex, end: EventRunIndex) -> Result<(), Refusal>
     ensures same_list { same_list out.new out.old }
     ensures written { after result out.new ≡ put_ranges (state out.old) (pending first.0 end.0) }
 {

@@ -45,6 +45,7 @@ fn fresh_held(events: EventIndex, frontier: &[u32]) -> CausalGraph
 }
 
 // A graph of no events.
+#[tactic(auto, unfolding(model::specs::Fresh::new_of))]
 pub fn new() -> CausalGraph
     ensures { result ≡ new_of }
 {

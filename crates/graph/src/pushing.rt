@@ -173,7 +173,11 @@ fn lower_all(g: &HeldGraph, seen: EventIndex, from: EventRunIndex) -> EventRunIn
     let marks = g.marks();
     for m in marks {
         let place = *m as usize;
-        c = lower(c, seen < EventIndex(g.graph.starts[place]), EventRunIndex(*m));
+        c = lower(
+            c,
+            seen < EventIndex(g.graph.starts[place]),
+            EventRunIndex(*m),
+        );
     }
     c
 }

@@ -60,7 +60,7 @@ split_all-parted-requires c =
     let k = known_of a.g.now.graph a.g.now.held a.ps.now a.n a.counts c.len-start.ensures c.requires in
     let r = new-run k c.does_extend.ensures c.if-does_extend.false c.over.ensures c.if-over.false c.over-2.ensures c.if-over-2.false
     (rw c.frontier.ensures at c.keep_all-left.ensures) (omega (arith, c.len.ensures.value, c.if-len-gt-MAX_FRONTIER.false)) in
-    record { room = room r; splits_value = splits_are k }
+    record { room = room r; splits_counted = splits_are k }
 
 pub join-joined-requires : goal.join-joined-requires
 join-joined-requires c =

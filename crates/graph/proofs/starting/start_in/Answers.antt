@@ -62,13 +62,6 @@ returns-then-g-ge-MAX_ENTRIES c =
     start_crowded a.g.now.graph a.g.now.held a.at.0 a.run.0 p
     (search rules) is-not c.if-g-ge-MAX_RUNS.false c.if-g-ge-MAX_ENTRIES.true
 
-pub split_run-split-requires : goal.split_run-split-requires
-split_run-split-requires c =
-    let a = c.args in
-    let p = c.requires in
-    let r = in_runs_lem a.g.now.graph a.g.now.held a.at.0 a.run.0 p in
-    search rules
-
 pub invariant_of-g : goal.invariant_of-g
 invariant_of-g c =
     let a = c.args in
