@@ -92,24 +92,6 @@ fn count_parents(g: &HeldGraph, ps: &[u32]) -> ParentCounts
     t
 }
 
-// The last run grows by n events.
-fn grow_last(g: &HeldGraph, n: u32) -> CausalGraph
-    requires some_runs { 0 < g.now.graph.run_count }
-    requires some_events { 0 < n }
-    requires events_fit { len (view g.now.graph) + n < 2 ^ 32 }
-    ensures { result ≡ store (grown (view g.now.graph) ((len (view g.now.graph) - 1) ∷ []) n) }
-{
-    let runs = g.graph.run_count;
-    let tips = g.graph.frontier_count;
-    let end = g.len().0 + n;
-    let was = g.graph.changed_from;
-    let mut h = g.graph;
-    h.starts[runs] = end;
-    h.frontier[tips - 1] = end - 1;
-    h.changed_from = EventRunIndex(runs as u32 - 1).min(was);
-    h
-}
-
 // A parent: its run joins the entries if it is held.
 fn add_own(g: &HeldGraph, items: &mut [u32; MAX_ENTRIES], t: Own, p: EventIndex) -> Own
     requires { t.count + bit (is_held (side_in g.now.graph.starts g.now.graph.run_count p.0)) ≤ max_entries }
@@ -213,27 +195,55 @@ fn assemble(
     h
 }
 
-// A new run of n events, once its held parents end runs.
-fn join(g: &HeldGraph, ps: &[u32], n: u32) -> CausalGraph
-    requires joins { Joins (view g.now.graph) ps.now n }
-    requires events_fit { len (view g.now.graph) + n < 2 ^ 32 }
-    ensures { result ≡ store (lowered (view g.now.graph) (joined (view g.now.graph) ps.now n)) }
-{
-    let start = g.len();
-    let end = start.0 + n;
-    let mut items = g.graph.parents;
-    let first = Own {
-        count: g.graph.entry_count as u32,
-        seen: EventIndex(g.graph.starts[0]),
-    };
-    let t = own_all(g, &mut items, first, ps);
-    let mut tips = lists::keep_all(g.frontier(), ps);
-    tips.push(end - 1);
-    let s = pick_seen(g, ps, start, t.seen);
-    let was = g.graph.changed_from;
-    let low = EventRunIndex(g.graph.run_count as u32).min(was);
-    let changed = lower_all(g, s, low);
-    assemble(g, EventIndex(end), items, t, tips, s, changed)
+// A lent graph, and how many events are pushed onto it: at least one, and their end fits.
+#[derive(Clone, Copy)]
+struct Growth<'a> {
+    graph: &'a HeldGraph,
+    more: u32,
+    ghost some: { 0 < more },
+    ghost fits: { len (view graph.now.graph) + more < 2 ^ 32 },
+}
+
+impl<'a> Growth<'a> {
+    // The last run grows by them.
+    fn grow_last(self) -> CausalGraph
+        requires { 0 < self.graph.now.graph.run_count }
+        ensures { result ≡ store (grown (view self.entry.graph.now.graph) ((len (view self.entry.graph.now.graph) - 1) ∷ []) self.entry.more) }
+    {
+        let g = self.graph;
+        let runs = g.graph.run_count;
+        let tips = g.graph.frontier_count;
+        let end = g.len().0 + self.more;
+        let was = g.graph.changed_from;
+        let mut h = g.graph;
+        h.starts[runs] = end;
+        h.frontier[tips - 1] = end - 1;
+        h.changed_from = EventRunIndex(runs as u32 - 1).min(was);
+        h
+    }
+
+    // They are a new run, once their held parents end runs.
+    fn join(self, ps: &[u32]) -> CausalGraph
+        requires { Joins (view self.graph.now.graph) ps.now self.more }
+        ensures { result ≡ store (lowered (view self.entry.graph.now.graph) (joined (view self.entry.graph.now.graph) ps.now self.entry.more)) }
+    {
+        let g = self.graph;
+        let start = g.len();
+        let end = start.0 + self.more;
+        let mut items = g.graph.parents;
+        let first = Own {
+            count: g.graph.entry_count as u32,
+            seen: EventIndex(g.graph.starts[0]),
+        };
+        let t = own_all(g, &mut items, first, ps);
+        let mut tips = lists::keep_all(g.frontier(), ps);
+        tips.push(end - 1);
+        let s = pick_seen(g, ps, start, t.seen);
+        let was = g.graph.changed_from;
+        let low = EventRunIndex(g.graph.run_count as u32).min(was);
+        let changed = lower_all(g, s, low);
+        assemble(g, EventIndex(end), items, t, tips, s, changed)
+    }
 }
 
 // A push whose parents are known events, rising, and whose events fit: growth, or refusals 6, 7, 8, or a new run.
@@ -253,7 +263,7 @@ fn push_known(
     let start = g.len();
     let end = start.0 + n;
     if does_extend(g, ps) {
-        let grown = grow_last(g, n);
+        let grown = Growth { graph: g, more: n }.grow_last();
         *g = HeldGraph { graph: grown };
         return Ok((start, EventIndex(end)));
     }
@@ -272,7 +282,11 @@ fn push_known(
         return Err(Refusal::FrontierTooLong);
     }
     let parted = split_all(*g, ps, counts.splits);
-    let joined = join(&parted, ps, n);
+    let joined = Growth {
+        graph: &parted,
+        more: n,
+    }
+    .join(ps);
     *g = HeldGraph { graph: joined };
     Ok((start, EventIndex(end)))
 }
