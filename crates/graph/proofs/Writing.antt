@@ -83,7 +83,8 @@ module _ {A : Type 0} (size : ℕ) (f : A → List ℕ) (same : (x : A) → leng
       left = omega (arith, length-drop (length (f x)) rest, same x)
 
       whole : length (front ++ f x ++ drop (length (f x)) rest) / size ≡ k + 1 + j
-      whole = ap (λ (n : ℕ). n / size) (omega (arith, length-append (front ++ f x) (drop (length (f x)) rest), length-append front (f x), length-append front rest, length-drop (length (f x)) rest, same x)) ∙ (r ∙ omega arith)
+      whole = ap (λ (n : ℕ). n / size)
+          (omega (arith, length-append (front ++ f x) (drop (length (f x)) rest), length-append front (f x), length-append front rest, length-drop (length (f x)) rest, same x)) ∙ (r ∙ omega arith)
 
       moved : take (k * size) (front ++ rest) ++ f x ++ drop (k * size + size) (front ++ rest) ≡ front ++ f x ++ drop (length (f x)) rest
       moved = rw (take_at front rest (k * size) e, ← e, drop-append-add front rest size, same x)

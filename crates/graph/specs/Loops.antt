@@ -9,7 +9,7 @@ use Rattle.model.specs.Limits.{max_entries, max_frontier, max_len, max_runs, max
 use Rattle.model.specs.Graph.{Graph, runs, entries, Side, side_by, is_held, is_known, held}
 use Rattle.model.specs.Split.{splits}
 use Rattle.model.specs.Push.{staying}
-use Rattle.graph.specs.declared.pushing.Own.{Own}
+use Rattle.graph.specs.declared.growth.Own.{Own}
 use Rattle.graph.specs.declared.pushing.ParentCounts.{ParentCounts}
 
 -- the least number, and the largest u32 of none

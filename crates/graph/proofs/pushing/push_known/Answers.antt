@@ -2,7 +2,8 @@
 -- nothing.
 use Rattle.std.proofs.Common.{arith, sym, ◌∙◌, ◌+◌, ltb-false}
 use Rattle.graph.proofs.Views.{facts}
-use Rattle.graph.proofs.PushWays.{known_of, splits_are, some_runs, grown-out, grown-held, too_many_runs, too_many_entries, frontier_too_long, new-run, room, parted_len, parted_joins, joined-out, joined-held}
+use Rattle.graph.proofs.PushWays.{known_of, splits_are, some_runs, grown-out, grown-held, too_many_runs, too_many_entries, frontier_too_long}
+use Rattle.graph.proofs.PushWays.{new-run, room, parted_len, parted_joins, joined-out, joined-held}
 use Rattle.graph.proofs.pushing.push_known.Goals as goal
 
 pub invariant_of-grow_last : goal.invariant_of-grow_last

@@ -24,7 +24,9 @@ pub returns-in_default : goal.returns-in_default
 returns-in_default c =
     let g = c.args.g.now in
     let p = c.args.p.0 in
-    own_arrays g ∙ ap (with_arrays g) (after_no (parts_of g) p (needs_not g.starts g.run_count p (told-out (side_in g.starts g.run_count p) (used c.args.g.now c.args.p.0 c.requires c.containing_in.ensures) c.in_default.not-Run)))
+    own_arrays g ∙
+    ap (with_arrays g) (after_no (parts_of g) p
+    (needs_not g.starts g.run_count p (told-out (side_in g.starts g.run_count p) (used c.args.g.now c.args.p.0 c.requires c.containing_in.ensures) c.in_default.not-Run)))
 
 pub bounds-starts-next : goal.bounds-starts-next
 bounds-starts-next c =

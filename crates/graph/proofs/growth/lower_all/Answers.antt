@@ -1,10 +1,10 @@
--- `graph::pushing::lower_all` meets its contract: a turn takes one marked run more. Assumes nothing.
+-- `graph::growth::lower_all` meets its contract: a turn takes one marked run more. Assumes nothing.
 use Rattle.std.proofs.Common.{arith, rules, ◌≡◌, get_or, ltb, ◌<◌, length, sym, ◌∙◌}
 use Rattle.model.specs.Graph.{marks}
 use Rattle.model.specs.Record.{view}
 use Rattle.graph.proofs.Views.{facts}
 use Rattle.graph.proofs.Lowering.{mark_in, lower-step, lower_end}
-use Rattle.graph.proofs.pushing.lower_all.Goals as goal
+use Rattle.graph.proofs.growth.lower_all.Goals as goal
 
 pub bounds-g-place : goal.bounds-g-place
 bounds-g-place c =

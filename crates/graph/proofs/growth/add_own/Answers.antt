@@ -1,11 +1,11 @@
--- `graph::pushing::add_own` meets its contract: nothing for a parent that lies in no run, else its run is put in place. Assumes nothing.
+-- `graph::growth::add_own` meets its contract: nothing for a parent that lies in no run, else its run is put in place. Assumes nothing.
 use Rattle.std.proofs.Common.{arith, rules, ◌≡◌, max, ap, ◌+◌}
 use Rattle.lists.specs.Lists.{bit}
 use Rattle.graph.specs.Loops.{side_in}
 use Rattle.graph.proofs.Views.{facts}
 use Rattle.graph.proofs.Placing.{found, found_held, told-out, by_starts}
 use Rattle.graph.proofs.Owning.{own_no, own_yes}
-use Rattle.graph.proofs.pushing.add_own.Goals as goal
+use Rattle.graph.proofs.growth.add_own.Goals as goal
 
 pub returns-in_default : goal.returns-in_default
 returns-in_default c =

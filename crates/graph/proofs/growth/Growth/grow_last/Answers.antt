@@ -1,8 +1,8 @@
--- `graph::pushing::Growth::grow_last` meets its contract: the last start and the last of the frontier are set. Assumes nothing.
+-- `graph::growth::Growth::grow_last` meets its contract: the last start and the last of the frontier are set. Assumes nothing.
 use Rattle.std.proofs.Common.{arith, rules}
 use Rattle.graph.proofs.Views.{facts}
 use Rattle.graph.proofs.Extending.{some_tip, grown-stored}
-use Rattle.graph.proofs.pushing.Growth.grow_last.Goals as goal
+use Rattle.graph.proofs.growth.Growth.grow_last.Goals as goal
 
 pub overflow_cast-runs : goal.overflow_cast-runs
 overflow_cast-runs c = omega (arith, (facts c.args.self.graph.now.graph c.args.self.graph.now.held).runs)

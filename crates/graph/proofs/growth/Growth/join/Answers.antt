@@ -1,9 +1,9 @@
--- `graph::pushing::Growth::join` meets its contract: each part of the new run is what the definition says. Assumes nothing.
+-- `graph::growth::Growth::join` meets its contract: each part of the new run is what the definition says. Assumes nothing.
 use Rattle.std.proofs.Common.{arith, rules, ◌≡◌, min}
 use Rattle.graph.proofs.Views.{facts, runs-view, entries-view}
 use Rattle.graph.proofs.Owning.{own-begun, held-counted}
 use Rattle.graph.proofs.Assembling.{own-fits, left-room, joined-stored}
-use Rattle.graph.proofs.pushing.Growth.join.Goals as goal
+use Rattle.graph.proofs.growth.Growth.join.Goals as goal
 
 pub overflow_cast-first : goal.overflow_cast-first
 overflow_cast-first c = omega (arith, (facts c.args.self.graph.now.graph c.args.self.graph.now.held).entries)
