@@ -53,13 +53,13 @@ MODEL = [
 
 # The two sides of a graph exchanged
 EXCHANGED = [
-    ("src/lookups.rt", "if event.0 < starts[0] {\n        return Containing::Before;", "if event.0 < starts[0] {\n        return Containing::Unknown;"),
-    ("src/lookups.rt", "if starts[runs] <= event.0 {\n        return Containing::Unknown;", "if starts[runs] <= event.0 {\n        return Containing::Before;"),
+    ("src/lookups.rt", "else {\n        return Containing::Before;", "else {\n        return Containing::Unknown;"),
+    ("src/lookups.rt", "== starts.len() {\n        return Containing::Unknown;", "== starts.len() {\n        return Containing::Before;"),
 ]
 
 GRAPH = [
     ("broken::is_broken", "a graph whose changed_from equals its run count is broken", "broken.rt", "g.run_count < changed.0 as usize", "g.run_count <= changed.0 as usize"),
-    ("broken::is_broken", "a graph with wrong marks is not broken", "broken.rt", "|| bad_marks(g)", "|| (bad_marks(g) && false)"),
+    ("broken::is_broken", "a graph with wrong marks is not broken", "broken.rt", "|| self.bad_marks()", "|| (self.bad_marks() && false)"),
     ("fresh::new", "changed_from is 1", "fresh.rt", "let from = EventRunIndex(0);", "let from = EventRunIndex(1);"),
     ("fresh::new", "the frontier holds event 0", "fresh.rt", "fresh_held(EventIndex(0), &[])", "fresh_held(EventIndex(0), &[0])"),
     ("fresh::after", "refuses a rising frontier and takes one that is not", "fresh.rt", "if !lists::is_rising(frontier)", "if lists::is_rising(frontier)"),
@@ -70,7 +70,7 @@ GRAPH = [
     ("pushing::push", "counts the held parents before it among the splits", "pushing.rt", "splits: t.splits + usize::from(!ended),", "splits: t.held + usize::from(!ended),"),
     ("pushing::push", "a parent's run is split though it ends in the parent", "splitting.rt", "if !crate::broken::is_next(p.0, end) {", "if !crate::broken::is_next(p.0, p.0) {"),
     ("pushing::push", "a split forgets that later runs' entries stand a place later", "splitting.rt", "insert_and_grow(&mut g.parent_starts[..runs + 2], next, later, 0, 1)", "insert_and_grow(&mut g.parent_starts[..runs + 2], next, later, 0, 0)"),
-    ("pushing::push", "a split does not lower changed_from", "splitting.rt", "EventRunIndex(run.0.min(was.0))", "EventRunIndex(was.0.min(was.0))"),
+    ("pushing::push", "a split does not lower changed_from", "splitting.rt", "g.changed_from = run.min(was);", "g.changed_from = was.min(was);"),
     ("pushing::push", "takes a parent that the graph does not hold", "push_unknown_parent"),
     ("pushing::push", "leaves the graph as it was", "push_changes_nothing"),
     ("pushing::push", "refuses every push whose parents are as they should be", "pushing.rt", "if 0 < counts.unknown {", "if 0 < counts.unknown + 1 {"),
@@ -86,8 +86,8 @@ GRAPH = [
     ("lookups::parents", "the parents of the run and the next", "lookups.rt", "let next = n + 1;\n    let from", "let next = n + 2;\n    let from"),
     ("lookups::parents", "counts the entries of all runs up to it", "lookups.rt", "count: to - from,", "count: to - 0,"),
     ("lookups::containing", "before the graph and not yet known exchanged", EXCHANGED),
-    ("lookups::containing", "the last run for event number len", "lookups.rt", "if starts[runs] <= event.0 {", "if starts[runs] < event.0 {"),
-    ("lookups::containing", "the first held event is before the graph", "lookups.rt", "if event.0 < starts[0] {", "if event.0 <= starts[0] {"),
+    ("lookups::containing", "the last run for event number len", "lookups.rt", "|s| *s <= event.0)", "|s| *s <= event.0 && (*s < event.0 || *s < starts[starts.len() - 1]))"),
+    ("lookups::containing", "the first held event is before the graph", "lookups.rt", "|s| *s <= event.0)", "|s| *s <= event.0 && event.0 != starts[0])"),
     ("lookups::len", "0 for a broken graph", "lookups.rt", "    let g = HeldGraph::of(g)?;\n    Ok(g.len())", "    if crate::broken::is_broken(g) {\n        return Ok(EventIndex(0));\n    }\n    let g = HeldGraph::of(g)?;\n    Ok(g.len())"),
     ("lookups::len", "the first held event", "lookups.rt", "Ok(g.len())", "Ok(EventIndex(g.len().0.min(g.graph.starts[0])))"),
     ("lookups::is_empty", "true where the frontier is empty", "lookups.rt", "g.run_count == 0", "g.frontier_count == 0"),
@@ -98,13 +98,13 @@ GRAPH = [
     ("lookups::extends_last_event", "true of a longer list whose first is the last event", "pushing.rt", "ps == &last[..]", "&ps[..ps.len().min(1)] == &last[..]"),
     ("lookups::first_held_event", "the second run's start", "lookups.rt", "EventIndex(g.starts[0])", "EventIndex(g.starts[1])"),
     ("lookups::first_held_event", "0 where no runs are held", "lookups.rt", "EventIndex(g.starts[0])", "EventIndex(g.seen_prefix_len[0])"),
-    ("ranges::range_outcome", "refuses an empty range", "ranges.rt", "if to < from {", "if to <= from {"),
-    ("ranges::range_outcome", "refuses known equal to the range's length", "ranges.rt", "if to - from < known {", "if to - from <= known {"),
+    ("ranges::range_outcome", "refuses an empty range", "ranges.rt", "if end < first {", "if end < EventRunIndex(first.0.saturating_add(1)) {"),
+    ("ranges::range_outcome", "refuses known equal to the range's length", "ranges.rt", "if end.0 - first.0 < known {", "if end.0 - first.0 <= known {"),
     ("cut::split_at_critical_versions_from", "refuses the run count with 10 in place of 9", "cut.rt", "if runs <= from.0 as usize {", "if runs < from.0 as usize {"),
     ("cut::split_at_critical_versions_from", "a Linear ends where the Concurrent after it ends", "cut.rt", "put_linear(out, first, a)", "put_linear(out, first, b)"),
     ("cut::split_at_critical_versions", "refuses 'list too short' though the record fits", "records.rt", "self.list.len() / N <= self.count", "self.list.len() / N <= self.count + 1"),
     ("cut::split_at_critical_versions", "ranges of one run are Concurrent", "cut.rt", "if is_next(a.0, b.0) {", "if is_next(b.0, b.0) {"),
-    ("archive::archive_points", "count 0 where the list is too short", "records.rt", "count: self.count,\n                outcome: Err", "count: 0,\n                outcome: Err"),
+    ("archive::archive_points", "count 0 where the list is too short", "records.rt", "count: self.count,", "count: if outcome.is_err() { 0 } else { self.count },"),
 ]
 
 VERSIONS = [

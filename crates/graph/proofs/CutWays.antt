@@ -15,7 +15,7 @@ use Rattle.model.specs.Cut.{HistoryRange, linear, concurrent, ranges_from, join_
 use Rattle.lists.proofs.Members.{get_d_mem}
 use Rattle.model.proofs.Stored.{not-broken, marks-length}
 use Rattle.model.proofs.RoomsReplay.{marks-rise}
-use Rattle.graph.specs.Records.{Put, blank, written_of, put_all}
+use Rattle.graph.specs.Records.{blank, put_all}
 use Rattle.graph.specs.Cutting.{join_on, put_ranges}
 use Rattle.graph.proofs.Views.{runs-view}
 use Rattle.graph.proofs.Writing.{put-writing}
@@ -50,9 +50,9 @@ module _ (g : CausalGraph) (f : ℕ) (lent : List ℕ) where
   module _ (held : Held g) where
     -- Nothing to cut
     pub cut_empty : g.run_count ≡ 0 → (record { count = 0; outcome = Ok tt }, lent) ≡ cut_of g f lent
-    unfolding cut_outcome first_of cut_from filter ranges_from join_ranges put_all written_of
+    unfolding cut_outcome first_of cut_from filter ranges_from join_ranges put_all
     cut_empty e =
-        put-writing 3 range_words words_three [] lent (blank) lent refl ∙
+        put-writing 3 range_words words_three [] lent ∙
         (ap (λ (ms : List ℕ). writing 3 (map range_words (join_ranges (ranges_from (filter (λ m. leb f m) ms) (runs (view g))))) lent) (sym no_marks) ∙
         sym (outcome_is (Ok tt) (rw (not-broken g held, runs-view g held, le-ltb 0 g.run_count (omega arith)))))
       where
@@ -71,12 +71,12 @@ module _ (g : CausalGraph) (f : ℕ) (lent : List ℕ) where
 
     -- Done
     pub cut_done : (g.run_count ≡ 0 → ⊥) → f < g.run_count → (at : ℕ) → at < length (marks (view g)) → get_or (marks (view g)) at 0 ≡ f →
-        (p : Put) (l : List ℕ) →
-        (p, l) ≡ put_ranges (blank, lent) (join_on (get_or (marks (view g)) at g.run_count) (ranges_from (drop at (marks (view g))) g.run_count) g.run_count) →
-        (written_of p, l) ≡ cut_of g f lent
+        (p : Written × List ℕ) →
+        p ≡ put_ranges (blank, lent) (join_on (get_or (marks (view g)) at g.run_count) (ranges_from (drop at (marks (view g))) g.run_count) g.run_count) →
+        p ≡ cut_of g f lent
     unfolding cut_outcome first_of put_ranges cut_from
-    cut_done z h at b q p l e =
-        put-writing 3 range_words words_three (cut_from (view g) f) lent p l (e ∙ ap (λ (rs : List HistoryRange). put_ranges (blank, lent) rs) joined) ∙
+    cut_done z h at b q p e =
+        e ∙ ap (λ (rs : List HistoryRange). put_ranges (blank, lent) rs) joined ∙ put-writing 3 range_words words_three (cut_from (view g) f) lent ∙
         sym (outcome_is (Ok tt)
         (rw (not-broken g held, runs-view g held, lt-ltb 0 g.run_count (omega arith), lt-leb g.run_count f h, m)))
       where

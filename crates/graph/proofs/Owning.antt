@@ -19,7 +19,7 @@ use Rattle.model.proofs.FormedReads.{seen_after-within}
 use Rattle.model.proofs.FormedJoins.{parent_runs-below}
 use Rattle.model.proofs.Siding.{side-run, held-between}
 use Rattle.model.proofs.Stored.{entries-flat}
-use Rattle.graph.specs.declared.pushing.Own.{Own}
+use Rattle.graph.specs.declared.growth.Own.{Own}
 use Rattle.graph.specs.Loops.{side_in, own_in, add_own, own_all}
 use Rattle.graph.proofs.Views.{entries-view, first-view, start-view, seen-view, parents-pad}
 use Rattle.graph.proofs.Placing.{Found, found_in, side-view}

@@ -115,7 +115,9 @@ module _ (g : CausalGraph) (held : Held g) (r at : ℕ) (in_runs_lem : r < g.run
       ∙ ap (pad 513) (insert_keep (r + 1) at (view g).starts)
       ∙ rw (add-one r)
 
-  seen-put : insert_in g.run_count (r + 1) (cond (eqb (get_or g.seen_prefix_len r 0) (get_or g.starts r 0)) at (get_or g.seen_prefix_len r 0)) (grow 0 0) g.seen_prefix_len ≡ pad 512 (insert_at (suc r) (second_seen (view g) r at) (view g).seen)
+  seen-put :
+      insert_in g.run_count (r + 1) (cond (eqb (get_or g.seen_prefix_len r 0) (get_or g.starts r 0)) at (get_or g.seen_prefix_len r 0)) (grow 0 0) g.seen_prefix_len ≡
+      pad 512 (insert_at (suc r) (second_seen (view g) r at) (view g).seen)
   seen-put =
       ap (λ (v : ℕ). insert_in g.run_count (r + 1) v (grow 0 0) g.seen_prefix_len) second_is
       ∙ insert_area 512 g.run_count (r + 1) (second_seen (view g) r at) (grow 0 0) g.seen_prefix_len (view g).seen (seen-pad g held) (omega (arith, seen_count g held)) (omega arith)
@@ -141,7 +143,8 @@ module _ (g : CausalGraph) (held : Held g) (r at : ℕ) (in_runs_lem : r < g.run
   unfolding later
   heads-put =
       ap (λ (v : ℕ). insert_in (g.run_count + 1) (r + 1) v (grow 0 1) g.parent_starts) later-is
-      ∙ insert_area 513 (g.run_count + 1) (r + 1) later (grow 0 1) g.parent_starts (group_starts 0 (view g).parents) (heads-pad g held) (omega (arith, rows-count g held, length_group_starts 0 (view g).parents)) (omega arith)
+      ∙ insert_area 513 (g.run_count + 1) (r + 1) later (grow 0 1) g.parent_starts (group_starts 0 (view g).parents) (heads-pad g held)
+      (omega (arith, rows-count g held, length_group_starts 0 (view g).parents)) (omega arith)
       ∙ ap (pad 513) (sym (starts-insert (r + 1) r 0 (grow r 1) (view g).parents (omega (arith, rows-count g held))))
       ∙ ap (λ (x : List (List ℕ)). pad 513 (group_starts 0 x)) (sym new-rows_are)
 
@@ -149,7 +152,8 @@ module _ (g : CausalGraph) (held : Held g) (r at : ℕ) (in_runs_lem : r < g.run
   unfolding later
   parents-put =
       ap (λ (v : ℕ). insert_in g.entry_count v r (grow r 1) g.parents) later-is
-      ∙ insert_area 2048 g.entry_count later r (grow r 1) g.parents (concat (view g).parents) (parents-pad g held) (omega (arith, entries-flat (view g), entries-view g held)) (omega (arith, head_in g held (r + 1) (omega arith), later-is))
+      ∙ insert_area 2048 g.entry_count later r (grow r 1) g.parents (concat (view g).parents) (parents-pad g held)
+      (omega (arith, entries-flat (view g), entries-view g held)) (omega (arith, head_in g held (r + 1) (omega arith), later-is))
       ∙ ap (pad 2048) (sym (items-insert (r + 1) r (grow r 1) (view g).parents (omega (arith, rows-count g held))))
       ∙ ap (λ (x : List (List ℕ)). pad 2048 (concat x)) (sym new-rows_are)
 
@@ -161,10 +165,17 @@ module _ (g : CausalGraph) (held : Held g) (r at : ℕ) (in_runs_lem : r < g.run
   unfolding split new-rows
   marks-put k e =
       let n₁ : g.run_count + 1 + 1 ≡ length (insert_at (suc r) at (view g).starts) = omega (arith, insert-length (suc r) at (view g).starts, starts_count g held) in
-      let n₂ : g.run_count + 1 ≡ length (insert_at (suc r) (second_seen (view g) r at) (view g).seen) = omega (arith, insert-length (suc r) (second_seen (view g) r at) (view g).seen, seen_count g held) in
+      let n₂ : g.run_count + 1 ≡ length (insert_at (suc r) (second_seen (view g) r at) (view g).seen) =
+      omega (arith, insert-length (suc r) (second_seen (view g) r at) (view g).seen, seen_count g held) in
       let n₃ : length (split (view g) r at).parents ≡ suc g.run_count = unfold runs in (split_runs (view g) r at ∙ ap suc (runs-view g held)) in
       let m = marks_of_lem (split (view g) r at) (omega (arith, n₁, n₂)) (omega (arith, n₂, n₃)) in
-      e ∙ rw (starts-put, seen-put, take-pad (g.run_count + 1 + 1) 513 (insert_at (suc r) at (view g).starts) n₁, take-pad (g.run_count + 1) 512 (insert_at (suc r) (second_seen (view g) r at) (view g).seen) n₂) (sym m)
+      e ∙
+      rw (
+        starts-put,
+        seen-put,
+        take-pad (g.run_count + 1 + 1) 513 (insert_at (suc r) at (view g).starts) n₁,
+        take-pad (g.run_count + 1) 512 (insert_at (suc r) (second_seen (view g) r at) (view g).seen) n₂,
+      ) (sym m)
 
   -- A split in the record's arrays is a split of the graph
   pub split-stored :

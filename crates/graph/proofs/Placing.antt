@@ -1,5 +1,11 @@
 -- Where an event lies, by the starts in their array: by comparisons, what the code is told, and that it is the graph's side. Assumes nothing.
-use Rattle.std.proofs.Common.{◌≡◌, refl, sym, ap, ◌∙◌, ◌⊎◌, inl, inr, Bool, true, false, cond, List, ℕ, zero, suc, ◌-◌, ◌≤◌, ◌<◌, arith, get_or, leb}
+use Rattle.std.proofs.Common.{◌≡◌, refl, sym, ap, ◌∙◌, ◌⊎◌, inl, inr, Bool, true, false, cond, List, ℕ, zero, suc, ◌+◌, ◌-◌, ◌≤◌, ◌<◌, arith, length, take, get_or, get_or-take, leb}
+use Rattle.std.proofs.Common.{length-take-le, Option, Some, None, MatchOption}
+use Rattle.std.specs.List.{EachIndex}
+use borrow.Author.Tests.{lt-leb}
+use Rattle.lists.specs.Lists.{rising}
+use Rattle.lists.proofs.Rising.{rising_get_d}
+use Rattle.lists.proofs.Scanning.{last_step, last_is}
 use Rattle.lists.specs.Scans.{last_at_most}
 use Rattle.lists.proofs.Truth.{lt_or_le}
 use Rattle.model.specs.declared.record.CausalGraph.{CausalGraph}
@@ -37,6 +43,50 @@ module _ (xs : List ℕ) (n e : ℕ) where
   pub in_run_lem : get_or xs 0 0 ≤ e → e < get_or xs n 0 → side_in xs n e ≡ in_run (last_at_most xs e n)
   unfolding side_in
   in_run_lem h k = by_run (get_or xs 0 0) (get_or xs n 0) (last_at_most xs e n) e h k
+
+-- By the starts in use alone the side is the same
+last_used : (xs : List ℕ) (e m k : ℕ) → k ≤ m → last_at_most (take m xs) e k ≡ last_at_most xs e k
+unfolding last_at_most
+last_used xs e m zero h = refl
+last_used xs e m (suc k) h =
+    let l : k < m = omega arith in
+    rw (get_or-take m xs k 0 l, last_used xs e m k (omega arith))
+
+side_used : (xs : List ℕ) (n e : ℕ) → n < length xs → side_in (take (n + 1) xs) (length (take (n + 1) xs) - 1) e ≡ side_in xs n e
+unfolding side_in
+side_used xs n e h =
+    let l : length (take (n + 1) xs) - 1 ≡ n = omega (arith, length-take-le (n + 1) xs (omega arith)) in
+    let h₀ : 0 < n + 1 = omega arith in
+    let h₁ : n < n + 1 = omega arith in
+    rw (l, get_or-take (n + 1) xs 0 0 h₀, get_or-take (n + 1) xs n 0 h₁, last_used xs e (n + 1) n (omega arith))
+
+pub by_used : (xs : List ℕ) (n e : ℕ) → n < length xs → {a : Containing} →
+    a ≡ containing_at (side_in (take (n + 1) xs) (length (take (n + 1) xs) - 1) e) → a ≡ containing_at (side_in xs n e)
+by_used xs n e h q = q ∙ ap containing_at (side_used xs n e h)
+
+-- The last start that is at most e, looked for from the end on: none, the end itself, or a run's
+abbrev pub LastPlace : List ℕ → ℕ → Option ℕ → Type 0
+LastPlace xs e r = MatchOption r (EachIndex xs (λ k. e < get_or xs k 0))
+    (λ i. (i < length xs) × (get_or xs i 0 ≤ e) × ((k : ℕ) → i < k → k < length xs → e < get_or xs k 0))
+
+pub at_none : (xs : List ℕ) (e : ℕ) → 0 < length xs → LastPlace xs e None → side_in xs (length xs - 1) e ≡ before
+at_none xs e z h = in_before xs (length xs - 1) e (h 0 z)
+
+module _ (xs : List ℕ) (e i : ℕ) (rises : rising xs ≡ true) (h : LastPlace xs e (Some i)) where
+  from_first : get_or xs 0 0 ≤ e
+  from_first = omega (arith, rising_get_d xs rises 0 i (omega arith) h.0, h.1)
+
+  pub at_end : i + 1 ≡ length xs → side_in xs (length xs - 1) e ≡ unknown
+  at_end q =
+      let p : length xs - 1 ≡ i = omega arith in
+      in_unknown xs (length xs - 1) e from_first (rw p h.1)
+
+  pub at_run : (i + 1 ≡ length xs → ⊥) → side_in xs (length xs - 1) e ≡ in_run i
+  at_run q =
+      let z : 0 < length xs = omega (arith, h.0) in
+      let past : e < get_or xs (length xs - 1) 0 = h.2 (length xs - 1) (omega (arith, h.0)) (omega arith) in
+      let stop : last_at_most xs e (length xs) ≡ last_at_most xs e (length xs - 1) = rw (last_step xs e (length xs) z, lt-leb (get_or xs (length xs - 1) 0) e past) in
+      in_run_lem xs (length xs - 1) e from_first past ∙ ap in_run (sym (last_is xs e (Some i) h ∙ stop))
 
 -- What is told of an event in a run: the scan found it, below the run count, and the event is below the last start
 pub record Found (xs : List ℕ) (n e r : ℕ) : Type 0 where

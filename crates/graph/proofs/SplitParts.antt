@@ -1,7 +1,7 @@
 -- Splits in a record's lent arrays: the code's test for a split and its count are the graph's, a turn of the loop over the parents is a
 -- split of the graph that the arrays hold, and what that needs. Assumes nothing.
-use Rattle.std.proofs.Common.{◌≡◌, refl, sym, ap, ◌∙◌, ◌⊎◌, inl, inr, Bool, true, false, cond, not, List, [], ◌∷◌, ℕ, suc, ◌+◌, ◌≤◌, ◌<◌, add-one, arith, length, get_or, eqb, eq-eqb, ne_eqb}
-use Rattle.lists.specs.Lists.{bit, count, filter}
+use Rattle.std.proofs.Common.{◌≡◌, refl, sym, ap, ◌∙◌, ◌⊎◌, inl, inr, Bool, true, false, cond, not, List, [], ◌∷◌, ℕ, suc, ◌+◌, ◌≤◌, ◌<◌, add-one, arith, length, take, get_or, eqb, eq-eqb, ne_eqb}
+use Rattle.lists.specs.Lists.{bit, count, filter, rising}
 use Rattle.lists.specs.Areas.{pad}
 use Rattle.lists.specs.Scans.{last_at_most}
 use Rattle.lists.proofs.Truth.{lt_or_le}
@@ -136,6 +136,10 @@ module _ (g : CausalGraph) (x : Parts) (good : Held (with_parts g x)) where
   unfolding with_parts
   with_long = long_of (with_parts g x) good
 
+  with_rises : rising (take (x.counts.runs + 1) x.starts) ≡ true
+  unfolding with_parts view
+  with_rises = good.formed.starts
+
   with_needs : (p : ℕ) → needs_in x.starts x.counts.runs p ≡ needs_split (view (with_parts g x)) p
   unfolding with_parts
   with_needs p = needs_in_lem (with_parts g x) good p
@@ -154,7 +158,7 @@ module _ (g : CausalGraph) (x : Parts) (good : Held (with_parts g x)) where
     needs_here = with_needs p
 
     pub after-fits : AfterFits x p
-    after-fits = record { long = with_long; fits = λ e. with_fits p (placed (with_parts g x) good p room (sym needs_here ∙ e)) }
+    after-fits = record { long = with_long; rises = with_rises; fits = λ e. with_fits p (placed (with_parts g x) good p room (sym needs_here ∙ e)) }
 
     pub after-stored : with_parts g (after_in x p) ≡ store (split_after (view (with_parts g x)) (held (view (with_parts g x)) (p ∷ [])))
     after-stored = go (needs_in x.starts x.counts.runs p) refl

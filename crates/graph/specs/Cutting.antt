@@ -1,13 +1,14 @@
 -- The cut from left to right. Assumes nothing.
 use Rattle.std.specs.Prelude.{true, false, cond, List, [], ◌∷◌, ◌++◌, map, ℕ, ◌+◌, ltb, eqb}
 use Rattle.model.specs.declared.record.EventRunIndex.{EventRunIndex}
+use Rattle.model.specs.declared.answers.Written.{Written}
 use Rattle.model.specs.Cut.{HistoryRange, linear, concurrent, range_words}
 use Rattle.graph.specs.declared.records.Records.{Records}
-use Rattle.graph.specs.Records.{Put, put_all, state}
+use Rattle.graph.specs.Records.{put_all, state}
 
 -- What was written, and where the Linear begins that is not written yet
 pub record Cutting : Type 0 where
-  pub put : Put
+  pub written : Written × List ℕ
   pub first : EventRunIndex
 
 -- The Linear from f to a, if it has a run
@@ -24,17 +25,17 @@ join_on f (r ∷ rs) end =
     ]
 
 -- Ranges written
-unfoldable pub put_ranges : Put × List ℕ → List HistoryRange → Put × List ℕ
+unfoldable pub put_ranges : Written × List ℕ → List HistoryRange → Written × List ℕ
 put_ranges w rs = put_all 3 w (map range_words rs)
 
 -- The Linear that is pending, and a Concurrent after it
-unfoldable pub closed : Cutting × List ℕ → ℕ → ℕ → Put × List ℕ
-closed w a b = put_ranges (w.0.put, w.1) (pending w.0.first.0 a ++ (concurrent a b ∷ []))
+unfoldable pub closed : Cutting → ℕ → ℕ → Written × List ℕ
+closed w a b = put_ranges w.written (pending w.first.0 a ++ (concurrent a b ∷ []))
 
 -- One range more
-unfoldable pub cut_on : Cutting × List ℕ → ℕ → ℕ → Cutting × List ℕ
-cut_on w a b = cond (eqb b (a + 1)) w (record { put = (closed w a b).0; first = record { 0 = b } }, (closed w a b).1)
+unfoldable pub cut_on : Cutting → ℕ → ℕ → Cutting
+cut_on w a b = cond (eqb b (a + 1)) w (record { written = closed w a b; first = record { 0 = b } })
 
 -- What was written by the records, with the Linear's begin
-abbrev pub cutting : EventRunIndex → Records → Cutting × List ℕ
-cutting first w = (record { put = (state w).0; first = first }, (state w).1)
+abbrev pub cutting : EventRunIndex → Records → Cutting
+cutting first w = record { written = state w; first = first }

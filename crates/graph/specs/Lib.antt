@@ -4,3 +4,4 @@ pub mod Cutting
 pub mod Rows
 pub mod Records
 pub mod Counts
+pub mod Kinds

@@ -9,7 +9,7 @@ use Rattle.model.specs.Limits.{max_entries, max_frontier, max_len, max_runs, max
 use Rattle.model.specs.Graph.{Graph, runs, entries, Side, side_by, is_held, is_known, held}
 use Rattle.model.specs.Split.{splits}
 use Rattle.model.specs.Push.{staying}
-use Rattle.graph.specs.declared.pushing.Own.{Own}
+use Rattle.graph.specs.declared.growth.Own.{Own}
 use Rattle.graph.specs.declared.pushing.ParentCounts.{ParentCounts}
 
 -- the least number, and the largest u32 of none
@@ -101,6 +101,7 @@ pub record SplitFits (x : Parts) (run : ℕ) : Type 0 where
 
 pub record AfterFits (x : Parts) (p : ℕ) : Type 0 where
   pub long : Long x
+  pub rises : rising (take (x.counts.runs + 1) x.starts) ≡ true
   pub fits : needs_in x.starts x.counts.runs p ≡ true → SplitFits x (last_at_most x.starts p x.counts.runs)
 
 -- a record with other such arrays and counts, its marks left as they were

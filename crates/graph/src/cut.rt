@@ -1,7 +1,7 @@
 // The history cut at its critical versions, into a lent list.
-ghost use Rattle.std.specs.Prelude.{◌≡◌, Err, get_or, drop, eqb, position};
+ghost use Rattle.std.specs.Prelude.{◌≡◌, Err, IfOk, IfErr, get_or, drop, eqb, position};
 ghost use Rattle.model.specs.Cut.{cut_of, ranges_from};
-ghost use Rattle.graph.specs.Records.{state, same_list};
+ghost use Rattle.graph.specs.Records.{state, after, same_list};
 ghost use Rattle.graph.specs.Cutting.{pending, join_on, put_ranges, cut_on, cutting};
 
 use crate::broken::is_next;
@@ -9,19 +9,38 @@ use crate::held::HeldGraph;
 use crate::records::{Records, unwritten};
 use model::{CausalGraph, EventRunIndex, Refusal, Written};
 
-// 01's kinds of a range.
-const LINEAR: u32 = 0;
+// The kinds of a range, by the words that stand for them in a list.
+#[derive(Clone, Copy, Debug, PartialEq, Eq)]
+pub enum RangeKind {
+    Linear = 0,
+    Concurrent = 1,
+}
 
-const CONCURRENT: u32 = 1;
+// Any word other than 0 stands for Concurrent.
+impl From<u32> for RangeKind {
+    ghost use Rattle.std.specs.Prelude.{◌≡◌};
+    ghost use Rattle.graph.specs.Kinds.{kind_of};
+
+    ghost from_gives = { λ word kind. kind ≡ kind_of word };
+
+    #[tactic(auto, unfolding(crate::specs::Kinds::kind_of))]
+    fn from(word: u32) -> RangeKind {
+        match word {
+            0 => RangeKind::Linear,
+            _ => RangeKind::Concurrent,
+        }
+    }
+}
 
 // Writes the Linear from `first` to `end`, if it has a run.
-fn put_linear(out: &mut Records, first: EventRunIndex, end: EventRunIndex)
+fn put_linear(out: &mut Records, first: EventRunIndex, end: EventRunIndex) -> Result<(), Refusal>
     ensures same_list { same_list out.new out.old }
-    ensures written { state out.new ≡ put_ranges (state out.old) (pending first.0 end.0) }
+    ensures written { after result out.new ≡ put_ranges (state out.old) (pending first.0 end.0) }
 {
-    if first.0 < end.0 {
-        out.put([LINEAR, first.0, end.0]);
+    if first < end {
+        return out.put([RangeKind::Linear as u32, first.0, end.0]);
     }
+    Ok(())
 }
 
 // One range more: it goes on with the Linear from `first` that is not written yet, or it is a Concurrent and that Linear ends before it.
@@ -31,16 +50,17 @@ fn cut_on(
     first: EventRunIndex,
     a: EventRunIndex,
     b: EventRunIndex,
-) -> EventRunIndex
+) -> Result<EventRunIndex, Refusal>
     ensures same_list { same_list out.new out.old }
-    ensures written { cutting result out.new ≡ cut_on (cutting first out.old) a.0 b.0 }
+    ensures written { IfOk result (λ k. cutting k out.new ≡ cut_on (cutting first out.old) a.0 b.0) }
+    ensures refused { IfErr result (λ r. after (Err r) out.new ≡ (cut_on (cutting first out.old) a.0 b.0).written) }
 {
     if is_next(a.0, b.0) {
-        return first;
+        return Ok(first);
     }
-    put_linear(out, first, a);
-    out.put([CONCURRENT, a.0, b.0]);
-    b
+    put_linear(out, first, a)?;
+    out.put([RangeKind::Concurrent as u32, a.0, b.0])?;
+    Ok(b)
 }
 
 // The mark at i, or `end` past the marks.
@@ -61,9 +81,14 @@ fn place_of(marks: &[u32], run: EventRunIndex) -> Option<usize>
 }
 
 // The ranges from the mark at `from` on, joined and written.
-fn cut_from(marks: &[u32], from: usize, end: EventRunIndex, out: &mut Records)
+fn cut_from(
+    marks: &[u32],
+    from: usize,
+    end: EventRunIndex,
+    out: &mut Records,
+) -> Result<(), Refusal>
     ensures same_list { same_list out.new out.old }
-    ensures written { state out.new ≡ put_ranges (state out.old)
+    ensures written { after result out.new ≡ put_ranges (state out.old)
         (join_on (get_or marks.now from end.0) (ranges_from (drop from marks.now) end.0) end.0) }
 {
     let mut first = mark_at(marks, from, end);
@@ -73,9 +98,9 @@ fn cut_from(marks: &[u32], from: usize, end: EventRunIndex, out: &mut Records)
             first,
             EventRunIndex(marks[i]),
             mark_at(marks, i + 1, end),
-        );
+        )?;
     }
-    put_linear(out, first, end);
+    put_linear(out, first, end)
 }
 
 // `split_at_critical_versions_from` on a graph that is known not to be broken.
@@ -97,8 +122,8 @@ pub fn cut_held(g: &HeldGraph, from: EventRunIndex, list: &mut [u32]) -> Written
         return unwritten(Refusal::Unmarked);
     };
     let mut out = Records::over(list);
-    cut_from(marks, at, EventRunIndex(runs as u32), &mut out);
-    out.written()
+    let outcome = cut_from(marks, at, EventRunIndex(runs as u32), &mut out);
+    out.written(outcome)
 }
 
 // The ranges from run `from` on into `list`: kind (0 Linear, 1 Concurrent), first run, end run (exclusive).

@@ -30,7 +30,7 @@ fn fresh_held(events: EventIndex, frontier: &[u32]) -> CausalGraph
     starts[0] = events.0;
     let from = EventRunIndex(0);
     CausalGraph {
-        starts: starts,
+        starts,
         parent_starts: lists::zeros(),
         parents: lists::zeros(),
         frontier: padded(frontier),
@@ -45,6 +45,7 @@ fn fresh_held(events: EventIndex, frontier: &[u32]) -> CausalGraph
 }
 
 // A graph of no events.
+#[tactic(auto, unfolding(model::specs::Fresh::new_of))]
 pub fn new() -> CausalGraph
     ensures { result ≡ new_of }
 {

@@ -43,6 +43,13 @@ impl HeldGraph {
         EventIndex(self.graph.starts[self.graph.run_count])
     }
 
+    // Where the runs start, and the end after them.
+    pub fn starts(&self) -> &[u32]
+        ensures { result.now ≡ (view self.now.graph).starts }
+    {
+        &self.graph.starts[..self.graph.run_count + 1]
+    }
+
     // The frontier, rising.
     pub fn frontier(&self) -> &[u32]
         ensures { result.now ≡ (view self.now.graph).frontier }
@@ -61,7 +68,7 @@ impl HeldGraph {
     pub fn containing(&self, event: EventIndex) -> Containing
         ensures { result ≡ containing_at (side (view self.now.graph) event.0) }
     {
-        containing_in(&self.graph.starts, self.graph.run_count, event)
+        containing_in(self.starts(), event)
     }
 }
 
@@ -70,7 +77,7 @@ pub(crate) fn refused<T>(graph: CausalGraph, r: Refusal) -> Changed<T>
     ensures { result ≡ record { graph = graph; answer = Err r } }
 {
     Changed {
-        graph: graph,
+        graph,
         answer: Err(r),
     }
 }

@@ -6,6 +6,7 @@
 pub mod broken;
 pub mod cut;
 pub mod fresh;
+mod growth;
 pub mod held;
 pub mod lookups;
 pub mod marks;

@@ -1,6 +1,7 @@
 // What is read off a graph.
-ghost use Rattle.std.specs.Prelude.{◌≡◌, [], ◌≤◌, length};
-ghost use Rattle.model.specs.Limits.{max_runs, max_starts};
+ghost use Rattle.std.specs.Prelude.{◌≡◌, true, ◌-◌, ◌<◌, ◌≤◌, length};
+ghost use Rattle.lists.specs.Lists.{rising};
+ghost use Rattle.model.specs.Limits.{max_starts};
 ghost use Rattle.model.specs.Answers.{containing_at};
 ghost use Rattle.graph.specs.Loops.{side_in};
 ghost use Rattle.model.specs.Lookups.{
@@ -61,26 +62,26 @@ pub fn parents(g: CausalGraph, run: EventRunIndex) -> Result<ParentRuns, Refusal
     let entries = g.parents;
     let runs = crate::fresh::padded(&entries[from..to]);
     Ok(ParentRuns {
-        runs: runs,
+        runs,
         count: to - from,
     })
 }
 
-// Where an event lies, by the starts of a graph that is known not to be broken. No other function compares an event with the first held
-// one or with the number of events to tell that.
-pub(crate) fn containing_in(starts: &[u32], runs: usize, event: EventIndex) -> Containing
-    requires runs_le_max_runs { runs ≤ max_runs }
-    requires starts_len { length starts.now ≡ max_starts }
-    ensures { result ≡ containing_at (side_in starts.now runs event.0) }
+// Where an event lies, by the rising starts of the runs and the end after them. No other function compares an event with the first held
+// one or with the number of events to tell that. It looks from the end on, and not by halves: most events that are asked for are recent.
+pub(crate) fn containing_in(starts: &[u32], event: EventIndex) -> Containing
+    requires some { 0 < length starts.now }
+    requires few { length starts.now ≤ max_starts }
+    requires rises { rising starts.now ≡ true }
+    ensures { result ≡ containing_at (side_in starts.now (length starts.now - 1) event.0) }
 {
-    if event.0 < starts[0] {
+    let Some(place) = starts.iter().rposition(|s| *s <= event.0) else {
         return Containing::Before;
-    }
-    if starts[runs] <= event.0 {
+    };
+    if place + 1 == starts.len() {
         return Containing::Unknown;
     }
-    let run = lists::last_at_most(&starts[..runs], event.0);
-    Containing::Run(EventRunIndex(run as u32))
+    Containing::Run(EventRunIndex(place as u32))
 }
 
 // The run that holds an event, or on which side of the graph it lies.
@@ -114,7 +115,7 @@ pub fn frontier(g: CausalGraph) -> Result<FrontierEvents, Refusal>
     let g = HeldGraph::of(g)?.graph;
     let events = g.frontier;
     Ok(FrontierEvents {
-        events: events,
+        events,
         count: g.frontier_count,
     })
 }

@@ -1,5 +1,5 @@
 // The marks of a graph, in two linear passes.
-ghost use Rattle.std.specs.Prelude.{◌≡◌, ℕ, ◌+◌, ◌<◌, ◌≤◌, get_or, length, take, drop};
+ghost use Rattle.std.specs.Prelude.{◌≡◌, ℕ, ◌+◌, ◌<◌, ◌≤◌, get_or, length, drop};
 ghost use Rattle.model.specs.Limits.{max_runs};
 ghost use Rattle.graph.specs.Loops.{lowest, marks_of, marked};
 
@@ -7,30 +7,28 @@ use lists::Kept;
 use model::{CausalGraph, MAX_LEN, MAX_RUNS};
 
 // The least seen length from each run on.
-fn lows(seen: &[u32], n: usize) -> [u32; MAX_RUNS]
-    requires n_in_bounds { n ≤ length seen.now }
-    requires n_le_max_runs { n ≤ max_runs }
-    ensures { (k : ℕ) → k < n → get_or result k 0 ≡ lowest (drop k (take n seen.now)) }
+fn lows(seen: &[u32]) -> [u32; MAX_RUNS]
+    requires { length seen.now ≤ max_runs }
+    ensures { (k : ℕ) → k < length seen.now → get_or result k 0 ≡ lowest (drop k seen.now) }
 {
     let mut a = lists::zeros();
     let mut low: u32 = MAX_LEN;
-    for i in (0..n).rev() {
+    for i in (0..seen.len()).rev() {
         low = seen[i].min(low);
         a[i] = low;
     }
     a
 }
 
-// The runs of which every run from it on has seen at least its start.
-pub fn marks_of<'a>(starts: &'a [u32], seen: &'a [u32], n: usize) -> Kept
-    requires starts_cover { n < length starts.now }
-    requires seen_covers { n ≤ length seen.now }
-    requires n_le_max_runs { n ≤ max_runs }
-    ensures { result ≡ marks_of 0 (take (n + 1) starts.now) (take n seen.now) }
+// The runs of which every run from it on has seen at least its start; the end stands after the starts.
+pub fn marks_of<'a>(starts: &'a [u32], seen: &'a [u32]) -> Kept
+    requires one_more { length starts.now ≡ length seen.now + 1 }
+    requires few { length seen.now ≤ max_runs }
+    ensures { result ≡ marks_of 0 starts.now seen.now }
 {
-    let low = lows(seen, n);
+    let low = lows(seen);
     let mut marks = Kept::new();
-    for i in 0..n {
+    for i in 0..seen.len() {
         marks.push_if(starts[i] <= low[i], i as u32);
     }
     marks
@@ -41,7 +39,8 @@ pub(crate) fn mark(g: &mut CausalGraph)
     requires { g.old.run_count ≤ max_runs }
     ensures { g.new ≡ marked g.old }
 {
-    let marks = marks_of(&g.starts, &g.seen_prefix_len, g.run_count);
+    let runs = g.run_count;
+    let marks = marks_of(&g.starts[..runs + 1], &g.seen_prefix_len[..runs]);
     g.mark_count = marks.len();
     g.critical_versions = marks.into_array();
 }

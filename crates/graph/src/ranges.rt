@@ -16,15 +16,13 @@ pub fn range_outcome(
     ensures refused { IfErr result (λ r. range_outcome g first.0 end.0 known ≡ Err r) }
 {
     let held = HeldGraph::of(g)?;
-    let from = first.0;
-    let to = end.0;
-    if to < from {
+    if end < first {
         return Err(Refusal::Outside);
     }
-    if held.graph.run_count < to as usize {
+    if held.graph.run_count < end.0 as usize {
         return Err(Refusal::Outside);
     }
-    if to - from < known {
+    if end.0 - first.0 < known {
         return Err(Refusal::KnownTooLong);
     }
     Ok(held)

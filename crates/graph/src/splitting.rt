@@ -1,7 +1,7 @@
 // A run split in two, and each held parent's run split after it, in the record's own arrays.
 ghost use Rattle.std.specs.Prelude.{◌≡◌, cond, eqb, ◌<◌};
 ghost use Rattle.model.specs.Limits.{max_entries, max_runs};
-ghost use Rattle.model.specs.Graph.{held};
+ghost use Rattle.model.specs.Graph.{held, side, in_run};
 ghost use Rattle.model.specs.Record.{view, store};
 ghost use Rattle.model.specs.Split;
 ghost use Rattle.model.specs.Split.{split, split_after};
@@ -14,7 +14,7 @@ use model::{CausalGraph, Containing, EventIndex, EventRunIndex};
 pub(crate) fn seen_up_to(seen: EventIndex, start: EventIndex, end: EventIndex) -> EventIndex
     ensures { result.0 ≡ cond (eqb seen.0 start.0) end.0 seen.0 }
 {
-    if seen.0 == start.0 {
+    if seen == start {
         return end;
     }
     seen
@@ -48,14 +48,14 @@ fn split_in(g: &mut CausalGraph, run: EventRunIndex, at: EventIndex)
     lists::insert_and_grow(&mut g.seen_prefix_len[..runs + 1], next, second.0, 0, 0);
     g.run_count = runs + 1;
     g.entry_count = entries + 1;
-    g.changed_from = EventRunIndex(run.0.min(was.0));
+    g.changed_from = run.min(was);
 }
 
-// Splits a run so that a new one starts at `at`.
+// Splits the run that holds `at` so that a new one starts there.
 pub(crate) fn split_run(g: &HeldGraph, run: EventRunIndex, at: EventIndex) -> CausalGraph
-    requires run_bound { run.0 < g.now.graph.run_count }
-    requires run_count_bound { g.now.graph.run_count < max_runs }
-    requires entry_count_bound { g.now.graph.entry_count < max_entries }
+    requires inside { side (view g.now.graph) at.0 ≡ in_run run.0 }
+    requires run_room { g.now.graph.run_count < max_runs }
+    requires entry_room { g.now.graph.entry_count < max_entries }
     ensures { result ≡ store (split (view g.now.graph) run.0 at.0) }
 {
     let mut h = g.graph;
@@ -69,8 +69,8 @@ fn split_after(g: &mut CausalGraph, p: EventIndex)
     requires { AfterFits (parts_of g.old) p.0 }
     ensures { g.new ≡ with_arrays g.old (after_in (parts_of g.old) p.0) }
 {
-    let starts = &g.starts[..];
-    let Containing::Run(run) = crate::lookups::containing_in(starts, g.run_count, p) else {
+    let starts = &g.starts[..g.run_count + 1];
+    let Containing::Run(run) = crate::lookups::containing_in(starts, p) else {
         return;
     };
     let next = run.0 as usize + 1;
@@ -84,7 +84,7 @@ fn split_after(g: &mut CausalGraph, p: EventIndex)
 // Splits the runs of held parents after them, one parent after another. `splits` is how many of them split a run.
 pub(crate) fn split_all(g: HeldGraph, ps: &[u32], splits: usize) -> HeldGraph
     requires room { Room (view g.graph) ps.now }
-    requires splits_value { splits ≡ Split.splits (view g.graph) ps.now }
+    requires splits_counted { splits ≡ Split.splits (view g.graph) ps.now }
     ensures { result.graph ≡ store (split_after (view g.graph) (held (view g.graph) ps.now)) }
 {
     if splits == 0 {

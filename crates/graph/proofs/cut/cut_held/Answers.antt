@@ -33,8 +33,8 @@ returns c =
     let a = c.args in
     let g = a.g.now.graph in
     let place = placed a.from.0 (marks (view g)) c.in-Some.at (rw (← c.marks-marks.ensures) (sym c.place_of.ensures ∙ c.in-Some.is)) in
-    let done = rw (c.marks-marks.ensures, c.over-out.ensures.begun) at c.cut_from.ensures.written in
-    let all : (c.written.result, c.cut_from.new.out.list.now) ≡ cut_of g a.from.0 a.list.now =
-    rw c.written.ensures (cut_done g a.from.0 a.list.now a.g.now.held c.if-runs-eq0.false c.if-runs-from.false c.in-Some.at place.0 place.1 _ _ done) in
-    let back : (x : List ℕ) → x ≡ c.cut_from.new.out.list.now → (c.written.result, x) ≡ cut_of g a.from.0 a.list.now = λ x e. rw e all in
+    let done = rw (c.marks-marks.ensures, c.over-out.ensures.begun) at c.cut_from-outcome.ensures.written in
+    let all : (c.written.result, c.cut_from-outcome.new.out.list.now) ≡ cut_of g a.from.0 a.list.now =
+    rw c.written.ensures (cut_done g a.from.0 a.list.now a.g.now.held c.if-runs-eq0.false c.if-runs-from.false c.in-Some.at place.0 place.1 _ done) in
+    let back : (x : List ℕ) → x ≡ c.cut_from-outcome.new.out.list.now → (c.written.result, x) ≡ cut_of g a.from.0 a.list.now = λ x e. rw e all in
     search (rules, back)

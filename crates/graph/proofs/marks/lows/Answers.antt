@@ -4,13 +4,12 @@ use Rattle.graph.proofs.Marking.{lows_start, lows_turn}
 use Rattle.graph.proofs.marks.lows.Goals as goal
 
 pub loop-i-init : goal.loop-i-init
-loop-i-init c = lows_start _ _ _ c.requires.n_in_bounds (search rules)
+loop-i-init c = lows_start _ _ (search rules)
 
 pub loop-i-preserved : goal.loop-i-preserved
 loop-i-preserved c =
-    let p = c.requires in
     let l = c.loop-i in
-    lows_turn _ _ _ _ _ _ p.n_in_bounds p.n_le_max_runs c.loop-i-test.true l.invariant c.min-low.ensures
+    lows_turn _ _ _ _ _ c.requires c.loop-i-test.true l.invariant c.min-low.ensures
 
 pub returns : goal.returns
 returns c = λ k h. c.loop-i.invariant.done k (omega arith) h

@@ -3,4 +3,4 @@ use Rattle.graph.proofs.Marking.{Lows}
 use Rattle.graph.proofs.marks.lows.Given as goal
 
 abbrev pub invariant-loop-i : goal.invariant-loop-i
-invariant-loop-i l = Lows l.seen l.n l.a l.low l.i
+invariant-loop-i l = Lows l.seen l.a l.low l.i

@@ -4,4 +4,4 @@ use Rattle.graph.proofs.Marking.{marked_by}
 use Rattle.graph.proofs.marks.marks_of.Given as goal
 
 abbrev pub invariant-loop-i : goal.invariant-loop-i
-invariant-loop-i l = l.marks ≡ marked_by l.n l.starts l.seen l.i
+invariant-loop-i l = l.marks ≡ marked_by l.starts l.seen l.i

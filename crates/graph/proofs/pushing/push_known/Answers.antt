@@ -2,14 +2,18 @@
 -- nothing.
 use Rattle.std.proofs.Common.{arith, sym, ◌∙◌, ◌+◌, ltb-false}
 use Rattle.graph.proofs.Views.{facts}
-use Rattle.graph.proofs.PushWays.{known_of, splits_are, some_runs, grown-out, grown-held, too_many_runs, too_many_entries, frontier_too_long, new-run, room, parted_len, parted_joins, joined-out, joined-held}
+use Rattle.graph.proofs.PushWays.{known_of, splits_are, some_runs, grown-out, grown-held, too_many_runs, too_many_entries, frontier_too_long}
+use Rattle.graph.proofs.PushWays.{new-run, room, parted_len, parted_joins, joined-out, joined-held}
 use Rattle.graph.proofs.pushing.push_known.Goals as goal
+
+pub invariant_of-grow_last : goal.invariant_of-grow_last
+invariant_of-grow_last c = record { some = c.requires.some_events; fits = c.requires.events_fit }
 
 pub grow_last-grown-requires : goal.grow_last-grown-requires
 grow_last-grown-requires c =
     let a = c.args in
     let k = known_of a.g.now.graph a.g.now.held a.ps.now a.n a.counts c.len-start.ensures c.requires in
-    record { some_runs = some_runs k c.does_extend.ensures c.if-does_extend.true; some_events = k.some; events_fit = c.requires.events_fit }
+    some_runs k c.does_extend.ensures c.if-does_extend.true
 
 pub invariant_of-g : goal.invariant_of-g
 invariant_of-g c =
@@ -60,7 +64,15 @@ split_all-parted-requires c =
     let k = known_of a.g.now.graph a.g.now.held a.ps.now a.n a.counts c.len-start.ensures c.requires in
     let r = new-run k c.does_extend.ensures c.if-does_extend.false c.over.ensures c.if-over.false c.over-2.ensures c.if-over-2.false
     (rw c.frontier.ensures at c.keep_all-left.ensures) (omega (arith, c.len.ensures.value, c.if-len-gt-MAX_FRONTIER.false)) in
-    record { room = room r; splits_value = splits_are k }
+    record { room = room r; splits_counted = splits_are k }
+
+pub invariant_of-join : goal.invariant_of-join
+invariant_of-join c =
+    let a = c.args in
+    let k = known_of a.g.now.graph a.g.now.held a.ps.now a.n a.counts c.len-start.ensures c.requires in
+    let r = new-run k c.does_extend.ensures c.if-does_extend.false c.over.ensures c.if-over.false c.over-2.ensures c.if-over-2.false
+    (rw c.frontier.ensures at c.keep_all-left.ensures) (omega (arith, c.len.ensures.value, c.if-len-gt-MAX_FRONTIER.false)) in
+    record { some = c.requires.some_events; fits = rw (← parted_len r c.split_all-parted.result.graph c.split_all-parted.ensures) k.events }
 
 pub join-joined-requires : goal.join-joined-requires
 join-joined-requires c =
@@ -70,7 +82,7 @@ join-joined-requires c =
     (rw c.frontier.ensures at c.keep_all-left.ensures) (omega (arith, c.len.ensures.value, c.if-len-gt-MAX_FRONTIER.false)) in
     let h = c.split_all-parted.result.graph in
     let e = c.split_all-parted.ensures in
-    record { joins = parted_joins r h e; events_fit = rw (← parted_len r h e) k.events }
+    parted_joins r h e
 
 pub invariant_of-g-2 : goal.invariant_of-g-2
 invariant_of-g-2 c =

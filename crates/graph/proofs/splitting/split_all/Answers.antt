@@ -7,7 +7,7 @@ use Rattle.graph.proofs.splitting.split_all.Goals as goal
 
 pub returns-then-splits-eq0 : goal.returns-then-splits-eq0
 returns-then-splits-eq0 c =
-    none-stored c.args.g.graph c.args.g.held c.args.ps.now c.requires.splits_value c.if-splits-eq0.true
+    none-stored c.args.g.graph c.args.g.held c.args.ps.now c.requires.splits_counted c.if-splits-eq0.true
 
 pub loop-p-init : goal.loop-p-init
 loop-p-init c = marked-start c.args.g.graph c.args.g.held c.args.ps.now c.requires.room

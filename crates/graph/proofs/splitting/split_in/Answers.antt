@@ -1,5 +1,5 @@
 -- `graph::splitting::split_in` meets its contract: one place taken up in each array. Assumes nothing.
-use Rattle.std.proofs.Common.{arith, ap, ◌∙◌, List, ◌++◌, ℕ, ◌+◌, drop}
+use Rattle.std.proofs.Common.{arith, rules, ◌≡◌, min, ap, ◌∙◌, List, ◌++◌, ℕ, ◌+◌, drop}
 use Rattle.lists.specs.Scans.{grow, insert_in}
 use Rattle.lists.proofs.Inserting.{insert-front}
 use Rattle.graph.specs.Loops.{with_arrays}
@@ -23,6 +23,7 @@ returns c =
     ap (λ (l : List ℕ). l ++ drop (g.run_count + 1) g.seen_prefix_len) c.insert_and_grow-4.ensures
     ∙ insert-front g.run_count (g.run_count + 1) _ _ (grow 0 0) g.seen_prefix_len (omega arith) (omega (arith, f.more_runs, f.long.seen))
     ∙ ap (λ (v : ℕ). insert_in g.run_count (c.args.run.0 + 1) v (grow 0 0) g.seen_prefix_len) c.seen_up_to-second.ensures in
+    let low : c.min-g.result.0 ≡ min c.args.run.0 g.changed_from.0 = search rules in
     λ i.
     record {
       starts = e₁ i;
@@ -35,5 +36,5 @@ returns c =
       entry_count = g.entry_count + 1;
       frontier_count = g.frontier_count;
       mark_count = g.mark_count;
-      changed_from = record { 0 = c.min.ensures i };
+      changed_from = record { 0 = low i };
     }

@@ -1,15 +1,11 @@
--- `graph::records::Records::put` meets its contract: by whether a record did not fit before, and whether this one does. Assumes nothing.
+-- `graph::records::Records::put` meets its contract: by whether the record fits. Assumes nothing.
 use Rattle.std.proofs.Common.{arith, append_assoc, ◌≡◌, ◌+◌, ◌*◌, ◌-◌, drop-drop, lt-ltb, le-ltb}
 use Rattle.graph.specs.Records.{put}
 use Rattle.graph.proofs.records.Records.put.Goals as goal
 
 pub returns-then-self-clause-written : goal.returns-then-self-clause-written
 unfolding put
-returns-then-self-clause-written g c = rw c.if-self.true
-
-pub returns-then-self-2-clause-written : goal.returns-then-self-2-clause-written
-unfolding put
-returns-then-self-2-clause-written g c = rw (c.if-self.false, le-ltb _ _ c.if-self-2.true)
+returns-then-self-clause-written g c = rw (le-ltb _ _ c.if-self.true)
 
 pub returns-clause-written : goal.returns-clause-written
 unfolding put
@@ -17,4 +13,4 @@ returns-clause-written g c =
     let e = c.copy_from_slice.ensures.after in
     let w = c.args.self.now in
     let n : w.count * g.row.N + g.row.N - w.count * g.row.N ≡ g.row.N = omega arith in
-    rw (e, n, c.if-self.false, lt-ltb _ _ c.if-self-2.false, drop-drop g.row.N (w.count * g.row.N) w.list.now, append_assoc)
+    rw (e, n, lt-ltb _ _ c.if-self.false, drop-drop g.row.N (w.count * g.row.N) w.list.now, append_assoc)

@@ -1,10 +1,10 @@
--- `graph::pushing::lower_all` meets its contract: a turn takes one marked run more. Assumes nothing.
-use Rattle.std.proofs.Common.{arith, ◌<◌, length, sym, ◌∙◌}
+-- `graph::growth::lower_all` meets its contract: a turn takes one marked run more. Assumes nothing.
+use Rattle.std.proofs.Common.{arith, rules, ◌≡◌, get_or, ltb, ◌<◌, length, sym, ◌∙◌}
 use Rattle.model.specs.Graph.{marks}
 use Rattle.model.specs.Record.{view}
 use Rattle.graph.proofs.Views.{facts}
 use Rattle.graph.proofs.Lowering.{mark_in, lower-step, lower_end}
-use Rattle.graph.proofs.pushing.lower_all.Goals as goal
+use Rattle.graph.proofs.growth.lower_all.Goals as goal
 
 pub bounds-g-place : goal.bounds-g-place
 bounds-g-place c =
@@ -17,7 +17,8 @@ loop-m-preserved c =
     let k = c.args.g.now in
     let l = c.loop-m in
     let h : l.m-index < length (marks (view k.graph)) = rw (← c.marks-marks.ensures) c.loop-m-test.true in
-    lower-step k.graph k.held c.args.seen.0 l.c.0 l.m-index c.lower-c.result.0 h (rw c.marks-marks.ensures at c.lower-c.ensures) ∙ l.invariant
+    let past : c.lt.result ≡ ltb c.args.seen.0 (get_or k.graph.starts (get_or c.marks-marks.result.now l.m-index 0) 0) = search rules in
+    lower-step k.graph k.held c.args.seen.0 l.c.0 l.m-index c.lower-c.result.0 h (rw (past, c.marks-marks.ensures) at c.lower-c.ensures) ∙ l.invariant
 
 pub returns : goal.returns
 returns c =

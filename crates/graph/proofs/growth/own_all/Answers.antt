@@ -1,10 +1,10 @@
--- `graph::pushing::own_all` meets its contract: a turn takes one parent more. Assumes nothing.
+-- `graph::growth::own_all` meets its contract: a turn takes one parent more. Assumes nothing.
 use Rattle.std.proofs.Common.{arith, refl, sym, ap, ◌∙◌, ◌+◌, drop, get_or}
 use Rattle.lists.proofs.Counts.{count_next}
 use Rattle.model.specs.Graph.{is_held}
 use Rattle.graph.specs.Loops.{side_in, own_all}
 use Rattle.graph.proofs.Owning.{Owned, own-step, own_end, own-count}
-use Rattle.graph.proofs.pushing.own_all.Goals as goal
+use Rattle.graph.proofs.growth.own_all.Goals as goal
 
 pub loop-p-init : goal.loop-p-init
 loop-p-init c = record { room = c.requires; rest = refl }

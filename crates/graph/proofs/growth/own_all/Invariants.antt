@@ -1,10 +1,10 @@
--- `graph::pushing::own_all` meets its contract. The loop's invariant: there is room for the held ones of the rest, and the rest
+-- `graph::growth::own_all` meets its contract. The loop's invariant: there is room for the held ones of the rest, and the rest
 -- done from here is all done from the start. Assumes nothing.
 use Rattle.std.proofs.Common.{◌≡◌, ◌≤◌, ◌+◌, drop}
 use Rattle.lists.specs.Lists.{count}
 use Rattle.model.specs.Graph.{is_held}
 use Rattle.graph.specs.Loops.{side_in, own_all}
-use Rattle.graph.proofs.pushing.own_all.Given as goal
+use Rattle.graph.proofs.growth.own_all.Given as goal
 
 abbrev pub invariant-loop-p : goal.invariant-loop-p
 invariant-loop-p l =

@@ -1,9 +1,9 @@
--- `graph::pushing::lower_all` meets its contract. The loop's invariant: the rest done from here is all done from the start. Assumes nothing.
+-- `graph::growth::lower_all` meets its contract. The loop's invariant: the rest done from here is all done from the start. Assumes nothing.
 use Rattle.std.proofs.Common.{◌≡◌, drop}
 use Rattle.model.specs.Graph.{marks}
 use Rattle.model.specs.Record.{view}
 use Rattle.graph.specs.Loops.{lower_all}
-use Rattle.graph.proofs.pushing.lower_all.Given as goal
+use Rattle.graph.proofs.growth.lower_all.Given as goal
 
 abbrev pub invariant-loop-m : goal.invariant-loop-m
 invariant-loop-m l =

@@ -1,7 +1,7 @@
--- `graph::pushing::assemble` meets its contract: the marks are found last, from the starts and seen lengths set before. Assumes nothing.
+-- `graph::growth::assemble` meets its contract: the marks are found last, from the starts and seen lengths set before. Assumes nothing.
 use Rattle.std.proofs.Common.{◌∙◌}
 use Rattle.graph.specs.Loops.{with_parts, marked, assembled}
-use Rattle.graph.proofs.pushing.assemble.Goals as goal
+use Rattle.graph.proofs.growth.assemble.Goals as goal
 
 pub returns : goal.returns
 unfolding assembled marked with_parts

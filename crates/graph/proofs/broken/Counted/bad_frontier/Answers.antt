@@ -1,9 +1,9 @@
--- `graph::broken::bad_frontier` meets its contract: a way out for each part of the clause. Assumes nothing.
+-- `graph::broken::Counted::bad_frontier` meets its contract: a way out for each part of the clause. Assumes nothing.
 use Rattle.std.proofs.Common.{rules, ◌≡◌, ◌<◌, ◌-◌, get_or, length, take}
 use Rattle.model.specs.Record.{view}
 use Rattle.model.specs.Broken.{bad_frontier}
 use Rattle.graph.proofs.Testing.{told, not-rising, not-below, no_runs, no_frontier, last-is}
-use Rattle.graph.proofs.broken.bad_frontier.Goals as goal
+use Rattle.graph.proofs.broken.Counted.bad_frontier.Goals as goal
 
 pub returns-then-not-is_rising : goal.returns-then-not-is_rising
 unfolding bad_frontier view
@@ -26,8 +26,8 @@ returns-in_default c =
 pub returns : goal.returns
 unfolding bad_frontier view
 returns c =
-    let f = c.args.g.now.frontier in
-    let n = c.args.g.now.frontier_count in
+    let f = c.args.self.graph.now.frontier in
+    let n = c.args.self.graph.now.frontier_count in
     let some : 0 < length (take n f) = search rules in
     let last : c.in-Some.last.now ≡ get_or (take n f) (length (take n f) - 1) 0 = search rules in
     rw (c.is_next.ensures, last)
