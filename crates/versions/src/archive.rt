@@ -1,18 +1,20 @@
 // Archive points into a lent list, in linear time. A run's seen length, by which the marks go, is a lower bound of what the run has seen.
 // Here it is told exactly, as far as archive points need it (`highest`), and they are the starts of the runs that would be marked by that.
-ghost use Rattle.std.specs.Prelude.{◌≡◌, true, ◌||◌, [], ◌∷◌, map, ◌≤◌, ◌<◌, length, get_or, leb, eqb};
+ghost use Rattle.std.specs.Prelude.{◌≡◌, true, false, ◌||◌, map, ◌≤◌, ◌<◌, length, get_or, leb, eqb};
 ghost use Rattle.lists.specs.Lists.{filter, count, upto, below};
+ghost use Rattle.lists.specs.Scans.{max_kept};
 ghost use Rattle.model.specs.Limits.{max_runs};
+ghost use Rattle.model.specs.Answers.{answer_or};
+ghost use Rattle.model.specs.Lookups.{lookup};
 ghost use Rattle.model.specs.Graph.{runs, start};
 ghost use Rattle.model.specs.Record.{view};
-ghost use Rattle.model.specs.Broken.{Held};
-ghost use Rattle.model.specs.Archive.{seen_by_later, archive_points_of};
-ghost use Rattle.graph.specs.Records.{state, same_list, put_all};
+ghost use Rattle.model.specs.Archive.{seen_by_later, archive_points, archive_points_of};
 ghost use Rattle.versions.specs.Parents.{parents_in, runs_in};
 ghost use Rattle.versions.specs.Heads.{noted, note_all, first_children, is_head, highest_by, whole_in, HeadsFit, HeadCounts, SeenLengths};
 
 use crate::rows::ParentRows;
-use graph::records::Records;
+use crate::words::put_fitting;
+use graph::held::HeldGraph;
 use lists::Kept;
 use model::{CausalGraph, EventRunIndex, MAX_RUNS, Refusal, Written};
 
@@ -125,52 +127,45 @@ fn seen_lengths(
     seen
 }
 
-// The starts of some runs, a word each.
-#[tactic(auto, using(crate::proofs::Points::writing), unfolding(crate::proofs::Points::points_of))]
-fn put_points(starts: &[u32], points: &[u32], out: &mut Records)
-    requires { below (length starts.now) points.now ≡ true }
-    ensures same_list { same_list out.new out.old }
-    ensures written { state out.new ≡ put_all 1 (state out.old) (map (λ m. get_or starts.now m 0 ∷ []) points.now) }
+// The starts of some runs.
+#[tactic(auto, using(crate::proofs::Passes::item_below))]
+fn starts_of(starts: &[u32], runs: &[u32]) -> Kept
+    requires there { below (length starts.now) runs.now ≡ true }
+    requires few { length runs.now ≤ max_kept }
+    ensures { result ≡ map (λ r. get_or starts.now r 0) runs.now }
 {
-    for q in points {
-        out.put([starts[*q as usize]]);
+    let mut found = Kept::new();
+    for r in runs {
+        found.push(starts[*r as usize]);
     }
+    found
 }
 
 // The runs that start at archive points.
-#[tactic(auto, using(graph::proofs::Views::facts))]
-fn point_runs(g: &CausalGraph) -> Kept
-    requires { Held g.now }
-    ensures { result ≡ filter (λ q. seen_by_later (view g.now) (start (view g.now) q)) (upto (runs (view g.now))) }
+#[tactic(auto, using(crate::proofs::GraphRows::few_runs))]
+fn point_runs(g: &HeldGraph) -> Kept
+    ensures { result ≡ filter (λ q. seen_by_later (view g.now.graph) (start (view g.now.graph) q)) (upto (runs (view g.now.graph))) }
 {
     let parents = ParentRows::of_graph(g);
     let firsts = first_children(parents);
     let counts = head_counts(&firsts, parents);
-    let seen = seen_lengths(&firsts, &counts, &g.starts, parents);
-    graph::marks::marks_of(&g.starts, &seen, g.run_count)
+    let seen = seen_lengths(&firsts, &counts, &g.graph.starts, parents);
+    graph::marks::marks_of(&g.graph.starts, &seen, g.graph.run_count)
 }
 
-// `archive_points` on a graph that is known not to be broken.
-fn archive_held(g: &CausalGraph, list: &mut [u32]) -> Written
-    requires { Held g.now }
-    ensures { (result, list.new) ≡ archive_points_of g.now list.old }
+// The archive points, rising; or why they are not told.
+fn archive_words(g: CausalGraph) -> Result<Kept, Refusal>
+    ensures { result ≡ answer_or (lookup g false) (archive_points (view g)) }
 {
-    let points = point_runs(g);
-    let mut out = Records::over(list);
-    put_points(&g.starts, points.as_slice(), &mut out);
-    out.written()
+    let g = HeldGraph::of(g)?;
+    let runs = point_runs(&g);
+    Ok(starts_of(&g.graph.starts, runs.as_slice()))
 }
 
-// The archive points into `list`, rising.
-#[tactic(auto, using(model::proofs::Stored::held_of, crate::proofs::ArchiveWays::archive_broken))]
+// The same into `list`.
+#[tactic(auto, using(crate::proofs::ArchiveWays::is_put))]
 pub fn archive_points(g: CausalGraph, list: &mut [u32]) -> Written
     ensures { (result, list.new) ≡ archive_points_of g list.old }
 {
-    if graph::broken::is_broken(g) {
-        return Written {
-            count: 0,
-            outcome: Err(Refusal::Broken),
-        };
-    }
-    archive_held(&g, list)
+    put_fitting(archive_words(g), list)
 }

@@ -1,21 +1,24 @@
 // The parents that give a wanted version, into a lent list, in linear time. A version's events are a run's first events, up to an end, or
 // none of the run; and where a run has some of them, its parent runs have all of theirs. So the marked events are told run by run.
-ghost use Rattle.std.specs.Prelude.{◌≡◌, true, not, cond, ◌&&◌, ◌||◌, ◌+◌, ◌≤◌, length, eqb};
+ghost use Rattle.std.specs.Prelude.{◌≡◌, true, not, cond, ◌&&◌, ◌||◌, ◌+◌, ◌≤◌, length, eqb, Ok, Err};
 ghost use Rattle.lists.specs.Lists.{all, upto, below};
 ghost use Rattle.model.specs.Limits.{max_runs};
+ghost use Rattle.model.specs.Answers.{answer_or};
+ghost use Rattle.model.specs.EventGraph.{closed};
 ghost use Rattle.model.specs.Graph.{all_held};
 ghost use Rattle.model.specs.Record.{view};
-ghost use Rattle.model.specs.Broken.{Held};
-ghost use Rattle.model.specs.Wanted.{events_in, wanted_parents_of};
+ghost use Rattle.model.specs.HeldEvents.{held_events};
+ghost use Rattle.model.specs.Wanted.{events_in, wanted_parents, wanted_parents_of};
 ghost use Rattle.versions.specs.Parents.{parents_in, runs_in};
 ghost use Rattle.versions.specs.Flags.{flag_all};
 ghost use Rattle.versions.specs.Ranges.{flag_marked, marked_whole, tops};
+ghost use Rattle.versions.specs.Words.{wanted_tests};
 
 use crate::concurrent::flag_all;
 use crate::ranges::EventRanges;
 use crate::rows::ParentRows;
 use crate::words::put_all;
-use graph::records::Records;
+use graph::held::HeldGraph;
 use lists::Kept;
 use model::{CausalGraph, EventIndex, EventRunIndex, MAX_RUNS, Refusal, Written};
 
@@ -86,62 +89,43 @@ fn top_events(flags: &[u32], ends: &[u32]) -> Kept
     tops
 }
 
-// `wanted_parents` on a graph that is known not to be broken, and ranges of held events.
-#[tactic(auto, using(graph::proofs::Views::facts))]
-fn wanted_held(g: &CausalGraph, ranges: EventRanges, list: &mut [u32]) -> Written
-    requires held { Held g.now }
-    requires events_held { all_held (view g.now) (events_in ranges.words.now) ≡ true }
-    ensures { (result, list.new) ≡ wanted_parents_of g.now ranges.entry.words.now list.old }
+// The parents that give the events of ranges, all of them held; refused where no parents do.
+#[tactic(auto, using(crate::proofs::GraphRows::few_runs))]
+fn closed_parents(g: &HeldGraph, ranges: EventRanges) -> Result<Kept, Refusal>
+    requires { all_held (view g.now.graph) (events_in ranges.words.now) ≡ true }
+    ensures { result ≡ cond (closed (held_events (view g.now.graph)) (events_in ranges.entry.words.now))
+        (Ok (wanted_parents (view g.now.graph) ranges.entry.words.now)) (Err Refusal.NoSuchParents) }
 {
-    let n = g.run_count;
-    if !ranges.all_clear(&g.starts[..n + 1]) {
-        return Written {
-            count: 0,
-            outcome: Err(Refusal::NoSuchParents),
-        };
+    let n = g.graph.run_count;
+    let starts = &g.graph.starts[..n + 1];
+    if !ranges.all_clear(starts) {
+        return Err(Refusal::NoSuchParents);
     }
-    let ends = ranges.marked_ends(&g.starts[..n + 1]);
+    let ends = ranges.marked_ends(starts);
     let flags = flag_marked(&ends[..n], ParentRows::of_graph(g));
-    if !all_whole(&flags[..n], &ends[..n], &g.starts[..n + 1]) {
-        return Written {
-            count: 0,
-            outcome: Err(Refusal::NoSuchParents),
-        };
+    if !all_whole(&flags[..n], &ends[..n], starts) {
+        return Err(Refusal::NoSuchParents);
     }
-    let found = top_events(&flags[..n], &ends[..n]);
-    if list.len() < found.len() {
-        return Written {
-            count: 0,
-            outcome: Err(Refusal::ListTooShort),
-        };
-    }
-    let mut out = Records::over(list);
-    put_all(found.as_slice(), &mut out);
-    out.written()
+    Ok(top_events(&flags[..n], &ends[..n]))
 }
 
 // The parents to push so that the new event has seen the events of `ranges` (first and end, exclusive, of each in turn), and no others,
-// into `list`, rising.
+// rising; or why they are not told.
+fn wanted_words(g: CausalGraph, ranges: &[u32]) -> Result<Kept, Refusal>
+    ensures { result ≡ answer_or (wanted_tests g ranges.now) (wanted_parents (view g) ranges.now) }
+{
+    let g = HeldGraph::of(g)?;
+    let ranges = EventRanges::of_words(ranges).ok_or(Refusal::NotRising)?;
+    if !ranges.are_within(EventIndex(g.graph.starts[0]), g.len()) {
+        return Err(Refusal::UnknownEvent);
+    }
+    closed_parents(&g, ranges)
+}
+
+// The same into `list`.
+#[tactic(auto, using(crate::proofs::WantedWays::is_put))]
 pub fn wanted_parents(g: CausalGraph, ranges: &[u32], list: &mut [u32]) -> Written
     ensures { (result, list.new) ≡ wanted_parents_of g ranges.now list.old }
 {
-    if graph::broken::is_broken(g) {
-        return Written {
-            count: 0,
-            outcome: Err(Refusal::Broken),
-        };
-    }
-    let Some(ranges) = EventRanges::of_words(ranges) else {
-        return Written {
-            count: 0,
-            outcome: Err(Refusal::NotRising),
-        };
-    };
-    if !ranges.are_within(EventIndex(g.starts[0]), EventIndex(g.starts[g.run_count])) {
-        return Written {
-            count: 0,
-            outcome: Err(Refusal::UnknownEvent),
-        };
-    }
-    wanted_held(&g, ranges, list)
+    put_all(wanted_words(g, ranges), list)
 }

@@ -10,7 +10,7 @@ use Rattle.versions.proofs.concurrent.flags_of.Goals as goal
 pub returns : goal.returns
 unfolding pad
 returns c =
-    let g = c.args.g.now in
+    let g = c.args.g.now.graph in
     let r = c.args.run.0 in
     let all = c.of_graph-parents in
     let rows : ℕ → List ℕ = parents_in all.result in
@@ -18,4 +18,4 @@ returns c =
     let down : c.flag_down.new.flags ≡ flag_down rows (set (pad 512 []) r 1) (r + 1) = c.flag_down.ensures in
     let up : c.flag_up.new.flags ≡ flag_up rows r (flag_down rows (set (pad 512 []) r 1) (r + 1)) (r + 1) (g.run_count - (r + 1)) =
     c.flag_up.ensures ∙ rw (runs, down) refl in
-    subst (λ (l : List ℕ). Flags (view g) r l) (sym up) (passes_flag g c.requires.held r c.requires.run_there rows all.ensures.parents)
+    subst (λ (l : List ℕ). Flags (view g) r l) (sym up) (passes_flag g c.args.g.now.held r c.requires rows all.ensures.parents)
