@@ -27,7 +27,7 @@ use Rattle.graph.specs.Loops.{marks_of}
 use Rattle.graph.proofs.Views.{facts, runs-view, start-view, starts-pad}
 use Rattle.graph.proofs.Entries.{parents-below, parents-rise}
 use Rattle.graph.proofs.Marking.{is_mark, marks-filter}
-use Rattle.versions.specs.Heads.{childless, heads, last_in, highest_by, highest, first_children, is_head, whole_in, HeadsFit, HeadCounts, SeenLengths}
+use Rattle.versions.specs.Heads.{Child, childless, heads, last_in, highest_by, highest, first_children, is_head, whole_in, HeadsFit, HeadCounts, SeenLengths}
 use Rattle.versions.proofs.FirstChildren.{head_is}
 use Rattle.versions.proofs.HeadCounting.{all-heads, count-is, count_fits}
 use Rattle.versions.proofs.ByHeads.{last_mem, last_most, parted_iff}
@@ -49,11 +49,11 @@ module _ (g : CausalGraph) (held : Held g) where
   rise = parents-rise g held
 
   -- By the graph's rows
-  module _ (rows : ℕ → List ℕ) (same : (c : ℕ) → c < n → rows c ≡ at pss c) (firsts : List ℕ) (is : firsts ≡ first_children rows n) where
+  module _ (rows : ℕ → List ℕ) (same : (c : ℕ) → c < n → rows c ≡ at pss c) (firsts : List Child) (is : firsts ≡ first_children rows n) where
     -- First children tell the heads, and the counts how many there are
     told : (m p : ℕ) → m ≤ n → p < n → is_head firsts m p ≡ childless pss m p
     told m p le lt =
-        rw is (head_is rows n (λ c q few k. parents-below g held c q (rw (same c few) at k)) p (omega (arith, (facts g held).runs)) pss m le same)
+        rw is (head_is rows n p (omega (arith, (facts g held).runs)) pss m le same)
 
     pub counts_fit : HeadsFit firsts rows n
     counts_fit = count_fits pss (parents-below g held) rise firsts rows n same told

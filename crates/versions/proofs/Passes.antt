@@ -1,6 +1,6 @@
 -- The loops of the passes that flag runs, turn by turn. Assumes nothing.
-use Rattle.std.proofs.Common.{◌≡◌, refl, sym, ap, Bool, true, false, cond, ◌||◌, List, [], ◌∷◌, ◌++◌, length-append, ℕ, zero, suc, ◌+◌, ◌-◌, ◌<◌, ◌≤◌, add-one, arith, length, get_or, set, take, drop}
-use Rattle.std.proofs.Common.{length-take, drop-cons, get_or-take, ltb, eqb, ltb-true}
+use Rattle.std.proofs.Common.{◌≡◌, refl, sym, ap, Bool, true, false, not, cond, ◌||◌, List, [], ◌∷◌, ◌++◌, length-append, ℕ, zero, suc, ◌+◌, ◌-◌, ◌<◌, ◌≤◌, add-one, arith, length, get_or, set, take, drop}
+use Rattle.std.proofs.Common.{length-take, drop-cons, get_or-take, ltb, ltb-true}
 use Rattle.std.proofs.lemmas.List.{drop_all}
 use Rattle.std.specs.List.{list_any}
 use Rattle.lists.specs.Lists.{any, filter, from, upto, below}
@@ -23,11 +23,11 @@ module _ (xs : List ℕ) (i : ℕ) where
   unfolding below
   item_below n e h = ltb-true (get_or xs i 0) n (all_get_d (λ x. ltb x n) xs i e h)
 
-  pub flag_next : (flags : List ℕ) → i < length xs → flag_all (set flags (get_or xs i 0) 1) (drop (i + 1) xs) ≡ flag_all flags (drop i xs)
+  pub flag_next : (flags : List Bool) → i < length xs → flag_all (set flags (get_or xs i 0) true) (drop (i + 1) xs) ≡ flag_all flags (drop i xs)
   unfolding flag_all
   flag_next flags h = sym (ap (flag_all flags) (left-first h))
 
-  pub flag_none : (flags : List ℕ) → length xs ≤ i → flags ≡ flag_all flags (drop i xs)
+  pub flag_none : (flags : List Bool) → length xs ≤ i → flags ≡ flag_all flags (drop i xs)
   unfolding flag_all
   flag_none flags h = sym (ap (flag_all flags) (left_none h))
 
@@ -43,22 +43,22 @@ row_below starts items n m r rows h le = below_of m (row starts items r) (λ x k
 
 module _ (rows : ℕ → List ℕ) where
   -- The way down
-  pub down_next : (flags : List ℕ) (c : ℕ) → 0 < c → flag_down rows (flag_parents rows flags (c - 1)) (c - 1) ≡ flag_down rows flags c
+  pub down_next : (flags : List Bool) (c : ℕ) → 0 < c → flag_down rows (flag_parents rows flags (c - 1)) (c - 1) ≡ flag_down rows flags c
   unfolding flag_down
   down_next flags zero h = absurd (omega arith)
   down_next flags (suc c) h = let e : suc c - 1 ≡ c = omega arith in rw e
 
-  pub down_none : (flags : List ℕ) (c : ℕ) → c ≤ 0 → flag_down rows flags c ≡ flags
+  pub down_none : (flags : List Bool) (c : ℕ) → c ≤ 0 → flag_down rows flags c ≡ flags
   unfolding flag_down
   down_none flags zero h = refl
   down_none flags (suc c) h = absurd (omega arith)
 
   -- The way up
-  pub up_next : (r : ℕ) (flags : List ℕ) (q n : ℕ) → q < n → flag_up rows r (flag_child rows r flags q) (q + 1) (n - (q + 1)) ≡ flag_up rows r flags q (n - q)
+  pub up_next : (r : ℕ) (flags : List Bool) (q n : ℕ) → q < n → flag_up rows r (flag_child rows r flags q) (q + 1) (n - (q + 1)) ≡ flag_up rows r flags q (n - q)
   unfolding flag_up
   up_next r flags q n h = let e : n - q ≡ suc (n - (q + 1)) = omega arith in rw (e, add-one q)
 
-  pub up_none : (r : ℕ) (flags : List ℕ) (q n : ℕ) → n ≤ q → flag_up rows r flags q (n - q) ≡ flags
+  pub up_none : (r : ℕ) (flags : List Bool) (q n : ℕ) → n ≤ q → flag_up rows r flags q (n - q) ≡ flags
   unfolding flag_up
   up_none r flags q n h = let e : n - q ≡ 0 = omega arith in rw e
 
@@ -72,29 +72,29 @@ few_pass p (suc n) = rw (upto_snoc n, filter_snoc p (upto n) n) (go (p n) (few_p
     go false h = omega arith
 
 -- The runs with no flag, run by run
-module _ (flags : List ℕ) where
-  free-next : (q : ℕ) → free flags (suc q) ≡ cond (eqb (get_or flags q 0) 0) (free flags q ++ q ∷ []) (free flags q)
+module _ (flags : List Bool) where
+  free-next : (q : ℕ) → free flags (suc q) ≡ cond (not (get_or flags q false)) (free flags q ++ q ∷ []) (free flags q)
   unfolding free
-  free-next q = rw (upto_snoc q) (filter_snoc (λ p. eqb (get_or flags p 0) 0) (upto q) q)
+  free-next q = rw (upto_snoc q) (filter_snoc (λ p. not (get_or flags p false)) (upto q) q)
 
   pub free_few : (q : ℕ) → length (free flags q) ≤ q
   unfolding free
-  free_few q = few_pass (λ p. eqb (get_or flags p 0) 0) q
+  free_few q = few_pass (λ p. not (get_or flags p false)) q
 
   pub free-start : [] ≡ free flags 0
   unfolding free upto from filter
   free-start = refl
 
-  pub free_turn : (q : ℕ) (found : List ℕ) (t : Bool) → t ≡ eqb (get_or flags q 0) 0 → found ≡ free flags q → cond t (found ++ q ∷ []) found ≡ free flags (q + 1)
+  pub free_turn : (q : ℕ) (found : List ℕ) (t : Bool) → t ≡ not (get_or flags q false) → found ≡ free flags q → cond t (found ++ q ∷ []) found ≡ free flags (q + 1)
   free_turn q found t e f = rw (f, e, add-one q, free-next q)
 
 -- of as many flags as there are runs
-pub free_part : (flags : List ℕ) (n : ℕ) → n ≤ length flags → free (take n flags) (length (take n flags)) ≡ free flags n
+pub free_part : (flags : List Bool) (n : ℕ) → n ≤ length flags → free (take n flags) (length (take n flags)) ≡ free flags n
 unfolding free upto
 free_part flags n fits =
     let long : length (take n flags) ≡ n = omega (arith, length-take n flags) in
-    rw long (filter_agree (λ q. eqb (get_or (take n flags) q 0) 0) (λ q. eqb (get_or flags q 0) 0) (from 0 n) (λ q m.
-    ap (λ (f : ℕ). eqb f 0) (get_or-take n flags q 0 (omega (arith, (mem-from q 0 n m).1)))))
+    rw long (filter_agree (λ q. not (get_or (take n flags) q false)) (λ q. not (get_or flags q false)) (from 0 n) (λ q m.
+    ap not (get_or-take n flags q false (omega (arith, (mem-from q 0 n m).1)))))
 
 -- What the loops that flag runs, and that find those without a flag, go by
 pub ruleset flagging = (item_below, flag_next, flag_none)

@@ -1,5 +1,5 @@
 -- What the passes find are the wanted parents, and written they are what the call's definition says. Assumes nothing.
-use Rattle.std.proofs.Common.{◌≡◌, refl, sym, ap, ◌∙◌, Bool, true, false, not, cond, ◌&&◌, ◌||◌, List, [], ◌∷◌, ltb, map, ℕ, suc, ◌+◌, ◌-◌, ◌≤◌, ◌<◌, arith, length, get_or, take, length-take, get_or-take, eqb}
+use Rattle.std.proofs.Common.{◌≡◌, refl, sym, ap, ◌∙◌, Bool, true, false, not, cond, ◌&&◌, ◌||◌, List, [], ◌∷◌, ltb, map, ℕ, suc, ◌+◌, ◌-◌, ◌≤◌, ◌<◌, arith, length, get_or, take, length-take, get_or-take, None, is_some}
 use Rattle.lists.specs.Lists.{all, upto, mem}
 use Rattle.lists.specs.Areas.{over}
 use Rattle.lists.proofs.Truth.{false_true, not_so}
@@ -20,7 +20,7 @@ use Rattle.model.specs.Answers.{answer_or}
 use Rattle.model.specs.Wanted.{events_in, ranges, wanted_parents, wanted_outcome, wanted_parents_of}
 use Rattle.model.proofs.FormedReads.{start_mono}
 use Rattle.graph.proofs.Views.{facts, runs-view, start-view, first-view}
-use Rattle.versions.specs.Ranges.{words_within, clear_in, Ends, flag_marked, marked_whole, is_top, tops, Starts}
+use Rattle.versions.specs.Ranges.{End, end_number, ends_at, words_within, clear_in, Ends, flag_marked, marked_whole, is_top, tops, Starts}
 use Rattle.versions.specs.Words.{all_put, wanted_tests}
 use Rattle.versions.proofs.Writing.{fits_last}
 use Rattle.versions.proofs.RangeWords.{held-within}
@@ -53,8 +53,8 @@ module _ (g : CausalGraph) (held : Held g) where
       })
 
 -- What is read of flags, of n runs, is the same of other flags that agree below n
-module _ (flags fs ends starts : List ℕ) (n : ℕ) (agree : (r : ℕ) → r < n → get_or flags r 0 ≡ get_or fs r 0) where
-  below-n : (r : ℕ) → mem r (upto n) ≡ true → get_or flags r 0 ≡ get_or fs r 0
+module _ (flags fs : List Bool) (ends : List End) (starts : List ℕ) (n : ℕ) (agree : (r : ℕ) → r < n → get_or flags r false ≡ get_or fs r false) where
+  below-n : (r : ℕ) → mem r (upto n) ≡ true → get_or flags r false ≡ get_or fs r false
   unfolding upto
   below-n r m = agree r (omega (arith, (mem-from r 0 n m).1))
 
@@ -62,13 +62,13 @@ module _ (flags fs ends starts : List ℕ) (n : ℕ) (agree : (r : ℕ) → r < 
   unfolding marked_whole
   whole-same =
       all_same (marked_whole flags ends starts) (marked_whole fs ends starts) (upto n) (λ r m.
-      ap (λ (f : ℕ). eqb f 0 || eqb (get_or ends r 0) (get_or starts (suc r) 0)) (below-n r m))
+      ap (λ (f : Bool). not f || ends_at (get_or ends r None) (get_or starts (suc r) 0)) (below-n r m))
 
   tops_same : tops flags ends n ≡ tops fs ends n
   unfolding tops is_top
   tops_same =
-      ap (map (λ r. get_or ends r 0 - 1)) (filter_agree (is_top flags ends) (is_top fs ends) (upto n) (λ r m.
-      ap (λ (f : ℕ). not (eqb (get_or ends r 0) 0) && eqb f 0) (below-n r m)))
+      ap (map (λ r. end_number (get_or ends r None) - 1)) (filter_agree (is_top flags ends) (is_top fs ends) (upto n) (λ r m.
+      ap (λ (f : Bool). is_some (get_or ends r None) && not f) (below-n r m)))
 
 -- The parents, or why they are not told, written: what the call's definition says
 pub is_put : (g : CausalGraph) (ws lent : List ℕ) → all_put (answer_or (wanted_tests g ws) (wanted_parents (view g) ws)) lent ≡ wanted_parents_of g ws lent
@@ -141,13 +141,13 @@ module _ (g : CausalGraph) (ws : List ℕ) where
 
       -- The ends and the flags of as many runs as there are, out of longer lists
       module _ (clear : all (clear_in starts ws) (upto (length starts - 1)) ≡ true)
-          (all_ends : List ℕ) (filled : Ends starts ws (length starts - 1) all_ends) (long : n ≤ length all_ends)
+          (all_ends : List End) (filled : Ends starts ws (length starts - 1) all_ends) (long : n ≤ length all_ends)
           (rows : ℕ → List ℕ) (each : (r : ℕ) → r < n → rows r ≡ at G.parents r)
-          (all_flags : List ℕ) (flagged : all_flags ≡ flag_marked rows (take n all_ends) (length (take n all_ends))) where
-        abbrev ends : List ℕ
+          (all_flags : List Bool) (flagged : all_flags ≡ flag_marked rows (take n all_ends) (length (take n all_ends))) where
+        abbrev ends : List End
         ends = take n all_ends
 
-        abbrev flags : List ℕ
+        abbrev flags : List Bool
         flags = take n all_flags
 
         agree : (r : ℕ) → r < runs G → rows r ≡ at G.parents r
@@ -160,13 +160,13 @@ module _ (g : CausalGraph) (ws : List ℕ) where
         few = omega (arith, (facts g held).runs, runs-view g held)
 
         filled_all : Ends starts ws (runs G) ends
-        filled_all r lt = get_or-take n all_ends r 0 (omega (arith, runs-view g held)) ∙ filled r (omega (arith, runs_are))
+        filled_all r lt = get_or-take n all_ends r None (omega (arith, runs-view g held)) ∙ filled r (omega (arith, runs_are))
 
         long_ends : length ends ≡ runs G
         long_ends = omega (arith, length-take n all_ends, runs-view g held)
 
-        told : (r : ℕ) → r < runs G → get_or flags r 0 ≡ get_or (flag_marked rows ends (runs G)) r 0
-        told r lt = get_or-take n all_flags r 0 (omega (arith, runs-view g held)) ∙ ap (λ (fs : List ℕ). get_or fs r 0) (flagged ∙ ap (flag_marked rows ends) long_ends)
+        told : (r : ℕ) → r < runs G → get_or flags r false ≡ get_or (flag_marked rows ends (runs G)) r false
+        told r lt = get_or-take n all_flags r false (omega (arith, runs-view g held)) ∙ ap (λ (fs : List Bool). get_or fs r false) (flagged ∙ ap (flag_marked rows ends) long_ends)
 
         -- 17, a parent run of a run with marked events is not marked whole
         pub whole_is : closed (held_events G) (events_in ws) ≡ all (marked_whole flags ends starts) (upto (length ends))

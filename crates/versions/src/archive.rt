@@ -1,6 +1,6 @@
 // Archive points into a lent list, in linear time. A run's seen length, by which the marks go, is a lower bound of what the run has seen.
 // Here it is told exactly, as far as archive points need it (`highest`), and they are the starts of the runs that would be marked by that.
-ghost use Rattle.std.specs.Prelude.{◌≡◌, true, false, ◌||◌, map, ◌≤◌, ◌<◌, length, get_or, leb, eqb};
+ghost use Rattle.std.specs.Prelude.{◌≡◌, true, false, map, ◌≤◌, ◌<◌, length, get_or, All};
 ghost use Rattle.lists.specs.Lists.{filter, count, upto, below};
 ghost use Rattle.lists.specs.Scans.{max_kept};
 ghost use Rattle.model.specs.Limits.{max_runs};
@@ -10,7 +10,7 @@ ghost use Rattle.model.specs.Graph.{runs, start};
 ghost use Rattle.model.specs.Record.{view};
 ghost use Rattle.model.specs.Archive.{seen_by_later, archive_points, archive_points_of};
 ghost use Rattle.versions.specs.Parents.{parents_in, runs_in};
-ghost use Rattle.versions.specs.Heads.{noted, note_all, first_children, is_head, highest_by, whole_in, HeadsFit, HeadCounts, SeenLengths};
+ghost use Rattle.versions.specs.Heads.{noted, note_all, first_children, none_below, is_head, highest_by, whole_in, HeadsFit, HeadCounts, SeenLengths};
 
 use crate::rows::ParentRows;
 use crate::words::put_fitting;
@@ -18,17 +18,17 @@ use graph::held::HeldGraph;
 use lists::Kept;
 use model::{CausalGraph, EventRunIndex, MAX_RUNS, Refusal, Written};
 
-// A run's first child once `child` is noted as one, where `first` was the first so far (0 where it had none).
+// A run's first child once `child` is noted as one.
 #[tactic(auto, unfolding(crate::specs::Heads::noted))]
-fn noted(first: u32, child: EventRunIndex) -> u32
+fn noted(first: Option<EventRunIndex>, child: EventRunIndex) -> Option<EventRunIndex>
     ensures { result ≡ noted first child.0 }
 {
-    if first == 0 { child.0 } else { first }
+    first.or(Some(child))
 }
 
 // Notes `child` as a child of its parents.
 #[tactic(auto, using(crate::proofs::HeadTurns::noting))]
-fn note_child(firsts: &mut [u32], parents: &[u32], child: EventRunIndex)
+fn note_child(firsts: &mut [Option<EventRunIndex>], parents: &[u32], child: EventRunIndex)
     requires { below (length firsts.old) parents.now ≡ true }
     ensures { firsts.new ≡ note_all firsts.old child.0 parents.now }
 {
@@ -40,10 +40,10 @@ fn note_child(firsts: &mut [u32], parents: &[u32], child: EventRunIndex)
 
 // The first child of each of some runs.
 #[tactic(auto, using(crate::proofs::HeadTurns::children))]
-fn first_children(parents: ParentRows) -> [u32; MAX_RUNS]
+fn first_children(parents: ParentRows) -> [Option<EventRunIndex>; MAX_RUNS]
     ensures { result ≡ first_children (parents_in parents.entry) (runs_in parents.entry) }
 {
-    let mut firsts = [0; MAX_RUNS];
+    let mut firsts = [None; MAX_RUNS];
     for q in 0..parents.len() {
         note_child(&mut firsts, parents.of(q), EventRunIndex(q as u32));
     }
@@ -51,28 +51,28 @@ fn first_children(parents: ParentRows) -> [u32; MAX_RUNS]
 }
 
 // Whether a run with this first child has no child below `run`.
-fn is_head(first: u32, run: EventRunIndex) -> bool
-    ensures { result ≡ eqb first 0 || leb run.0 first }
+#[tactic(auto, unfolding(crate::specs::Heads::none_below))]
+fn is_head(first: Option<EventRunIndex>, run: EventRunIndex) -> bool
+    ensures { result ≡ none_below run.0 first }
 {
-    first == 0 || run.0 <= first
+    first.is_none_or(|child| run <= child)
 }
 
 // How many of some runs have no child below `run`.
-#[tactic(auto, using(crate::proofs::HeadTurns::counting), unfolding(crate::specs::Heads::is_head))]
-fn count_heads(firsts: &[u32], parents: &[u32], run: EventRunIndex) -> usize
-    requires { below (length firsts.now) parents.now ≡ true }
+#[tactic(auto, using(crate::proofs::HeadTurns::count_is), unfolding(crate::specs::Heads::is_head))]
+fn count_heads(firsts: &[Option<EventRunIndex>], parents: &[u32], run: EventRunIndex) -> usize
+    requires { All (λ p. p < length firsts.now) parents.now }
     ensures { result ≡ count (is_head firsts.now run.0) parents.now }
 {
-    let mut k = 0;
-    for p in parents {
-        k += usize::from(is_head(firsts[*p as usize], run));
-    }
-    k
+    parents
+        .iter()
+        .filter(|p| is_head(firsts[**p as usize], run))
+        .count()
 }
 
 // How many heads lie below each of some runs: the runs below it that have no child below it.
 #[tactic(auto, using(crate::proofs::HeadTurns::heads_on))]
-fn head_counts(firsts: &[u32; MAX_RUNS], parents: ParentRows) -> [u32; MAX_RUNS]
+fn head_counts(firsts: &[Option<EventRunIndex>; MAX_RUNS], parents: ParentRows) -> [u32; MAX_RUNS]
     requires { HeadsFit firsts.now (parents_in parents) (runs_in parents) }
     ensures { HeadCounts firsts.now (parents_in parents.entry) (runs_in parents.entry) result }
 {
@@ -89,12 +89,12 @@ fn head_counts(firsts: &[u32; MAX_RUNS], parents: ParentRows) -> [u32; MAX_RUNS]
 // them, if all heads below it are among them, so that `run` has seen every run below it; else the last parent.
 #[tactic(auto, using(crate::proofs::HeadTurns::last_parent), unfolding(crate::specs::Heads::whole_in))]
 fn highest(
-    firsts: &[u32; MAX_RUNS],
+    firsts: &[Option<EventRunIndex>; MAX_RUNS],
     counts: &[u32; MAX_RUNS],
     parents: &[u32],
     run: EventRunIndex,
 ) -> EventRunIndex
-    requires low { below run.0 parents.now ≡ true }
+    requires low { All (λ p. p < run.0) parents.now }
     requires run_there { run.0 < max_runs }
     ensures { (result.0 ≡ highest_by (whole_in firsts.now counts.now) parents.now) × (result.0 ≤ run.0) }
 {
@@ -110,8 +110,9 @@ fn highest(
 }
 
 // How far each of some runs has seen, as far as archive points need it: up to the start of the run that `highest` tells.
+#[tactic(auto, using(crate::proofs::HeadTurns::row_each))]
 fn seen_lengths(
-    firsts: &[u32; MAX_RUNS],
+    firsts: &[Option<EventRunIndex>; MAX_RUNS],
     counts: &[u32; MAX_RUNS],
     events: &[u32],
     parents: ParentRows,

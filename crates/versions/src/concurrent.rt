@@ -19,30 +19,29 @@ use model::{CausalGraph, EventRunIndex, MAX_RUNS, Refusal, Written};
 
 // Flags some runs.
 #[tactic(auto, using(crate::proofs::Passes::flagging))]
-pub(crate) fn flag_all(flags: &mut [u32], runs: &[u32])
+pub(crate) fn flag_all(flags: &mut [bool], runs: &[u32])
     requires { below (length flags.old) runs.now ≡ true }
     ensures { flags.new ≡ flag_all flags.old runs.now }
 {
     for p in runs {
-        flags[*p as usize] = 1;
+        flags[*p as usize] = true;
     }
 }
 
 // The parents of a run are flagged if it is.
 #[tactic(auto, using(crate::proofs::Passes::row_below), unfolding(crate::specs::Flags::flag_parents))]
-fn flag_parents(flags: &mut [u32; MAX_RUNS], parents: ParentRows, run: EventRunIndex)
+fn flag_parents(flags: &mut [bool; MAX_RUNS], parents: ParentRows, run: EventRunIndex)
     requires { run.0 < runs_in parents }
     ensures { flags.new ≡ flag_parents (parents_in parents.entry) flags.old run.0 }
 {
-    if flags[run.0 as usize] == 0 {
-        return;
+    if flags[run.0 as usize] {
+        flag_all(flags, parents.of(run.0 as usize));
     }
-    flag_all(flags, parents.of(run.0 as usize))
 }
 
 // The same of the runs before `end`, from the last down.
 #[tactic(auto, using(crate::proofs::Passes::down_next, crate::proofs::Passes::down_none))]
-fn flag_down(flags: &mut [u32; MAX_RUNS], parents: ParentRows, end: EventRunIndex)
+fn flag_down(flags: &mut [bool; MAX_RUNS], parents: ParentRows, end: EventRunIndex)
     requires { end.0 ≤ runs_in parents }
     ensures { flags.new ≡ flag_down (parents_in parents.entry) flags.old end.0 }
 {
@@ -51,16 +50,16 @@ fn flag_down(flags: &mut [u32; MAX_RUNS], parents: ParentRows, end: EventRunInde
     }
 }
 
-// Whether a number is at least `run` and flagged.
+// Whether a number is not below `run`, and flagged.
 #[tactic(auto, using(std::proofs::lemmas::Option::gets), unfolding(crate::specs::Flags::flagged))]
-fn is_flagged(flags: &[u32], run: EventRunIndex, p: EventRunIndex) -> bool
+fn is_flagged(flags: &[bool], run: EventRunIndex, p: EventRunIndex) -> bool
     ensures { result ≡ flagged flags.now run.0 p.0 }
 {
-    run.0 <= p.0 && flags.get(p.0 as usize).copied().unwrap_or(0) != 0
+    run <= p && flags.get(p.0 as usize).copied().unwrap_or(false)
 }
 
 // Whether such a number is among some runs.
-fn has_flagged(flags: &[u32], run: EventRunIndex, runs: &[u32]) -> bool
+fn has_flagged(flags: &[bool], run: EventRunIndex, runs: &[u32]) -> bool
     ensures { result ≡ list_any (flagged flags.now run.0) runs.now }
 {
     runs.iter()
@@ -68,9 +67,9 @@ fn has_flagged(flags: &[u32], run: EventRunIndex, runs: &[u32]) -> bool
 }
 
 // A run is flagged if it has such a parent.
-#[tactic(auto, using(crate::proofs::Passes::any_is, crate::proofs::HeadTurns::byte_bit), unfolding(crate::specs::Flags::flag_child))]
+#[tactic(auto, using(crate::proofs::Passes::any_is), unfolding(crate::specs::Flags::flag_child))]
 fn flag_child(
-    flags: &mut [u32; MAX_RUNS],
+    flags: &mut [bool; MAX_RUNS],
     run: EventRunIndex,
     parents: ParentRows,
     q: EventRunIndex,
@@ -79,13 +78,13 @@ fn flag_child(
     ensures { flags.new ≡ flag_child (parents_in parents.entry) run.0 flags.old q.0 }
 {
     let flag = has_flagged(flags, run, parents.of(q.0 as usize));
-    flags[q.0 as usize] = u32::from(flag);
+    flags[q.0 as usize] = flag;
 }
 
 // The same of the runs from `from` on.
 #[tactic(auto, using(crate::proofs::Passes::up_next, crate::proofs::Passes::up_none))]
 fn flag_up(
-    flags: &mut [u32; MAX_RUNS],
+    flags: &mut [bool; MAX_RUNS],
     run: EventRunIndex,
     parents: ParentRows,
     from: EventRunIndex,
@@ -98,14 +97,14 @@ fn flag_up(
 }
 
 // A flag for each run that is an ancestor of `run`, `run` itself, or a descendant.
-fn flags_of(g: &HeldGraph, run: EventRunIndex) -> [u32; MAX_RUNS]
+fn flags_of(g: &HeldGraph, run: EventRunIndex) -> [bool; MAX_RUNS]
     requires { run.0 < g.now.graph.run_count }
     ensures { Flags (view g.now.graph) run.0 result }
 {
     let parents = ParentRows::of_graph(g);
     let next = EventRunIndex(run.0 + 1);
-    let mut flags = [0; MAX_RUNS];
-    flags[run.0 as usize] = 1;
+    let mut flags = [false; MAX_RUNS];
+    flags[run.0 as usize] = true;
     flag_down(&mut flags, parents, next);
     flag_up(&mut flags, run, parents, next);
     flags
@@ -113,13 +112,13 @@ fn flags_of(g: &HeldGraph, run: EventRunIndex) -> [u32; MAX_RUNS]
 
 // The runs that have no flag.
 #[tactic(auto, using(crate::proofs::Passes::freeing))]
-fn free_runs(flags: &[u32]) -> Kept
+fn free_runs(flags: &[bool]) -> Kept
     requires { length flags.now ≤ max_runs }
     ensures { result ≡ free flags.now (length flags.now) }
 {
     let mut runs = Kept::new();
     for (q, flag) in flags.iter().enumerate() {
-        runs.push_if(*flag == 0, q as u32);
+        runs.push_if(!*flag, q as u32);
     }
     runs
 }

@@ -82,23 +82,24 @@ impl<'a> EventRanges<'a> {
         true
     }
 
-    // The end of what is marked from an event up to `end`, where k words are at most that event; 0 if it is not marked.
+    // The end of what is marked from an event up to `end`, where k words are at most that event, if it is marked.
     #[tactic(auto, using(std::proofs::lemmas::Option::gets), unfolding(crate::specs::Ranges::end_at, crate::specs::Ranges::is_odd))]
-    fn end_at(self, k: usize, end: EventIndex) -> u32
+    fn end_at(self, k: usize, end: EventIndex) -> Option<EventIndex>
         ensures { result ≡ end_at self.entry.words.now k end.0 }
     {
         if k % 2 == 0 {
-            return 0;
+            return None;
         }
-        end.0.min(self.words.get(k).copied().unwrap_or(0))
+        let word = self.words.get(k).copied().unwrap_or(0);
+        Some(EventIndex(word.min(end.0)))
     }
 
-    // The end of what is marked of each run; 0 if its first event is not.
-    pub(crate) fn marked_ends(self, starts: &[u32]) -> [u32; MAX_RUNS]
+    // The end of what is marked of each run, if its first event is.
+    pub(crate) fn marked_ends(self, starts: &[u32]) -> [Option<EventIndex>; MAX_RUNS]
         requires { Starts starts.now (length starts.now - 1) }
         ensures { Ends starts.now self.entry.words.now (length starts.now - 1) result }
     {
-        let mut ends = [0; MAX_RUNS];
+        let mut ends = [None; MAX_RUNS];
         let mut k = 0;
         for r in 0..starts.len() - 1 {
             k = self.place(k, EventIndex(starts[r]));

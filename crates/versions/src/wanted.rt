@@ -1,6 +1,6 @@
 // The parents that give a wanted version, into a lent list, in linear time. A version's events are a run's first events, up to an end, or
 // none of the run; and where a run has some of them, its parent runs have all of theirs. So the marked events are told run by run.
-ghost use Rattle.std.specs.Prelude.{◌≡◌, true, not, cond, ◌&&◌, ◌||◌, ◌+◌, ◌≤◌, length, eqb, Ok, Err};
+ghost use Rattle.std.specs.Prelude.{◌≡◌, true, not, cond, ◌&&◌, ◌||◌, ◌+◌, ◌-◌, ◌≤◌, length, Ok, Err, Some, None, is_some};
 ghost use Rattle.lists.specs.Lists.{all, upto, below};
 ghost use Rattle.model.specs.Limits.{max_runs};
 ghost use Rattle.model.specs.Answers.{answer_or};
@@ -11,7 +11,7 @@ ghost use Rattle.model.specs.HeldEvents.{held_events};
 ghost use Rattle.model.specs.Wanted.{events_in, wanted_parents, wanted_parents_of};
 ghost use Rattle.versions.specs.Parents.{parents_in, runs_in};
 ghost use Rattle.versions.specs.Flags.{flag_all};
-ghost use Rattle.versions.specs.Ranges.{flag_marked, marked_whole, tops};
+ghost use Rattle.versions.specs.Ranges.{end_number, ends_at, flag_marked, marked_whole, tops};
 ghost use Rattle.versions.specs.Words.{wanted_tests};
 
 use crate::concurrent::flag_all;
@@ -22,24 +22,23 @@ use graph::held::HeldGraph;
 use lists::Kept;
 use model::{CausalGraph, EventIndex, EventRunIndex, MAX_RUNS, Refusal, Written};
 
-// Flags some runs, if `end` is not 0.
-fn flag_if(end: u32, flags: &mut [u32], runs: &[u32])
+// Flags some runs, if there is an end.
+fn flag_if(end: Option<EventIndex>, flags: &mut [bool], runs: &[u32])
     requires { below (length flags.old) runs.now ≡ true }
-    ensures { flags.new ≡ cond (eqb end 0) flags.old (flag_all flags.old runs.now) }
+    ensures { flags.new ≡ cond (is_some end) (flag_all flags.old runs.now) flags.old }
 {
-    if end == 0 {
-        return;
+    if end.is_some() {
+        flag_all(flags, runs);
     }
-    flag_all(flags, runs)
 }
 
 // A flag for each parent of a run of which something is marked.
 #[tactic(auto, using(crate::proofs::Passes::row_below))]
-fn flag_marked(ends: &[u32], parents: ParentRows) -> [u32; MAX_RUNS]
+fn flag_marked(ends: &[Option<EventIndex>], parents: ParentRows) -> [bool; MAX_RUNS]
     requires { runs_in parents ≡ length ends.now }
     ensures { result ≡ flag_marked (parents_in parents.entry) ends.now (length ends.now) }
 {
-    let mut flags = [0; MAX_RUNS];
+    let mut flags = [false; MAX_RUNS];
     for (r, end) in ends.iter().enumerate() {
         flag_if(*end, &mut flags, parents.of(r));
     }
@@ -47,44 +46,51 @@ fn flag_marked(ends: &[u32], parents: ParentRows) -> [u32; MAX_RUNS]
 }
 
 // Whether a run is not flagged, or what is marked of it ends where the next run starts.
-fn is_whole(flag: u32, end: u32, next: u32) -> bool
-    ensures { result ≡ eqb flag 0 || eqb end next }
+#[tactic(auto, unfolding(crate::specs::Ranges::ends_at))]
+fn is_whole(flag: bool, end: Option<EventIndex>, next: EventIndex) -> bool
+    ensures { result ≡ not flag || ends_at end next.0 }
 {
-    flag == 0 || end == next
+    !flag || end == Some(next)
 }
 
 // Whether all of each flagged run is marked.
 #[tactic(auto, using(crate::proofs::RangeTurns::testing), unfolding(crate::specs::Ranges::marked_whole))]
-fn all_whole(flags: &[u32], ends: &[u32], starts: &[u32]) -> bool
+fn all_whole(flags: &[bool], ends: &[Option<EventIndex>], starts: &[u32]) -> bool
     requires flags_reach { length flags.now ≡ length ends.now }
     requires starts_reach { length starts.now ≡ length ends.now + 1 }
     ensures { result ≡ all (marked_whole flags.now ends.now starts.now) (upto (length ends.now)) }
 {
     for (r, end) in ends.iter().enumerate() {
-        if !is_whole(flags[r], *end, starts[r + 1]) {
+        if !is_whole(flags[r], *end, EventIndex(starts[r + 1])) {
             return false;
         }
     }
     true
 }
 
-// Whether something is marked of a run that is not flagged.
-fn is_top(flag: u32, end: u32) -> bool
-    ensures { result ≡ not (eqb end 0) && eqb flag 0 }
+// The last marked event of a run that is not flagged.
+#[tactic(auto, unfolding(crate::specs::Ranges::end_number))]
+fn top_event(flag: bool, end: Option<EventIndex>) -> Option<EventIndex>
+    ensures { result ≡ cond (is_some end && not flag) (Some (record { 0 = end_number end - 1 })) None }
 {
-    end != 0 && flag == 0
+    if flag {
+        return None;
+    }
+    end.map(|e| EventIndex(e.0.saturating_sub(1)))
 }
 
 // The last marked events of the runs of which something is marked and that are not flagged.
 #[tactic(auto, using(crate::proofs::RangeTurns::topping), unfolding(crate::specs::Ranges::is_top))]
-fn top_events(flags: &[u32], ends: &[u32]) -> Kept
+fn top_events(flags: &[bool], ends: &[Option<EventIndex>]) -> Kept
     requires few { length ends.now ≤ max_runs }
     requires flags_reach { length flags.now ≡ length ends.now }
     ensures { result ≡ tops flags.now ends.now (length ends.now) }
 {
     let mut tops = Kept::new();
     for (r, end) in ends.iter().enumerate() {
-        tops.push_if(is_top(flags[r], *end), end.saturating_sub(1));
+        if let Some(last) = top_event(flags[r], *end) {
+            tops.push(last.0);
+        }
     }
     tops
 }

@@ -1,6 +1,6 @@
 -- `versions::concurrent::concurrent_words` meets its contract: refused where the graph is broken or has no such run; else the runs without a
 -- flag. Assumes nothing.
-use Rattle.std.proofs.Common.{length-take, ◌∙◌, ap, ℕ, arith, le-leb, Ok}
+use Rattle.std.proofs.Common.{length-take, ◌∙◌, ap, Bool, arith, le-leb, Ok}
 use borrow.Author.Tests.{lt-leb}
 use Rattle.std.proofs.lemmas.Result.{err_from_is_err_and}
 use Rattle.model.specs.Graph.{runs}
@@ -27,7 +27,7 @@ returns-then-n-run c =
     (rw (look_outside g same.1 _ (le-leb (runs (view g)) c.args.run.0 (omega (arith, runs-view g k.held, c.if-n-run.true)))))
 
 pub slice_bounds-free_runs-end : goal.slice_bounds-free_runs-end
-slice_bounds-free_runs-end c = omega (arith, few_runs c.in_ok-g.g.graph c.in_ok-g.g.held, length-take {A = ℕ})
+slice_bounds-free_runs-end c = omega (arith, few_runs c.in_ok-g.g.graph c.in_ok-g.g.held, length-take {A = Bool})
 
 pub returns : goal.returns
 returns c =

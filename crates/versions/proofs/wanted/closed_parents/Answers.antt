@@ -1,6 +1,7 @@
 -- `versions::wanted::closed_parents` meets its contract: refused where a range begins inside a run or a parent run is not whole. Assumes nothing.
-use Rattle.std.proofs.Common.{◌≤◌, ℕ, length, length-take, sym, ◌∙◌, ap, arith, Ok}
+use Rattle.std.proofs.Common.{◌≤◌, length, length-take, sym, ◌∙◌, ap, arith, Ok}
 use Rattle.versions.specs.Parents.{parents_in}
+use Rattle.versions.specs.Ranges.{End}
 use Rattle.versions.proofs.GraphRows.{few_runs}
 use Rattle.versions.proofs.WantedWays.{starts_of, wanted_inside, whole_is, tops_wanted}
 use Rattle.versions.proofs.wanted.closed_parents.Goals as goal
@@ -18,7 +19,7 @@ pub marked_ends-ends-requires : goal.marked_ends-ends-requires
 marked_ends-ends-requires c = let h = c.args.g.now in starts_of h.graph h.held
 
 pub slice_bounds-flag_marked-end : goal.slice_bounds-flag_marked-end
-slice_bounds-flag_marked-end c = omega (arith, few_runs c.args.g.now.graph c.args.g.now.held, length-take {A = ℕ})
+slice_bounds-flag_marked-end c = omega (arith, few_runs c.args.g.now.graph c.args.g.now.held, length-take {A = End})
 
 pub returns-then-not-all_whole : goal.returns-then-not-all_whole
 returns-then-not-all_whole c =

@@ -1,5 +1,5 @@
 -- `versions::ranges::EventRanges::marked_ends` meets its contract. The loop's invariant: each place so far. Assumes nothing.
-use Rattle.std.proofs.Common.{arith}
+use Rattle.std.proofs.Common.{arith, None}
 use Rattle.std.proofs.Math.ListN.{length-set}
 use Rattle.versions.specs.Ranges.{end_in}
 use Rattle.versions.proofs.HeadTurns.{filled_next}
@@ -14,6 +14,6 @@ loop-r-preserved c =
     let l = c.loop-r in (
       simp length-set l.invariant.0,
       place-next a.self.words.now (ranges_even a.self.words.now a.self.paired).0 a.starts.now _ l.r _ p c.loop-r-test.true c.place-k.ensures,
-      filled_next (end_in a.starts.now a.self.words.now) l.ends l.r _ (omega (arith, l.invariant.0, p.few)) l.invariant.2
+      filled_next None (end_in a.starts.now a.self.words.now) l.ends l.r _ (omega (arith, l.invariant.0, p.few)) l.invariant.2
           (end_turn a.starts.now a.self.words.now l.r _ _ c.place-k.ensures c.end_at.ensures),
     )
