@@ -1,31 +1,45 @@
 -- The loops behind the wanted parents, turn by turn, and whether words are ranges. Assumes nothing.
 use Rattle.std.proofs.Common.{◌≡◌, refl, sym, ap, ◌∙◌, ◌⊎◌, inl, inr, Bool, true, false, cond, List, [], ◌∷◌, ◌++◌, map, ℕ, zero, suc, ◌+◌, ◌-◌, ◌≤◌, ◌<◌, add-one, arith, length, get_or, take}
-use Rattle.std.proofs.Common.{drop, length-append, get_or-take, get_or-drop, Some, None, is_some}
-use Rattle.lists.specs.Lists.{all, filter, from, upto, rising}
-use Rattle.lists.proofs.Truth.{lt_or_le, false_true, not_so, and_false, and_true}
+use Rattle.std.proofs.Common.{drop, length-append, get_or-take, get_or-drop, take_all, length-drop, take_while, leb, leb-false, Some, None, is_some}
+use Rattle.std.specs.List.{prefix_len}
+use Rattle.std.proofs.lemmas.List.Folds.{length-prefix_len}
+use Rattle.lists.specs.Lists.{bit, all, filter, count, from, upto, rising}
+use Rattle.lists.proofs.Truth.{false_true, not_so, and_false, and_true}
 use Rattle.lists.proofs.Members.{all-at, all_both}
 use Rattle.lists.proofs.Counts.{upto-mem, upto_snoc}
+use Rattle.lists.proofs.Rising.{rising_tail, rising_above}
 use Rattle.lists.proofs.Keeping.{filter_snoc}
 use Rattle.model.specs.declared.record.EventIndex.{EventIndex}
 use Rattle.model.specs.Wanted.{ranges}
 use Rattle.versions.specs.Flags.{flag_all}
 use Rattle.versions.specs.Ranges.{End, end_number, is_odd, place_of, clear_at, end_at, clear_in, end_in, flag_marked, is_top, tops, Starts}
-use Rattle.versions.proofs.RangeWords.{ranges_even, paired_even, word_le, le_word, place_most, place_mono}
+use Rattle.versions.proofs.RangeWords.{ranges_even, paired_even, none-at_most, place_most, place_mono}
+use Rattle.versions.proofs.Flagging.{decided}
 
--- The words' place, one word on
-module _ (ws : List ℕ) (rises : rising ws ≡ true) (e k : ℕ) where
-  pub place_here : k ≤ place_of ws e → e < get_or ws k 0 → k ≡ place_of ws e
-  place_here h lt = cases (lt_or_le k (place_of ws e))
-    where
-      cases : (k < place_of ws e) ⊎ (place_of ws e ≤ k) → k ≡ place_of ws e
-      cases (inl c) = absurd (omega (arith, word_le ws rises k e c))
-      cases (inr c) = omega arith
+-- The words' place: from a place that is not beyond it on, as many words more as are at most the event
+prefix_on : (ws : List ℕ) → rising ws ≡ true → (e k : ℕ) → k ≤ place_of ws e → k + prefix_len (λ w. leb w e) (drop k ws) ≡ place_of ws e
+unfolding place_of count
+prefix_on [] rises e zero h = refl
+prefix_on [] rises e (suc k) h = absurd (omega arith)
+prefix_on (w ∷ ws) rises e zero h = go (decided (leb w e)) (prefix_on ws (rising_tail w ws rises) e 0 (omega arith))
+  where
+    go : (leb w e ≡ true) ⊎ (leb w e ≡ false) → 0 + prefix_len (λ x. leb x e) ws ≡ count (λ x. leb x e) ws →
+        0 + prefix_len (λ x. leb x e) (w ∷ ws) ≡ bit (leb w e) + count (λ x. leb x e) ws
+    go (inl t) ih = rw t (omega (arith, ih))
+    go (inr f) ih = rw f (omega (arith, none-at_most e ws (λ x m. omega (arith, leb-false w e f, rising_above w ws rises x m))))
+prefix_on (w ∷ ws) rises e (suc k) h = go (decided (leb w e)) h (prefix_on ws (rising_tail w ws rises) e k)
+  where
+    go : (leb w e ≡ true) ⊎ (leb w e ≡ false) → suc k ≤ bit (leb w e) + count (λ x. leb x e) ws →
+        (k ≤ count (λ x. leb x e) ws → k + prefix_len (λ x. leb x e) (drop k ws) ≡ count (λ x. leb x e) ws) →
+        suc k + prefix_len (λ x. leb x e) (drop k ws) ≡ bit (leb w e) + count (λ x. leb x e) ws
+    go (inl t) = rw t (λ h ih. omega (arith, ih (omega arith)))
+    go (inr f) = rw f (λ h ih. absurd (omega (arith, none-at_most e ws (λ x m. omega (arith, leb-false w e f, rising_above w ws rises x m)))))
 
-  pub place_on : k < length ws → get_or ws k 0 ≤ e → k + 1 ≤ place_of ws e
-  place_on lt h = omega (arith, le_word ws rises k e lt h)
-
-  pub place_end : k ≤ place_of ws e → length ws ≤ k → length ws ≡ place_of ws e
-  place_end h q = omega (arith, place_most ws rises e)
+pub place_on : (ws : List ℕ) → rising ws ≡ true → (e k : ℕ) → k ≤ place_of ws e →
+    k + length (take_while (λ w. leb w e) (take (length ws - k) (drop k ws))) ≡ place_of ws e
+place_on ws rises e k h =
+    rw (take_all (length ws - k) (drop k ws) (omega (arith, length-drop k ws)))
+    (ap (λ (n : ℕ). k + n) (length-prefix_len (λ w. leb w e) (drop k ws)) ∙ prefix_on ws rises e k h)
 
 -- The start after the n-th, as the loop over neighbours has it
 pub next_start : (starts : List ℕ) (n : ℕ) → n < length starts - 1 → get_or (take (length starts - 1) (drop 1 starts)) n 0 ≡ get_or starts (n + 1) 0
@@ -131,7 +145,7 @@ module _ (flags : List Bool) (ends : List End) where
       go false h = refl
 
 -- What the loops over words and over runs go by
-pub ruleset placing = (ranges_even, place_here, place_on, place_end)
+pub ruleset placing = (ranges_even, place_on, place_most)
 
 pub ruleset pairing = (ranges_odd, ranges-is)
 

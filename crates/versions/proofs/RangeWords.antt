@@ -54,7 +54,7 @@ ranges_even ws h = (and_left (rising ws) (paired ws) h, go (odd_or_even (length 
     go (inr o) = o.0
 
 -- No word is at most what they are all above
-none-at_most : (e : ℕ) (ws : List ℕ) → ((w : ℕ) → mem w ws ≡ true → e < w) → place_of ws e ≡ 0
+pub none-at_most : (e : ℕ) (ws : List ℕ) → ((w : ℕ) → mem w ws ≡ true → e < w) → place_of ws e ≡ 0
 unfolding place_of
 none-at_most e ws h = count_same (λ w. leb w e) (λ w. false) ws (λ w m. lt-leb w e (h w m)) ∙ count_none (λ w. false) ws (λ w. refl)
 
