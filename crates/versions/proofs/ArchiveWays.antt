@@ -2,12 +2,12 @@
 -- nothing.
 use Rattle.std.proofs.Common.{◌≡◌, refl, sym, ap, ap₂, ◌∙◌, ◌⊎◌, inl, inr, ◌↔◌, Bool, true, false, cond, List, [], ◌∷◌, map, ℕ, suc, ◌+◌, ◌≤◌, ◌<◌, arith, length, take, drop, get_or, length-take}
 use Rattle.std.proofs.Common.{length-drop, get_or-take, get_or-drop, leb, eqb, leb-true, le-leb}
-use Rattle.lists.specs.Lists.{all, filter, count, upto, mem, rising, below}
+use Rattle.std.specs.List.{All}
+use Rattle.lists.specs.Lists.{all, filter, count, upto, mem, rising}
 use Rattle.lists.proofs.Truth.{lt_or_le, bool_iff}
-use Rattle.lists.proofs.Members.{get_d_all, all-from_on, filter_agree, filter_map}
+use Rattle.lists.proofs.Members.{get_d_all, get_d_mem, all-from_on, filter_agree, filter_map}
 use Rattle.lists.proofs.Counts.{mem-from, count_same}
 use Rattle.lists.proofs.Passing.{passing}
-use Rattle.lists.proofs.Bounds.{below_of}
 use Rattle.lists.proofs.Pads.{get_pad}
 use Rattle.model.specs.declared.record.CausalGraph.{CausalGraph}
 use Rattle.model.specs.Graph.{Graph, runs, start}
@@ -159,10 +159,10 @@ module _ (g : CausalGraph) (held : Held g) where
 
   module _ (points : List ℕ) (found : points ≡ point_runs) where
     -- What those that gather their starts need of them
-    pub points-below : below (length g.starts) points ≡ true
-    points-below =
-        rw found (below_of (length g.starts) point_runs (λ r m.
-        omega (arith, ((passing (λ r. seen_by_later G (start G r)) (runs G) r).0 m).0, runs-view g held, (facts g held).runs, (facts g held).sized.starts)))
+    pub points-below : All (λ r. r < length g.starts) points
+    points-below k d lt =
+        let m : mem (get_or points k d) point_runs ≡ true = sym (ap (mem (get_or points k d)) found) ∙ get_d_mem points k d lt in
+        omega (arith, ((passing (λ r. seen_by_later G (start G r)) (runs G) (get_or points k d)).0 m).0, runs-view g held, (facts g held).runs, (facts g held).sized.starts)
 
     pub points_few : length points ≤ 512
     points_few = omega (arith, ap length found, few_pass (λ r. seen_by_later G (start G r)) (runs G), runs-view g held, (facts g held).runs)

@@ -1,14 +1,13 @@
 -- The loops behind the archive points, turn by turn. Assumes nothing.
-use Rattle.std.proofs.Common.{Some, None, slice_get, ◌≡◌, refl, sym, ap, ◌∙◌, ◌⊎◌, inl, inr, Bool, true, false, cond, List, [], ◌∷◌, ℕ, zero, suc, ◌+◌, ◌-◌, ◌≤◌, ◌<◌, add-one, arith, length, get_or, drop}
-use Rattle.std.proofs.Common.{set, get_or-set_same, get_or-set_other, ltb, ltb-true}
+use Rattle.std.proofs.Common.{Some, None, slice_get, ◌≡◌, refl, sym, ap, ◌∙◌, ◌⊎◌, inl, inr, Bool, true, false, cond, List, [], ◌∷◌, ℕ, ◌+◌, ◌-◌, ◌≤◌, ◌<◌, add-one, arith, length, get_or, drop}
+use Rattle.std.proofs.Common.{set, get_or-set_same, get_or-set_other}
 use Rattle.std.proofs.lemmas.Option.{get_or_from_slice_get, slice_get-get_or}
 use Rattle.std.specs.List.{count_by, All}
 use Rattle.std.proofs.lemmas.List.Recursion.{is_count_by}
-use Rattle.lists.specs.Lists.{bit, all, count, below}
-use Rattle.graph.specs.Rows.{row, Rows}
-use Rattle.lists.proofs.Truth.{and_left, and_right, eq_or-not, lt_of_ne, lt_or_le}
+use Rattle.lists.specs.Lists.{bit, count}
+use Rattle.lists.proofs.Truth.{eq_or-not, lt_of_ne, lt_or_le}
 use Rattle.versions.specs.Heads.{Child, last_in, highest_by, noted, note_all, first_children, is_head, head_count}
-use Rattle.versions.proofs.Passes.{left-first, left_none, item_below, row_below}
+use Rattle.versions.proofs.Passes.{left-first, left_none, row_each}
 use Rattle.versions.proofs.FirstChildren.{firsts-length}
 
 -- The items of a list, one by one
@@ -31,16 +30,6 @@ count_is p xs = is_count_by (count p) p refl (λ x ys. go (p x) ys) xs
     go : (t : Bool) (ys : List ℕ) → bit t + count p ys ≡ cond t (1 + count p ys) (count p ys)
     go true ys = refl
     go false ys = omega arith
-
--- Numbers below a bound, in std's word
-pub each_below : (n m : ℕ) (xs : List ℕ) → below n xs ≡ true → n ≤ m → All (λ x. x < m) xs
-unfolding below all
-each_below n m [] h le k d lt = absurd (omega arith)
-each_below n m (x ∷ xs) h le zero d lt = omega (arith, le, ltb-true x n (and_left (ltb x n) (all (λ y. ltb y n) xs) h))
-each_below n m (x ∷ xs) h le (suc k) d lt = each_below n m xs (and_right (ltb x n) (all (λ y. ltb y n) xs) h) le k d (omega arith)
-
-pub row_each : (starts items : List ℕ) (n m r : ℕ) → Rows starts items n → r < n → r ≤ m → All (λ x. x < m) (row starts items r)
-row_each starts items n m r rows lt le = each_below r m (row starts items r) (rows.low r lt) le
 
 -- Run by run
 pub children-next : (rows : ℕ → List ℕ) (c : ℕ) → note_all (first_children rows c) c (rows c) ≡ first_children rows (c + 1)
@@ -93,10 +82,10 @@ highest-none whole [] h = refl
 highest-none whole (p ∷ ps) h = absurd (omega arith)
 
 -- What the loops over a run's parents, and over runs, go by
-pub ruleset noting = (item_below, note-next, note-none)
+pub ruleset noting = (note-next, note-none)
 
-pub ruleset children = (row_below, firsts-length, children-next)
+pub ruleset children = (row_each, firsts-length, children-next)
 
-pub ruleset heads_on = (row_each, row_below, count_turn, filled_next)
+pub ruleset heads_on = (row_each, count_turn, filled_next)
 
 pub ruleset last_parent = (last_some, last_none, last-below, highest-is, highest-none)

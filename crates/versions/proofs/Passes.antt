@@ -2,12 +2,12 @@
 use Rattle.std.proofs.Common.{◌≡◌, refl, sym, ap, Bool, true, false, not, cond, ◌||◌, List, [], ◌∷◌, ◌++◌, length-append, ℕ, zero, suc, ◌+◌, ◌-◌, ◌<◌, ◌≤◌, add-one, arith, length, get_or, set, take, drop}
 use Rattle.std.proofs.Common.{length-take, drop-cons, get_or-take, ltb, ltb-true}
 use Rattle.std.proofs.lemmas.List.{drop_all}
-use Rattle.std.specs.List.{list_any}
-use Rattle.lists.specs.Lists.{any, filter, from, upto, below}
-use Rattle.lists.proofs.Members.{all_get_d, filter_agree}
+use Rattle.std.specs.List.{list_any, All}
+use Rattle.lists.specs.Lists.{any, all, filter, from, upto, below}
+use Rattle.lists.proofs.Truth.{and_left, and_right}
+use Rattle.lists.proofs.Members.{filter_agree}
 use Rattle.lists.proofs.Counts.{mem-from, upto_snoc}
 use Rattle.lists.proofs.Keeping.{filter_snoc}
-use Rattle.lists.proofs.Bounds.{below_of, below_at}
 use Rattle.graph.specs.Rows.{row, Rows}
 use Rattle.versions.specs.Flags.{flag_all, flag_parents, flag_down, flag_child, flag_up, free}
 
@@ -18,10 +18,6 @@ module _ (xs : List ℕ) (i : ℕ) where
 
   pub left_none : length xs ≤ i → drop i xs ≡ []
   left_none h = drop_all i xs h
-
-  pub item_below : (n : ℕ) → below n xs ≡ true → i < length xs → get_or xs i 0 < n
-  unfolding below
-  item_below n e h = ltb-true (get_or xs i 0) n (all_get_d (λ x. ltb x n) xs i e h)
 
   pub flag_next : (flags : List Bool) → i < length xs → flag_all (set flags (get_or xs i 0) true) (drop (i + 1) xs) ≡ flag_all flags (drop i xs)
   unfolding flag_all
@@ -37,9 +33,16 @@ unfolding any
 any_is p [] = refl
 any_is p (x ∷ xs) = ap (λ (t : Bool). p x || t) (any_is p xs)
 
+-- Numbers below a bound, in std's word
+each_below : (n m : ℕ) (xs : List ℕ) → below n xs ≡ true → n ≤ m → All (λ x. x < m) xs
+unfolding below all
+each_below n m [] h le k d lt = absurd (omega arith)
+each_below n m (x ∷ xs) h le zero d lt = omega (arith, le, ltb-true x n (and_left (ltb x n) (all (λ y. ltb y n) xs) h))
+each_below n m (x ∷ xs) h le (suc k) d lt = each_below n m xs (and_right (ltb x n) (all (λ y. ltb y n) xs) h) le k d (omega arith)
+
 -- A row's numbers are runs
-pub row_below : (starts items : List ℕ) (n m r : ℕ) → Rows starts items n → r < n → r ≤ m → below m (row starts items r) ≡ true
-row_below starts items n m r rows h le = below_of m (row starts items r) (λ x k. omega (arith, below_at r (row starts items r) (rows.low r h) x k))
+pub row_each : (starts items : List ℕ) (n m r : ℕ) → Rows starts items n → r < n → r ≤ m → All (λ x. x < m) (row starts items r)
+row_each starts items n m r rows lt le = each_below r m (row starts items r) (rows.low r lt) le
 
 module _ (rows : ℕ → List ℕ) where
   -- The way down
@@ -97,6 +100,8 @@ free_part flags n fits =
     ap not (get_or-take n flags q false (omega (arith, (mem-from q 0 n m).1)))))
 
 -- What the loops that flag runs, and that find those without a flag, go by
-pub ruleset flagging = (item_below, flag_next, flag_none)
+pub ruleset flagging = (flag_next, flag_none)
+
+pub ruleset rising_up = (any_is, row_each)
 
 pub ruleset freeing = (free_few, free-start, free_turn)

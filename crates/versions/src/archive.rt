@@ -1,7 +1,7 @@
 // Archive points into a lent list, in linear time. A run's seen length, by which the marks go, is a lower bound of what the run has seen.
 // Here it is told exactly, as far as archive points need it (`highest`), and they are the starts of the runs that would be marked by that.
 ghost use Rattle.std.specs.Prelude.{◌≡◌, true, false, map, ◌≤◌, ◌<◌, length, get_or, All};
-ghost use Rattle.lists.specs.Lists.{filter, count, upto, below};
+ghost use Rattle.lists.specs.Lists.{filter, count, upto};
 ghost use Rattle.lists.specs.Scans.{max_kept};
 ghost use Rattle.model.specs.Limits.{max_runs};
 ghost use Rattle.model.specs.Answers.{answer_or};
@@ -29,7 +29,7 @@ fn noted(first: Option<EventRunIndex>, child: EventRunIndex) -> Option<EventRunI
 // Notes `child` as a child of its parents.
 #[tactic(auto, using(crate::proofs::HeadTurns::noting))]
 fn note_child(firsts: &mut [Option<EventRunIndex>], parents: &[u32], child: EventRunIndex)
-    requires { below (length firsts.old) parents.now ≡ true }
+    requires { All (λ p. p < length firsts.old) parents.now }
     ensures { firsts.new ≡ note_all firsts.old child.0 parents.now }
 {
     for p in parents {
@@ -71,6 +71,7 @@ fn count_heads(firsts: &[Option<EventRunIndex>], parents: &[u32], run: EventRunI
 }
 
 // How many heads lie below each of some runs: the runs below it that have no child below it.
+// An array beside the first children, not one of pairs: the counts are made in a pass of their own, which needs all first children.
 #[tactic(auto, using(crate::proofs::HeadTurns::heads_on))]
 fn head_counts(firsts: &[Option<EventRunIndex>; MAX_RUNS], parents: ParentRows) -> [u32; MAX_RUNS]
     requires { HeadsFit firsts.now (parents_in parents) (runs_in parents) }
@@ -110,7 +111,7 @@ fn highest(
 }
 
 // How far each of some runs has seen, as far as archive points need it: up to the start of the run that `highest` tells.
-#[tactic(auto, using(crate::proofs::HeadTurns::row_each))]
+#[tactic(auto, using(crate::proofs::Passes::row_each))]
 fn seen_lengths(
     firsts: &[Option<EventRunIndex>; MAX_RUNS],
     counts: &[u32; MAX_RUNS],
@@ -129,9 +130,8 @@ fn seen_lengths(
 }
 
 // The starts of some runs.
-#[tactic(auto, using(crate::proofs::Passes::item_below))]
 fn starts_of(starts: &[u32], runs: &[u32]) -> Kept
-    requires there { below (length starts.now) runs.now ≡ true }
+    requires there { All (λ r. r < length starts.now) runs.now }
     requires few { length runs.now ≤ max_kept }
     ensures { result ≡ map (λ r. get_or starts.now r 0) runs.now }
 {
@@ -163,7 +163,7 @@ fn archive_words(g: CausalGraph) -> Result<Kept, Refusal>
     Ok(starts_of(&g.graph.starts, runs.as_slice()))
 }
 
-// The same into `list`.
+// The archive points into `list`, rising, as many as fit.
 #[tactic(auto, using(crate::proofs::ArchiveWays::is_put))]
 pub fn archive_points(g: CausalGraph, list: &mut [u32]) -> Written
     ensures { (result, list.new) ≡ archive_points_of g list.old }

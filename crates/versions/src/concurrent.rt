@@ -1,7 +1,6 @@
 // The runs that are concurrent with a run, into a lent list.
-ghost use Rattle.std.specs.Prelude.{◌≡◌, true, ◌-◌, ◌≤◌, ◌<◌, length, leb};
+ghost use Rattle.std.specs.Prelude.{◌≡◌, true, ◌-◌, ◌≤◌, ◌<◌, length, leb, All};
 ghost use Rattle.std.specs.List.{list_any};
-ghost use Rattle.lists.specs.Lists.{below};
 ghost use Rattle.model.specs.Limits.{max_runs};
 ghost use Rattle.model.specs.Answers.{answer_or};
 ghost use Rattle.model.specs.Lookups.{lookup};
@@ -20,7 +19,7 @@ use model::{CausalGraph, EventRunIndex, MAX_RUNS, Refusal, Written};
 // Flags some runs.
 #[tactic(auto, using(crate::proofs::Passes::flagging))]
 pub(crate) fn flag_all(flags: &mut [bool], runs: &[u32])
-    requires { below (length flags.old) runs.now ≡ true }
+    requires { All (λ p. p < length flags.old) runs.now }
     ensures { flags.new ≡ flag_all flags.old runs.now }
 {
     for p in runs {
@@ -29,7 +28,7 @@ pub(crate) fn flag_all(flags: &mut [bool], runs: &[u32])
 }
 
 // The parents of a run are flagged if it is.
-#[tactic(auto, using(crate::proofs::Passes::row_below), unfolding(crate::specs::Flags::flag_parents))]
+#[tactic(auto, using(crate::proofs::Passes::row_each), unfolding(crate::specs::Flags::flag_parents))]
 fn flag_parents(flags: &mut [bool; MAX_RUNS], parents: ParentRows, run: EventRunIndex)
     requires { run.0 < runs_in parents }
     ensures { flags.new ≡ flag_parents (parents_in parents.entry) flags.old run.0 }
@@ -50,24 +49,18 @@ fn flag_down(flags: &mut [bool; MAX_RUNS], parents: ParentRows, end: EventRunInd
     }
 }
 
-// Whether a number is not below `run`, and flagged.
-#[tactic(auto, using(std::proofs::lemmas::Option::gets), unfolding(crate::specs::Flags::flagged))]
-fn is_flagged(flags: &[bool], run: EventRunIndex, p: EventRunIndex) -> bool
-    ensures { result ≡ flagged flags.now run.0 p.0 }
-{
-    run <= p && flags.get(p.0 as usize).copied().unwrap_or(false)
-}
-
-// Whether such a number is among some runs.
+// Whether some of the runs is not below `run`, and flagged.
+#[tactic(auto, unfolding(crate::specs::Flags::flagged))]
 fn has_flagged(flags: &[bool], run: EventRunIndex, runs: &[u32]) -> bool
+    requires { All (λ p. p < length flags.now) runs.now }
     ensures { result ≡ list_any (flagged flags.now run.0) runs.now }
 {
     runs.iter()
-        .any(|p| is_flagged(flags, run, EventRunIndex(*p)))
+        .any(|p| run <= EventRunIndex(*p) && flags[*p as usize])
 }
 
 // A run is flagged if it has such a parent.
-#[tactic(auto, using(crate::proofs::Passes::any_is), unfolding(crate::specs::Flags::flag_child))]
+#[tactic(auto, using(crate::proofs::Passes::rising_up), unfolding(crate::specs::Flags::flag_child))]
 fn flag_child(
     flags: &mut [bool; MAX_RUNS],
     run: EventRunIndex,
@@ -137,7 +130,7 @@ fn concurrent_words(g: CausalGraph, run: EventRunIndex) -> Result<Kept, Refusal>
     Ok(free_runs(&flags[..n]))
 }
 
-// The same into `list`.
+// The runs that are neither ancestor nor descendant of `run`, nor `run` itself, into `list`, rising; none where they do not fit.
 #[tactic(auto, using(crate::proofs::ConcurrentWays::is_put))]
 pub fn concurrent_runs(g: CausalGraph, run: EventRunIndex, list: &mut [u32]) -> Written
     ensures { (result, list.new) ≡ concurrency_list_of g run.0 list.old }

@@ -12,10 +12,7 @@ use model::{EventIndex, MAX_RUNS};
 fn count_at_most(words: &[u32], e: EventIndex) -> usize
     ensures { result ≡ length (take_while (λ w. leb w e.0) words.now) }
 {
-    words
-        .iter()
-        .take_while(|w| EventIndex(**w) <= e)
-        .count()
+    words.iter().take_while(|w| EventIndex(**w) <= e).count()
 }
 
 // Ranges of events, as words: a first and its end in turn, rising.

@@ -7,6 +7,7 @@ ghost use Rattle.graph.specs.Rows.{row, Rows};
 use graph::held::HeldGraph;
 
 // The parents of each of some runs: where each run's begin among the items, and last where those of the last run end.
+// No `Jagged` of the crate `tables`, which this crate does not know: this type holds that a run's parents are below it, a `Jagged` does not.
 #[derive(Clone, Copy)]
 pub(crate) struct ParentRows<'a> {
     pub(crate) starts: &'a [u32],

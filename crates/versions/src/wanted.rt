@@ -1,7 +1,7 @@
 // The parents that give a wanted version, into a lent list, in linear time. A version's events are a run's first events, up to an end, or
 // none of the run; and where a run has some of them, its parent runs have all of theirs. So the marked events are told run by run.
-ghost use Rattle.std.specs.Prelude.{◌≡◌, true, not, cond, ◌&&◌, ◌||◌, ◌+◌, ◌-◌, ◌≤◌, length, Ok, Err, Some, None, is_some};
-ghost use Rattle.lists.specs.Lists.{all, upto, below};
+ghost use Rattle.std.specs.Prelude.{◌≡◌, true, not, cond, ◌&&◌, ◌||◌, ◌+◌, ◌-◌, ◌<◌, ◌≤◌, length, All, Ok, Err, Some, None, is_some};
+ghost use Rattle.lists.specs.Lists.{all, upto};
 ghost use Rattle.model.specs.Limits.{max_runs};
 ghost use Rattle.model.specs.Answers.{answer_or};
 ghost use Rattle.model.specs.EventGraph.{closed};
@@ -24,7 +24,7 @@ use model::{CausalGraph, EventIndex, EventRunIndex, MAX_RUNS, Refusal, Written};
 
 // Flags some runs, if there is an end.
 fn flag_if(end: Option<EventIndex>, flags: &mut [bool], runs: &[u32])
-    requires { below (length flags.old) runs.now ≡ true }
+    requires { All (λ p. p < length flags.old) runs.now }
     ensures { flags.new ≡ cond (is_some end) (flag_all flags.old runs.now) flags.old }
 {
     if end.is_some() {
@@ -33,7 +33,8 @@ fn flag_if(end: Option<EventIndex>, flags: &mut [bool], runs: &[u32])
 }
 
 // A flag for each parent of a run of which something is marked.
-#[tactic(auto, using(crate::proofs::Passes::row_below))]
+// An array beside the ends, not one of pairs: a run is flagged by its children's ends, so the flags are made when all ends are.
+#[tactic(auto, using(crate::proofs::Passes::row_each))]
 fn flag_marked(ends: &[Option<EventIndex>], parents: ParentRows) -> [bool; MAX_RUNS]
     requires { runs_in parents ≡ length ends.now }
     ensures { result ≡ flag_marked (parents_in parents.entry) ends.now (length ends.now) }
@@ -115,8 +116,7 @@ fn closed_parents(g: &HeldGraph, ranges: EventRanges) -> Result<Kept, Refusal>
     Ok(top_events(&flags[..n], &ends[..n]))
 }
 
-// The parents to push so that the new event has seen the events of `ranges` (first and end, exclusive, of each in turn), and no others,
-// rising; or why they are not told.
+// The parents that give the events of `ranges` (first and end, exclusive, of each in turn), rising; or why they are not told.
 fn wanted_words(g: CausalGraph, ranges: &[u32]) -> Result<Kept, Refusal>
     ensures { result ≡ answer_or (wanted_tests g ranges.now) (wanted_parents (view g) ranges.now) }
 {
@@ -128,7 +128,7 @@ fn wanted_words(g: CausalGraph, ranges: &[u32]) -> Result<Kept, Refusal>
     closed_parents(&g, ranges)
 }
 
-// The same into `list`.
+// The parents to push so that the new event has seen the events of `ranges`, and no others, into `list`, rising; none where they do not fit.
 #[tactic(auto, using(crate::proofs::WantedWays::is_put))]
 pub fn wanted_parents(g: CausalGraph, ranges: &[u32], list: &mut [u32]) -> Written
     ensures { (result, list.new) ≡ wanted_parents_of g ranges.now list.old }
