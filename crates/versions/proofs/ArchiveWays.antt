@@ -2,37 +2,38 @@
 -- nothing.
 use Rattle.std.proofs.Common.{◌≡◌, refl, sym, ap, ap₂, ◌∙◌, ◌⊎◌, inl, inr, ◌↔◌, Bool, true, false, cond, List, [], ◌∷◌, map, ℕ, suc, ◌+◌, ◌≤◌, ◌<◌, arith, length, take, drop, get_or, length-take}
 use Rattle.std.proofs.Common.{length-drop, get_or-take, get_or-drop, leb, eqb, leb-true, le-leb}
-use Rattle.lists.specs.Lists.{all, filter, count, upto, mem, rising, below}
+use Rattle.std.specs.List.{All}
+use Rattle.lists.specs.Lists.{all, filter, count, upto, mem, rising}
 use Rattle.lists.proofs.Truth.{lt_or_le, bool_iff}
-use Rattle.lists.proofs.Members.{get_d_all, all-from_on, filter_agree, filter_map}
+use Rattle.lists.proofs.Members.{get_d_all, get_d_mem, all-from_on, filter_agree, filter_map}
 use Rattle.lists.proofs.Counts.{mem-from, count_same}
 use Rattle.lists.proofs.Passing.{passing}
-use Rattle.lists.proofs.Bounds.{below_of}
 use Rattle.lists.proofs.Pads.{get_pad}
 use Rattle.model.specs.declared.record.CausalGraph.{CausalGraph}
-use Rattle.model.specs.declared.answers.Written.{Written}
-use Rattle.model.specs.declared.answers.Refusal.TheVariants.{Broken}
 use Rattle.model.specs.Graph.{Graph, runs, start}
 use Rattle.model.specs.Record.{view}
 use Rattle.model.specs.Broken.{broken, Held}
 use Rattle.model.specs.Cut.{writing, unwritten}
+use Rattle.model.specs.declared.answers.Written.{Written}
+use Rattle.model.specs.declared.answers.Refusal.TheVariants.{Broken}
+use Rattle.model.specs.Refusals.{first_of}
+use Rattle.model.specs.Answers.{answer_or}
+use Rattle.model.specs.Lookups.{lookup}
 use Rattle.model.specs.History.{at}
 use Rattle.model.specs.Archive.{seen_by_later, archive_points, archive_points_of}
-use Rattle.model.proofs.Stored.{not-broken}
 use Rattle.model.proofs.FormedReads.{start_mono, start-less}
 use Rattle.model.proofs.Archiving.{Parted, point_parted}
-use Rattle.graph.specs.Records.{Put, blank, put_all, written_of}
 use Rattle.graph.specs.Loops.{marks_of}
 use Rattle.graph.proofs.Views.{facts, runs-view, start-view, starts-pad}
-use Rattle.graph.proofs.Writing.{put-writing}
 use Rattle.graph.proofs.Entries.{parents-below, parents-rise}
 use Rattle.graph.proofs.Marking.{is_mark, marks-filter}
-use Rattle.versions.specs.Heads.{childless, heads, last_in, highest_by, highest, first_children, is_head, whole_in, HeadsFit, HeadCounts, SeenLengths}
+use Rattle.versions.specs.Heads.{Child, childless, heads, last_in, highest_by, highest, first_children, is_head, whole_in, HeadsFit, HeadCounts, SeenLengths}
 use Rattle.versions.proofs.FirstChildren.{head_is}
 use Rattle.versions.proofs.HeadCounting.{all-heads, count-is, count_fits}
 use Rattle.versions.proofs.ByHeads.{last_mem, last_most, parted_iff}
-use Rattle.versions.proofs.Points.{points_of}
-use Rattle.std.specs.Prelude.{Err}
+use Rattle.versions.specs.Words.{fitting_put}
+use Rattle.versions.proofs.Writing.{records_put}
+use Rattle.versions.proofs.Passes.{few_pass}
 
 module _ (g : CausalGraph) (held : Held g) where
   abbrev G : Graph
@@ -48,11 +49,11 @@ module _ (g : CausalGraph) (held : Held g) where
   rise = parents-rise g held
 
   -- By the graph's rows
-  module _ (rows : ℕ → List ℕ) (same : (c : ℕ) → c < n → rows c ≡ at pss c) (firsts : List ℕ) (is : firsts ≡ first_children rows n) where
+  module _ (rows : ℕ → List ℕ) (same : (c : ℕ) → c < n → rows c ≡ at pss c) (firsts : List Child) (is : firsts ≡ first_children rows n) where
     -- First children tell the heads, and the counts how many there are
     told : (m p : ℕ) → m ≤ n → p < n → is_head firsts m p ≡ childless pss m p
     told m p le lt =
-        rw is (head_is rows n (λ c q few k. parents-below g held c q (rw (same c few) at k)) p (omega (arith, (facts g held).runs)) pss m le same)
+        rw is (head_is rows n p (omega (arith, (facts g held).runs)) pss m le same)
 
     pub counts_fit : HeadsFit firsts rows n
     counts_fit = count_fits pss (parents-below g held) rise firsts rows n same told
@@ -157,40 +158,31 @@ module _ (g : CausalGraph) (held : Held g) where
   point_runs = filter (λ r. seen_by_later G (start G r)) (upto (runs G))
 
   module _ (points : List ℕ) (found : points ≡ point_runs) where
-    -- What the writer needs of them
-    pub points-below : below (length g.starts) points ≡ true
-    points-below =
-        rw found (below_of (length g.starts) point_runs (λ r m.
-        omega (arith, ((passing (λ r. seen_by_later G (start G r)) (runs G) r).0 m).0, runs-view g held, (facts g held).runs, (facts g held).sized.starts)))
+    -- What those that gather their starts need of them
+    pub points-below : All (λ r. r < length g.starts) points
+    points-below k d lt =
+        let m : mem (get_or points k d) point_runs ≡ true = sym (ap (mem (get_or points k d)) found) ∙ get_d_mem points k d lt in
+        omega (arith, ((passing (λ r. seen_by_later G (start G r)) (runs G) (get_or points k d)).0 m).0, runs-view g held, (facts g held).runs, (facts g held).sized.starts)
 
-    starts-same : (ms : List ℕ) → points_of g.starts ms ≡ map (λ (e : ℕ). e ∷ []) (map (start G) ms)
-    unfolding points_of start
+    pub points_few : length points ≤ 512
+    points_few = omega (arith, ap length found, few_pass (λ r. seen_by_later G (start G r)) (runs G), runs-view g held, (facts g held).runs)
+
+    starts-same : (ms : List ℕ) → map (λ m. get_or g.starts m 0) ms ≡ map (start G) ms
+    unfolding start
     starts-same [] = refl
-    starts-same (m ∷ ms) =
-        ap₂ (λ (e : ℕ) (l : List (List ℕ)). (e ∷ []) ∷ l) (ap (λ (l : List ℕ). get_or l m 0) (starts-pad g held) ∙ get_pad 513 G.starts m) (starts-same ms)
+    starts-same (m ∷ ms) = ap₂ (λ (e : ℕ) (l : List ℕ). e ∷ l) (ap (λ (l : List ℕ). get_or l m 0) (starts-pad g held) ∙ get_pad 513 G.starts m) (starts-same ms)
 
     -- Their starts are the archive points
-    pub points_are : points_of g.starts points ≡ map (λ e. e ∷ []) (archive_points G)
+    pub points_are : map (λ m. get_or g.starts m 0) points ≡ archive_points G
     unfolding archive_points
-    points_are =
-        starts-same points ∙ ap (λ (ms : List ℕ). map (λ (e : ℕ). e ∷ []) (map (start G) ms)) found ∙
-        ap (map (λ (e : ℕ). e ∷ [])) (sym (filter_map (seen_by_later G) (start G) (upto (runs G))))
+    points_are = starts-same points ∙ ap (map (start G)) found ∙ sym (filter_map (seen_by_later G) (start G) (upto (runs G)))
 
-module _ (g : CausalGraph) (lent : List ℕ) where
-  archive_is : (t : Bool) → broken g ≡ t → archive_points_of g lent ≡
-      elim t as (λ _. Written × List ℕ) [ true ↦ unwritten Broken lent | false ↦ writing 1 (map (λ e. e ∷ []) (archive_points (view g))) lent ]
-  unfolding archive_points_of
-  archive_is t e =
-      ap (λ (t : Bool). elim t as (λ _. Written × List ℕ) [ true ↦ unwritten Broken lent | false ↦ writing 1 (map (λ e. e ∷ []) (archive_points (view g))) lent ]) e
-
-  -- Refused
-  pub archive_broken : broken g ≡ true → (record { count = 0; outcome = Err Broken }, lent) ≡ archive_points_of g lent
-  unfolding unwritten
-  archive_broken e = sym (archive_is true e)
-
-  -- Done
-  pub archive_done : Held g → (p : Put) (l : List ℕ) (ws : List (List ℕ)) → ws ≡ map (λ e. e ∷ []) (archive_points (view g)) →
-      (p, l) ≡ put_all 1 (blank, lent) ws → (written_of p, l) ≡ archive_points_of g lent
-  archive_done held p l ws same e =
-      put-writing 1 (λ (x : ℕ). x ∷ []) (λ x. refl) (archive_points (view g)) lent p l (e ∙ ap (put_all 1 (blank, lent)) same) ∙
-      sym (archive_is false (not-broken g held))
+-- The points, or why they are not told, written: what the call's definition says
+pub is_put : (g : CausalGraph) (lent : List ℕ) → fitting_put (answer_or (lookup g false) (archive_points (view g))) lent ≡ archive_points_of g lent
+unfolding fitting_put lookup first_of archive_points_of unwritten
+is_put g lent = go (broken g)
+  where
+    go : (b : Bool) → fitting_put (answer_or (first_of ((b, 1) ∷ (false, 9) ∷ [])) (archive_points (view g))) lent ≡
+        elim b as (λ _. Written × List ℕ) [ true ↦ unwritten Broken lent | false ↦ writing 1 (map (λ e. e ∷ []) (archive_points (view g))) lent ]
+    go true = refl
+    go false = sym (records_put (archive_points (view g)) lent)

@@ -1,10 +1,11 @@
 -- The rows of a held graph's parents, by as many starts as it has runs, and one. Assumes nothing.
-use Rattle.std.proofs.Common.{◌≡◌, ◌∙◌, List, ℕ, ◌+◌, ◌-◌, ◌<◌, arith, length, get_or, take, length-take, get_or-take}
+use Rattle.std.proofs.Common.{◌≡◌, ◌∙◌, List, ℕ, ◌+◌, ◌-◌, ◌<◌, ◌≤◌, arith, length, get_or, take, length-take, get_or-take}
 use Rattle.model.specs.declared.record.CausalGraph.{CausalGraph}
 use Rattle.model.specs.Record.{view}
 use Rattle.model.specs.Broken.{Held}
 use Rattle.model.specs.History.{at}
 use Rattle.graph.specs.Rows.{row, Rows}
+use Rattle.graph.proofs.Views.{facts}
 use Rattle.graph.proofs.Entries.{row-view, rows_of}
 
 -- Of so many starts as reach past a run, its row is the same
@@ -34,3 +35,7 @@ module _ (g : CausalGraph) (held : Held g) where
 
   pub taken_view : (r : ℕ) → r < g.run_count → row starts g.parents r ≡ at (view g).parents r
   taken_view r h = row_taken g.parent_starts g.parents (g.run_count + 1) r (omega arith) ∙ row-view g held r h
+
+-- A held graph's runs are within the limit
+pub few_runs : (g : CausalGraph) → Held g → g.run_count ≤ 512
+few_runs g held = (facts g held).runs

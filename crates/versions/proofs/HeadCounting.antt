@@ -8,7 +8,7 @@ use Rattle.lists.proofs.Passing.{passing_test, passing_rises}
 use Rattle.lists.proofs.Sharing.{count-all, count-filter, count_parted, count_shared}
 use Rattle.model.specs.History.{at}
 use Rattle.model.proofs.Histories.{Below}
-use Rattle.versions.specs.Heads.{childless, heads, is_head, head_count, HeadsFit}
+use Rattle.versions.specs.Heads.{Child, childless, heads, is_head, head_count, HeadsFit}
 
 module _ (pss : List (List ℕ)) (below : Below pss) (rise : (r : ℕ) → rising (at pss r) ≡ true) where
   -- Below one run more: the run itself has no child there, and its parents have one
@@ -46,7 +46,7 @@ module _ (pss : List (List ℕ)) (below : Below pss) (rise : (r : ℕ) → risin
       heads_shared m row (rise m) (λ p k. below m p k) ∙ count-filter (childless pss m) (λ p. mem p row) (upto m) in
       omega (arith, all-next, shared, count_parted (childless pss m) (λ p. mem p row) (upto m), filter-count (childless pss m) (upto m))
 
-  module _ (firsts : List ℕ) (rows : ℕ → List ℕ) (n : ℕ) (same : (c : ℕ) → c < n → rows c ≡ at pss c)
+  module _ (firsts : List Child) (rows : ℕ → List ℕ) (n : ℕ) (same : (c : ℕ) → c < n → rows c ≡ at pss c)
       (told : (m p : ℕ) → m ≤ n → p < n → is_head firsts m p ≡ childless pss m p) where
     counted : (m : ℕ) → m < n → count (is_head firsts m) (rows m) ≡ count (childless pss m) (at pss m)
     counted m lt = rw (same m lt) (count_same (is_head firsts m) (childless pss m) (at pss m) (λ p k. told m p (omega arith) (omega (arith, below m p k))))

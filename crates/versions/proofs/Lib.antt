@@ -1,4 +1,6 @@
 -- The laws behind the versions' code.
+-- Words into a lent list
+pub mod Writing
 -- The concurrency list
 pub mod Flagging
 -- The rows of a graph
@@ -11,7 +13,6 @@ pub mod FirstChildren
 pub mod HeadCounting
 pub mod ByHeads
 pub mod HeadTurns
-pub mod Points
 pub mod ArchiveWays
 -- Wanted parents
 pub mod RangeWords

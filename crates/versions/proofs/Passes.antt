@@ -1,15 +1,13 @@
 -- The loops of the passes that flag runs, turn by turn. Assumes nothing.
-use Rattle.std.proofs.Common.{◌≡◌, refl, sym, ap, ◌∙◌, Bool, true, false, cond, ◌||◌, List, [], ◌∷◌, map, ℕ, zero, suc, ◌+◌, ◌-◌, ◌<◌, ◌≤◌, add-one, arith, length, get_or, set, take, drop}
-use Rattle.std.proofs.Common.{length-take, drop-cons, get_or-take, ltb, eqb, ltb-true}
-use native.Mathlib.Nat.{sub-zero}
+use Rattle.std.proofs.Common.{◌≡◌, refl, sym, ap, Bool, true, false, not, cond, ◌||◌, List, [], ◌∷◌, ◌++◌, length-append, ℕ, zero, suc, ◌+◌, ◌-◌, ◌<◌, ◌≤◌, add-one, arith, length, get_or, set, take, drop}
+use Rattle.std.proofs.Common.{length-take, drop-cons, get_or-take, ltb, ltb-true}
 use Rattle.std.proofs.lemmas.List.{drop_all}
-use Rattle.std.proofs.lemmas.List.Recursion.{is_count_by}
-use Rattle.std.specs.List.{list_any, count_by}
-use Rattle.lists.specs.Lists.{bit, any, filter, count, from, upto, below}
-use Rattle.lists.proofs.Members.{all_get_d, filter_agree}
-use Rattle.lists.proofs.Counts.{mem-from}
-use Rattle.lists.proofs.Bounds.{below_of, below_at}
-use Rattle.graph.specs.Records.{Put, put, put_all}
+use Rattle.std.specs.List.{list_any, All}
+use Rattle.lists.specs.Lists.{any, all, filter, from, upto, below}
+use Rattle.lists.proofs.Truth.{and_left, and_right}
+use Rattle.lists.proofs.Members.{filter_agree}
+use Rattle.lists.proofs.Counts.{mem-from, upto_snoc}
+use Rattle.lists.proofs.Keeping.{filter_snoc}
 use Rattle.graph.specs.Rows.{row, Rows}
 use Rattle.versions.specs.Flags.{flag_all, flag_parents, flag_down, flag_child, flag_up, free}
 
@@ -21,15 +19,11 @@ module _ (xs : List ℕ) (i : ℕ) where
   pub left_none : length xs ≤ i → drop i xs ≡ []
   left_none h = drop_all i xs h
 
-  pub item_below : (n : ℕ) → below n xs ≡ true → i < length xs → get_or xs i 0 < n
-  unfolding below
-  item_below n e h = ltb-true (get_or xs i 0) n (all_get_d (λ x. ltb x n) xs i e h)
-
-  pub flag_next : (flags : List ℕ) → i < length xs → flag_all (set flags (get_or xs i 0) 1) (drop (i + 1) xs) ≡ flag_all flags (drop i xs)
+  pub flag_next : (flags : List Bool) → i < length xs → flag_all (set flags (get_or xs i 0) true) (drop (i + 1) xs) ≡ flag_all flags (drop i xs)
   unfolding flag_all
   flag_next flags h = sym (ap (flag_all flags) (left-first h))
 
-  pub flag_none : (flags : List ℕ) → length xs ≤ i → flags ≡ flag_all flags (drop i xs)
+  pub flag_none : (flags : List Bool) → length xs ≤ i → flags ≡ flag_all flags (drop i xs)
   unfolding flag_all
   flag_none flags h = sym (ap (flag_all flags) (left_none h))
 
@@ -39,99 +33,75 @@ unfolding any
 any_is p [] = refl
 any_is p (x ∷ xs) = ap (λ (t : Bool). p x || t) (any_is p xs)
 
+-- Numbers below a bound, in std's word
+each_below : (n m : ℕ) (xs : List ℕ) → below n xs ≡ true → n ≤ m → All (λ x. x < m) xs
+unfolding below all
+each_below n m [] h le k d lt = absurd (omega arith)
+each_below n m (x ∷ xs) h le zero d lt = omega (arith, le, ltb-true x n (and_left (ltb x n) (all (λ y. ltb y n) xs) h))
+each_below n m (x ∷ xs) h le (suc k) d lt = each_below n m xs (and_right (ltb x n) (all (λ y. ltb y n) xs) h) le k d (omega arith)
+
 -- A row's numbers are runs
-pub row_below : (starts items : List ℕ) (n m r : ℕ) → Rows starts items n → r < n → r ≤ m → below m (row starts items r) ≡ true
-row_below starts items n m r rows h le = below_of m (row starts items r) (λ x k. omega (arith, below_at r (row starts items r) (rows.low r h) x k))
+pub row_each : (starts items : List ℕ) (n m r : ℕ) → Rows starts items n → r < n → r ≤ m → All (λ x. x < m) (row starts items r)
+row_each starts items n m r rows lt le = each_below r m (row starts items r) (rows.low r lt) le
 
 module _ (rows : ℕ → List ℕ) where
   -- The way down
-  pub down_next : (flags : List ℕ) (c : ℕ) → 0 < c → flag_down rows (flag_parents rows flags (c - 1)) (c - 1) ≡ flag_down rows flags c
+  pub down_next : (flags : List Bool) (c : ℕ) → 0 < c → flag_down rows (flag_parents rows flags (c - 1)) (c - 1) ≡ flag_down rows flags c
   unfolding flag_down
   down_next flags zero h = absurd (omega arith)
   down_next flags (suc c) h = let e : suc c - 1 ≡ c = omega arith in rw e
 
-  pub down_none : (flags : List ℕ) (c : ℕ) → c ≤ 0 → flag_down rows flags c ≡ flags
+  pub down_none : (flags : List Bool) (c : ℕ) → c ≤ 0 → flag_down rows flags c ≡ flags
   unfolding flag_down
   down_none flags zero h = refl
   down_none flags (suc c) h = absurd (omega arith)
 
   -- The way up
-  pub up_next : (r : ℕ) (flags : List ℕ) (q n : ℕ) → q < n → flag_up rows r (flag_child rows r flags q) (q + 1) (n - (q + 1)) ≡ flag_up rows r flags q (n - q)
+  pub up_next : (r : ℕ) (flags : List Bool) (q n : ℕ) → q < n → flag_up rows r (flag_child rows r flags q) (q + 1) (n - (q + 1)) ≡ flag_up rows r flags q (n - q)
   unfolding flag_up
   up_next r flags q n h = let e : n - q ≡ suc (n - (q + 1)) = omega arith in rw (e, add-one q)
 
-  pub up_none : (r : ℕ) (flags : List ℕ) (q n : ℕ) → n ≤ q → flag_up rows r flags q (n - q) ≡ flags
+  pub up_none : (r : ℕ) (flags : List Bool) (q n : ℕ) → n ≤ q → flag_up rows r flags q (n - q) ≡ flags
   unfolding flag_up
   up_none r flags q n h = let e : n - q ≡ 0 = omega arith in rw e
 
--- The runs without a flag from q on
-unfoldable pub free_from : List ℕ → ℕ → ℕ → List ℕ
-free_from flags q n = filter (λ p. eqb (get_or flags p 0) 0) (from q (n - q))
-
-pub free-start : (flags : List ℕ) (n : ℕ) → free_from flags 0 n ≡ free flags n
-unfolding free_from free upto
-free-start flags n = rw (sub-zero n)
-
-free-next : (flags : List ℕ) (q n : ℕ) → q < n → free_from flags q n ≡ cond (eqb (get_or flags q 0) 0) (q ∷ free_from flags (q + 1) n) (free_from flags (q + 1) n)
-unfolding free_from filter from
-free-next flags q n h = let e : n - q ≡ suc (n - (q + 1)) = omega arith in rw (e, add-one q)
-
-pub free-none : (flags : List ℕ) (q n : ℕ) → n ≤ q → free_from flags q n ≡ []
-unfolding free_from filter from
-free-none flags q n h = let e : n - q ≡ 0 = omega arith in rw e
-
--- counted
-count_is : (p : ℕ → Bool) (xs : List ℕ) → count p xs ≡ count_by p xs
-unfolding count
-count_is p xs = is_count_by (count p) p refl (λ x ys. go (p x) ys) xs
+-- Of the numbers below a bound no more pass a test than there are
+pub few_pass : (p : ℕ → Bool) (n : ℕ) → length (filter p (upto n)) ≤ n
+few_pass p zero = unfold upto from filter in omega arith
+few_pass p (suc n) = rw (upto_snoc n, filter_snoc p (upto n) n) (go (p n) (few_pass p n))
   where
-    go : (t : Bool) (ys : List ℕ) → bit t + count p ys ≡ cond t (1 + count p ys) (count p ys)
-    go true ys = refl
-    go false ys = omega arith
-
-count_left : (flags : List ℕ) (k q : ℕ) → k + q ≡ length flags → count (λ f. eqb f 0) (drop q flags) ≡ length (free_from flags q (length flags))
-unfolding count
-count_left flags zero q e = rw (left_none flags q (omega arith), free-none flags q (length flags) (omega arith))
-count_left flags (suc k) q e =
-    let lt : q < length flags = omega arith in
-    rw (left-first flags q lt, free-next flags q (length flags) lt) (go (eqb (get_or flags q 0) 0) (count_left flags k (q + 1) (omega arith)))
-  where
-    go : (t : Bool) → count (λ f. eqb f 0) (drop (q + 1) flags) ≡ length (free_from flags (q + 1) (length flags)) →
-        bit t + count (λ f. eqb f 0) (drop (q + 1) flags) ≡ length (cond t (q ∷ free_from flags (q + 1) (length flags)) (free_from flags (q + 1) (length flags)))
-    go true h = omega arith
+    go : (t : Bool) → length (filter p (upto n)) ≤ n → length (cond t (filter p (upto n) ++ n ∷ []) (filter p (upto n))) ≤ suc n
+    go true h = simp length-append (omega arith)
     go false h = omega arith
 
-count_free : (flags : List ℕ) → count_by (λ f. eqb f 0) flags ≡ length (free flags (length flags))
-count_free flags = sym (count_is (λ f. eqb f 0) flags) ∙ count_left flags (length flags) 0 (omega arith) ∙ ap length (free-start flags (length flags))
+-- The runs with no flag, run by run
+module _ (flags : List Bool) where
+  free-next : (q : ℕ) → free flags (suc q) ≡ cond (not (get_or flags q false)) (free flags q ++ q ∷ []) (free flags q)
+  unfolding free
+  free-next q = rw (upto_snoc q) (filter_snoc (λ p. not (get_or flags p false)) (upto q) q)
+
+  pub free_few : (q : ℕ) → length (free flags q) ≤ q
+  unfolding free
+  free_few q = few_pass (λ p. not (get_or flags p false)) q
+
+  pub free-start : [] ≡ free flags 0
+  unfolding free upto from filter
+  free-start = refl
+
+  pub free_turn : (q : ℕ) (found : List ℕ) (t : Bool) → t ≡ not (get_or flags q false) → found ≡ free flags q → cond t (found ++ q ∷ []) found ≡ free flags (q + 1)
+  free_turn q found t e f = rw (f, e, add-one q, free-next q)
 
 -- of as many flags as there are runs
-module _ (flags : List ℕ) (n : ℕ) (fits : n ≤ length flags) where
-  pub free_part : free (take n flags) (length (take n flags)) ≡ free flags n
-  unfolding free upto
-  free_part =
-      let long : length (take n flags) ≡ n = omega (arith, length-take n flags) in
-      rw long (filter_agree (λ q. eqb (get_or (take n flags) q 0) 0) (λ q. eqb (get_or flags q 0) 0) (from 0 n) (λ q m.
-      ap (λ (f : ℕ). eqb f 0) (get_or-take n flags q 0 (omega (arith, (mem-from q 0 n m).1)))))
+pub free_part : (flags : List Bool) (n : ℕ) → n ≤ length flags → free (take n flags) (length (take n flags)) ≡ free flags n
+unfolding free upto
+free_part flags n fits =
+    let long : length (take n flags) ≡ n = omega (arith, length-take n flags) in
+    rw long (filter_agree (λ q. not (get_or (take n flags) q false)) (λ q. not (get_or flags q false)) (from 0 n) (λ q m.
+    ap not (get_or-take n flags q false (omega (arith, (mem-from q 0 n m).1)))))
 
-  pub free_counted : count_by (λ f. eqb f 0) (take n flags) ≡ length (free flags n)
-  free_counted = count_free (take n flags) ∙ ap length free_part
+-- What the loops that flag runs, and that find those without a flag, go by
+pub ruleset flagging = (flag_next, flag_none)
 
--- and written
-pub free-put : (flags : List ℕ) (q n : ℕ) (w : Put × List ℕ) → q < n →
-    put_all 1 (cond (eqb (get_or flags q 0) 0) (put 1 w (q ∷ [])) w) (map (λ p. p ∷ []) (free_from flags (q + 1) n)) ≡ put_all 1 w (map (λ p. p ∷ []) (free_from flags q n))
-unfolding put_all
-free-put flags q n w h = go (eqb (get_or flags q 0) 0) ∙ sym (ap (λ (l : List ℕ). put_all 1 w (map (λ p. p ∷ []) l)) (free-next flags q n h))
-  where
-    go : (t : Bool) → put_all 1 (cond t (put 1 w (q ∷ [])) w) (map (λ p. p ∷ []) (free_from flags (q + 1) n)) ≡
-        put_all 1 w (map (λ p. p ∷ []) (cond t (q ∷ free_from flags (q + 1) n) (free_from flags (q + 1) n)))
-    go true = refl
-    go false = refl
+pub ruleset rising_up = (any_is, row_each)
 
-pub free-written : (flags : List ℕ) (q n : ℕ) (w : Put × List ℕ) → n ≤ q → w ≡ put_all 1 w (map (λ p. p ∷ []) (free_from flags q n))
-unfolding put_all
-free-written flags q n w h = sym (ap (λ (l : List ℕ). put_all 1 w (map (λ p. p ∷ []) l)) (free-none flags q n h))
-
--- What the loops that flag runs, and that write those without a flag, go by
-pub ruleset flagging = (item_below, flag_next, flag_none)
-
-pub ruleset freeing = (free-put, free-written, free-start)
+pub ruleset freeing = (free_few, free-start, free_turn)

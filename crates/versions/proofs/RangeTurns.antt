@@ -1,30 +1,45 @@
 -- The loops behind the wanted parents, turn by turn, and whether words are ranges. Assumes nothing.
 use Rattle.std.proofs.Common.{◌≡◌, refl, sym, ap, ◌∙◌, ◌⊎◌, inl, inr, Bool, true, false, cond, List, [], ◌∷◌, ◌++◌, map, ℕ, zero, suc, ◌+◌, ◌-◌, ◌≤◌, ◌<◌, add-one, arith, length, get_or, take}
-use Rattle.std.proofs.Common.{drop, length-append, get_or-take, get_or-drop, eqb}
-use Rattle.lists.specs.Lists.{all, filter, from, upto, rising}
-use Rattle.lists.proofs.Truth.{lt_or_le, false_true, not_so, and_false, and_true}
+use Rattle.std.proofs.Common.{drop, length-append, get_or-take, get_or-drop, take_all, length-drop, take_while, leb, leb-false, Some, None, is_some}
+use Rattle.std.specs.List.{prefix_len}
+use Rattle.std.proofs.lemmas.List.Folds.{length-prefix_len}
+use Rattle.lists.specs.Lists.{bit, all, filter, count, from, upto, rising}
+use Rattle.lists.proofs.Truth.{false_true, not_so, and_false, and_true}
 use Rattle.lists.proofs.Members.{all-at, all_both}
 use Rattle.lists.proofs.Counts.{upto-mem, upto_snoc}
+use Rattle.lists.proofs.Rising.{rising_tail, rising_above}
 use Rattle.lists.proofs.Keeping.{filter_snoc}
+use Rattle.model.specs.declared.record.EventIndex.{EventIndex}
 use Rattle.model.specs.Wanted.{ranges}
 use Rattle.versions.specs.Flags.{flag_all}
-use Rattle.versions.specs.Ranges.{is_odd, place_of, clear_at, end_at, clear_in, end_in, flag_marked, is_top, tops, Starts}
-use Rattle.versions.proofs.RangeWords.{ranges_even, paired_even, word_le, le_word, place_most, place_mono}
+use Rattle.versions.specs.Ranges.{End, end_number, is_odd, place_of, clear_at, end_at, clear_in, end_in, flag_marked, is_top, tops, Starts}
+use Rattle.versions.proofs.RangeWords.{ranges_even, paired_even, none-at_most, place_most, place_mono}
+use Rattle.versions.proofs.Flagging.{decided}
 
--- The words' place, one word on
-module _ (ws : List ℕ) (rises : rising ws ≡ true) (e k : ℕ) where
-  pub place_here : k ≤ place_of ws e → e < get_or ws k 0 → k ≡ place_of ws e
-  place_here h lt = cases (lt_or_le k (place_of ws e))
-    where
-      cases : (k < place_of ws e) ⊎ (place_of ws e ≤ k) → k ≡ place_of ws e
-      cases (inl c) = absurd (omega (arith, word_le ws rises k e c))
-      cases (inr c) = omega arith
+-- The words' place: from a place that is not beyond it on, as many words more as are at most the event
+prefix_on : (ws : List ℕ) → rising ws ≡ true → (e k : ℕ) → k ≤ place_of ws e → k + prefix_len (λ w. leb w e) (drop k ws) ≡ place_of ws e
+unfolding place_of count
+prefix_on [] rises e zero h = refl
+prefix_on [] rises e (suc k) h = absurd (omega arith)
+prefix_on (w ∷ ws) rises e zero h = go (decided (leb w e)) (prefix_on ws (rising_tail w ws rises) e 0 (omega arith))
+  where
+    go : (leb w e ≡ true) ⊎ (leb w e ≡ false) → 0 + prefix_len (λ x. leb x e) ws ≡ count (λ x. leb x e) ws →
+        0 + prefix_len (λ x. leb x e) (w ∷ ws) ≡ bit (leb w e) + count (λ x. leb x e) ws
+    go (inl t) ih = rw t (omega (arith, ih))
+    go (inr f) ih = rw f (omega (arith, none-at_most e ws (λ x m. omega (arith, leb-false w e f, rising_above w ws rises x m))))
+prefix_on (w ∷ ws) rises e (suc k) h = go (decided (leb w e)) h (prefix_on ws (rising_tail w ws rises) e k)
+  where
+    go : (leb w e ≡ true) ⊎ (leb w e ≡ false) → suc k ≤ bit (leb w e) + count (λ x. leb x e) ws →
+        (k ≤ count (λ x. leb x e) ws → k + prefix_len (λ x. leb x e) (drop k ws) ≡ count (λ x. leb x e) ws) →
+        suc k + prefix_len (λ x. leb x e) (drop k ws) ≡ bit (leb w e) + count (λ x. leb x e) ws
+    go (inl t) = rw t (λ h ih. omega (arith, ih (omega arith)))
+    go (inr f) = rw f (λ h ih. absurd (omega (arith, none-at_most e ws (λ x m. omega (arith, leb-false w e f, rising_above w ws rises x m)))))
 
-  pub place_on : k < length ws → get_or ws k 0 ≤ e → k + 1 ≤ place_of ws e
-  place_on lt h = omega (arith, le_word ws rises k e lt h)
-
-  pub place_end : k ≤ place_of ws e → length ws ≤ k → length ws ≡ place_of ws e
-  place_end h q = omega (arith, place_most ws rises e)
+pub place_on : (ws : List ℕ) → rising ws ≡ true → (e k : ℕ) → k ≤ place_of ws e →
+    k + length (take_while (λ w. leb w e) (take (length ws - k) (drop k ws))) ≡ place_of ws e
+place_on ws rises e k h =
+    rw (take_all (length ws - k) (drop k ws) (omega (arith, length-drop k ws)))
+    (ap (λ (n : ℕ). k + n) (length-prefix_len (λ w. leb w e) (drop k ws)) ∙ prefix_on ws rises e k h)
 
 -- The start after the n-th, as the loop over neighbours has it
 pub next_start : (starts : List ℕ) (n : ℕ) → n < length starts - 1 → get_or (take (length starts - 1) (drop 1 starts)) n 0 ≡ get_or starts (n + 1) 0
@@ -44,7 +59,7 @@ module _ (starts ws : List ℕ) (r k : ℕ) where
   unfolding clear_in
   clear_turn b e f = sym (f ∙ rw (e, add-one r))
 
-  pub end_turn : (v : ℕ) → k ≡ place_of ws (get_or starts r 0) → v ≡ end_at ws k (get_or starts (r + 1) 0) → v ≡ end_in starts ws r
+  pub end_turn : (v : End) → k ≡ place_of ws (get_or starts r 0) → v ≡ end_at ws k (get_or starts (r + 1) 0) → v ≡ end_in starts ws r
   unfolding end_in
   end_turn v e f = f ∙ rw (e, add-one r)
 
@@ -72,26 +87,26 @@ module _ (p : ℕ → Bool) where
   all_stop r n lt h = sym (not_so (all p (upto n)) (λ a. false_true (sym h ∙ all-at p (upto n) a r (upto-mem r n lt))))
 
 -- Flags, run by run
-module _ (rows : ℕ → List ℕ) (ends : List ℕ) where
-  pub flags_next : (r : ℕ) → cond (eqb (get_or ends r 0) 0) (flag_marked rows ends r) (flag_all (flag_marked rows ends r) (rows r)) ≡ flag_marked rows ends (r + 1)
+module _ (rows : ℕ → List ℕ) (ends : List End) where
+  pub flags_next : (r : ℕ) → cond (is_some (get_or ends r None)) (flag_all (flag_marked rows ends r) (rows r)) (flag_marked rows ends r) ≡ flag_marked rows ends (r + 1)
   unfolding flag_marked
   flags_next r = rw (add-one r)
 
 -- The last marked events of top runs, run by run
-module _ (flags ends : List ℕ) where
+module _ (flags : List Bool) (ends : List End) where
   last_of : ℕ → ℕ
-  last_of r = get_or ends r 0 - 1
+  last_of r = end_number (get_or ends r None) - 1
 
   tops_next : (r : ℕ) → tops flags ends (suc r) ≡ cond (is_top flags ends r) (tops flags ends r ++ last_of r ∷ []) (tops flags ends r)
   unfolding tops last_of
   tops_next r = rw (upto_snoc r, filter_snoc (is_top flags ends) (upto r) r) (go (is_top flags ends r))
     where
-      mapped : (xs : List ℕ) → map (λ x. get_or ends x 0 - 1) (xs ++ r ∷ []) ≡ map (λ x. get_or ends x 0 - 1) xs ++ (get_or ends r 0 - 1) ∷ []
+      mapped : (xs : List ℕ) → map (λ x. end_number (get_or ends x None) - 1) (xs ++ r ∷ []) ≡ map (λ x. end_number (get_or ends x None) - 1) xs ++ (end_number (get_or ends r None) - 1) ∷ []
       mapped [] = refl
-      mapped (x ∷ xs) = ap (λ (l : List ℕ). (get_or ends x 0 - 1) ∷ l) (mapped xs)
+      mapped (x ∷ xs) = ap (λ (l : List ℕ). (end_number (get_or ends x None) - 1) ∷ l) (mapped xs)
 
-      go : (t : Bool) → map (λ x. get_or ends x 0 - 1) (cond t (filter (is_top flags ends) (upto r) ++ r ∷ []) (filter (is_top flags ends) (upto r))) ≡
-          cond t (map (λ x. get_or ends x 0 - 1) (filter (is_top flags ends) (upto r)) ++ (get_or ends r 0 - 1) ∷ []) (map (λ x. get_or ends x 0 - 1) (filter (is_top flags ends) (upto r)))
+      go : (t : Bool) → map (λ x. end_number (get_or ends x None) - 1) (cond t (filter (is_top flags ends) (upto r) ++ r ∷ []) (filter (is_top flags ends) (upto r))) ≡
+          cond t (map (λ x. end_number (get_or ends x None) - 1) (filter (is_top flags ends) (upto r)) ++ (end_number (get_or ends r None) - 1) ∷ []) (map (λ x. end_number (get_or ends x None) - 1) (filter (is_top flags ends) (upto r)))
       go true = mapped (filter (is_top flags ends) (upto r))
       go false = refl
 
@@ -107,16 +122,33 @@ module _ (flags ends : List ℕ) where
   unfolding tops upto from filter
   tops_start = refl
 
-  pub tops_turn : (r : ℕ) (found : List ℕ) (t : Bool) (v : ℕ) → t ≡ is_top flags ends r → v ≡ get_or ends r 0 - 1 → found ≡ tops flags ends r →
-      cond t (found ++ v ∷ []) found ≡ tops flags ends (r + 1)
-  unfolding last_of
-  tops_turn r found t v e f q = rw (q, e, f, add-one r, tops_next r)
+  -- what the code tells of a run by whether it is a top one
+  abbrev told_of : ℕ → Bool → End
+  told_of r t = cond t (Some (record { 0 = end_number (get_or ends r None) - 1 })) None
+
+  pub tops_on : (r : ℕ) (found : List ℕ) (e : EventIndex) → Some e ≡ told_of r (is_top flags ends r) →
+      found ≡ tops flags ends r → found ++ e.0 ∷ [] ≡ tops flags ends (r + 1)
+  tops_on r found e h q = rw (q, add-one r, tops_next r) (go (is_top flags ends r) h)
+    where
+      go : (t : Bool) → Some e ≡ told_of r t →
+          tops flags ends r ++ e.0 ∷ [] ≡ cond t (tops flags ends r ++ last_of r ∷ []) (tops flags ends r)
+      go true h = unfold last_of in let same : e ≡ record { 0 = end_number (get_or ends r None) - 1 } = cc in rw same refl
+      go false h = cc
+
+  pub tops_same : (r : ℕ) (found : List ℕ) → None ≡ told_of r (is_top flags ends r) →
+      found ≡ tops flags ends r → found ≡ tops flags ends (r + 1)
+  tops_same r found h q = rw (q, add-one r, tops_next r) (go (is_top flags ends r) h)
+    where
+      go : (t : Bool) → None ≡ told_of r t →
+          tops flags ends r ≡ cond t (tops flags ends r ++ last_of r ∷ []) (tops flags ends r)
+      go true h = cc
+      go false h = refl
 
 -- What the loops over words and over runs go by
-pub ruleset placing = (ranges_even, place_here, place_on, place_end)
+pub ruleset placing = (ranges_even, place_on, place_most)
 
 pub ruleset pairing = (ranges_odd, ranges-is)
 
 pub ruleset testing = (all_start, all-next, all_stop)
 
-pub ruleset topping = (tops_start, tops-few, tops_turn)
+pub ruleset topping = (tops_start, tops-few, tops_on, tops_same)

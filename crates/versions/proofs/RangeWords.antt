@@ -1,5 +1,5 @@
 -- What rising words mark, a first and an end in turn: an event exactly if those at most the event are odd in number. Assumes nothing.
-use Rattle.std.proofs.Common.{◌≡◌, refl, sym, ap, ◌∙◌, ◌⊎◌, inl, inr, ◌↔◌, Bool, true, false, not, cond, ◌&&◌, ◌||◌, List, [], ◌∷◌, ℕ, suc, ◌+◌, ◌-◌, ◌%◌, ◌≤◌, ◌<◌, min, arith, length, get_or}
+use Rattle.std.proofs.Common.{◌≡◌, refl, sym, ap, ◌∙◌, ◌⊎◌, inl, inr, ◌↔◌, Bool, true, false, not, cond, ◌&&◌, ◌||◌, List, [], ◌∷◌, ℕ, suc, ◌+◌, ◌-◌, ◌%◌, ◌≤◌, ◌<◌, min, arith, length, get_or, Some, None, is_some}
 use Rattle.std.proofs.Common.{leb, eqb, ltb-true, leb-true, lt-ltb, le-leb, eq-eqb, ne_eqb, eqb-true, leb-false}
 use borrow.Author.Tests.{lt-leb}
 use Rattle.lists.specs.Lists.{bit, count, from, mem, rising}
@@ -11,7 +11,7 @@ use Rattle.model.specs.Graph.{Graph, first_held, len, side, is_held, all_held}
 use Rattle.model.specs.Wanted.{events_in, paired, ranges}
 use Rattle.model.proofs.Siding.{between-held, held-between}
 use Rattle.model.proofs.Wanting.{events_above}
-use Rattle.versions.specs.Ranges.{is_odd, place_of, words_within, clear_at, end_at}
+use Rattle.versions.specs.Ranges.{is_odd, place_of, words_within, clear_at, end_number, end_at}
 
 -- A number is odd or even
 pub odd_or_even : (k : ℕ) → ((k % 2 ≡ 1) × (is_odd k ≡ true)) ⊎ ((k % 2 ≡ 0) × (is_odd k ≡ false))
@@ -54,7 +54,7 @@ ranges_even ws h = (and_left (rising ws) (paired ws) h, go (odd_or_even (length 
     go (inr o) = o.0
 
 -- No word is at most what they are all above
-none-at_most : (e : ℕ) (ws : List ℕ) → ((w : ℕ) → mem w ws ≡ true → e < w) → place_of ws e ≡ 0
+pub none-at_most : (e : ℕ) (ws : List ℕ) → ((w : ℕ) → mem w ws ≡ true → e < w) → place_of ws e ≡ 0
 unfolding place_of
 none-at_most e ws h = count_same (λ w. leb w e) (λ w. false) ws (λ w m. lt-leb w e (h w m)) ∙ count_none (λ w. false) ws (λ w. refl)
 
@@ -210,8 +210,8 @@ module _ (ws : List ℕ) (h : ranges ws ≡ true) where
         go (inl q) (inr d) = absurd (omega (arith, word_le ws rises (k + k % 2) e q, leb-true end (get_or ws (k + k % 2) 0) d))
 
     -- what is marked goes from s up to `end_at`
-    pub marked-part : clear_at ws k end ≡ true → (e : ℕ) → s ≤ e → e < end → (mem e (events_in ws) ≡ true) ↔ (e < end_at ws k end)
-    unfolding end_at
+    pub marked-part : clear_at ws k end ≡ true → (e : ℕ) → s ≤ e → e < end → (mem e (events_in ws) ≡ true) ↔ (e < end_number (end_at ws k end))
+    unfolding end_at end_number
     marked-part c e le lt = go (odd_or_even k)
       where
         least : k ≤ place_of ws e
@@ -220,7 +220,7 @@ module _ (ws : List ℕ) (h : ranges ws ≡ true) where
         most : place_of ws e ≤ k + k % 2
         most = clear_place c e lt
 
-        go : ((k % 2 ≡ 1) × (is_odd k ≡ true)) ⊎ ((k % 2 ≡ 0) × (is_odd k ≡ false)) → (mem e (events_in ws) ≡ true) ↔ (e < end_at ws k end)
+        go : ((k % 2 ≡ 1) × (is_odd k ≡ true)) ⊎ ((k % 2 ≡ 0) × (is_odd k ≡ false)) → (mem e (events_in ws) ≡ true) ↔ (e < end_number (end_at ws k end))
         go (inr o) = rw o.1 (
           (λ m. absurd (omega (arith, o.0, least, most, (marked-place e m).0))),
           (λ q. absurd (omega arith)),
@@ -234,22 +234,22 @@ module _ (ws : List ℕ) (h : ranges ws ≡ true) where
             inside (inl d) q = absurd (omega (arith, word_le ws rises k e d))
             inside (inr d) q = let same : place_of ws e ≡ k = omega (arith, least) in rw same o.0
 
-    -- which is not above the end, and above s if it is not 0
-    pub part_most : end_at ws k end ≤ end
-    unfolding end_at
+    -- which is not above the end, and above s if there is one
+    pub part_most : end_number (end_at ws k end) ≤ end
+    unfolding end_at end_number
     part_most = go (is_odd k)
       where
-        go : (t : Bool) → cond t (min (get_or ws k 0) end) 0 ≤ end
+        go : (t : Bool) → end_number (cond t (Some (record { 0 = min (get_or ws k 0) end })) None) ≤ end
         go true = omega arith
         go false = omega arith
 
-    pub part_above : s < end → ¬ (end_at ws k end ≡ 0) → s < end_at ws k end
-    unfolding end_at
+    pub part_above : s < end → is_some (end_at ws k end) ≡ true → s < end_number (end_at ws k end)
+    unfolding end_at end_number
     part_above lt = go (odd_or_even k)
       where
-        go : ((k % 2 ≡ 1) × (is_odd k ≡ true)) ⊎ ((k % 2 ≡ 0) × (is_odd k ≡ false)) → ¬ (end_at ws k end ≡ 0) → s < end_at ws k end
+        go : ((k % 2 ≡ 1) × (is_odd k ≡ true)) ⊎ ((k % 2 ≡ 0) × (is_odd k ≡ false)) → is_some (end_at ws k end) ≡ true → s < end_number (end_at ws k end)
         go (inl o) = rw o.1 (λ n. omega (arith, word_above ws rises k s (omega (arith, o.0, even, place_most ws rises s)) (omega arith)))
-        go (inr o) = rw o.1 (λ n. absurd (n refl))
+        go (inr o) = rw o.1 (λ n. false_true n)
 
     -- A range that begins inside is told by an event that is marked where the one before it is not
     pub not_clear : clear_at ws k end ≡ false → (a : ℕ) × (s < a) × (a < end) × (mem a (events_in ws) ≡ true) × (mem (a - 1) (events_in ws) ≡ false)

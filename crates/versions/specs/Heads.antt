@@ -1,9 +1,9 @@
 -- What the passes behind the archive points compute: first children, heads, and how far each run has seen. Assumes nothing.
-use Rattle.std.specs.Prelude.{◌≡◌, Bool, not, cond, ◌||◌, List, [], ◌∷◌, ℕ, zero, suc, ◌+◌, ◌-◌, ◌≤◌, ◌<◌, length, get_or, set, leb, eqb}
+use Rattle.std.specs.Prelude.{◌≡◌, Bool, true, not, cond, List, [], ◌∷◌, ℕ, zero, suc, ◌+◌, ◌-◌, ◌≤◌, ◌<◌, length, get_or, set, replicate, leb, eqb, Option, Some, None}
 use Rattle.lists.specs.Lists.{all, filter, count, upto, mem}
-use Rattle.lists.specs.Areas.{pad}
 use Rattle.model.specs.Limits.{max_runs}
 use Rattle.model.specs.History.{at}
+use Rattle.model.specs.declared.record.EventRunIndex.{EventRunIndex}
 
 -- run p has no child below run m
 unfoldable pub childless : List (List ℕ) → ℕ → ℕ → Bool
@@ -27,41 +27,51 @@ highest_by whole (p ∷ ps) = let last : ℕ = last_in (p ∷ ps) in cond (whole
 unfoldable pub highest : List (List ℕ) → ℕ → ℕ
 highest pss q = highest_by (λ m ps. all (λ h. mem h ps) (heads pss m)) (at pss q)
 
--- a run's first child once c is noted as one, where f was the first so far: 0 is none, since run 0 is nobody's child
-unfoldable pub noted : ℕ → ℕ → ℕ
-noted f c = cond (eqb f 0) c f
+-- a run's first child, if it has one
+abbrev pub Child : Type 0
+Child = Option EventRunIndex
+
+-- that once c is noted as a child
+unfoldable pub noted : Child → ℕ → Child
+noted None c = Some (record { 0 = c })
+noted (Some f) c = Some f
 
 -- run c is a child of some runs
-unfoldable pub note_all : List ℕ → ℕ → List ℕ → List ℕ
+unfoldable pub note_all : List Child → ℕ → List ℕ → List Child
 note_all firsts c [] = firsts
-note_all firsts c (p ∷ ps) = note_all (set firsts p (noted (get_or firsts p 0) c)) c ps
+note_all firsts c (p ∷ ps) = note_all (set firsts p (noted (get_or firsts p None) c)) c ps
 
 -- The first child of each run, among the n first runs
-unfoldable pub first_children : (ℕ → List ℕ) → ℕ → List ℕ
-first_children rows zero = pad max_runs []
+unfoldable pub first_children : (ℕ → List ℕ) → ℕ → List Child
+first_children rows zero = replicate max_runs None
 first_children rows (suc c) = note_all (first_children rows c) c (rows c)
 
--- run p has no child below run m, by its first
-unfoldable pub is_head : List ℕ → ℕ → ℕ → Bool
-is_head firsts m p = eqb (get_or firsts p 0) 0 || leb m (get_or firsts p 0)
+-- a run with this first child has no child below run m
+unfoldable pub none_below : ℕ → Child → Bool
+none_below m None = true
+none_below m (Some c) = leb m c.0
+
+-- run p has none
+unfoldable pub is_head : List Child → ℕ → ℕ → Bool
+is_head firsts m p = none_below m (get_or firsts p None)
 
 -- How many heads lie below run m: each run is one at first, and its parents are no longer
-unfoldable pub head_count : List ℕ → (ℕ → List ℕ) → ℕ → ℕ
+unfoldable pub head_count : List Child → (ℕ → List ℕ) → ℕ → ℕ
 head_count firsts rows zero = 0
 head_count firsts rows (suc m) = head_count firsts rows m + 1 - count (is_head firsts m) (rows m)
 
 -- so many of a run's parents are heads below m as there are
-unfoldable pub whole_in : (firsts counts : List ℕ) → ℕ → List ℕ → Bool
+unfoldable pub whole_in : List Child → (counts : List ℕ) → ℕ → List ℕ → Bool
 whole_in firsts counts m ps = eqb (count (is_head firsts m) ps) (get_or counts m 0)
 
 -- of no run more parents are heads below it than there are
-abbrev pub HeadsFit : List ℕ → (ℕ → List ℕ) → ℕ → Type 0
+abbrev pub HeadsFit : List Child → (ℕ → List ℕ) → ℕ → Type 0
 HeadsFit firsts rows n = (m : ℕ) → m < n → count (is_head firsts m) (rows m) ≤ head_count firsts rows m
 
 -- A table of how many heads lie below each of n runs
-abbrev pub HeadCounts : List ℕ → (ℕ → List ℕ) → ℕ → List ℕ → Type 0
+abbrev pub HeadCounts : List Child → (ℕ → List ℕ) → ℕ → List ℕ → Type 0
 HeadCounts firsts rows n counts = (m : ℕ) → m < n → get_or counts m 0 ≡ head_count firsts rows m
 
 -- A table of how far each of n runs has seen, as far as archive points need it: up to the start of the last run that may be at one
-abbrev pub SeenLengths : (firsts counts events : List ℕ) → (ℕ → List ℕ) → ℕ → List ℕ → Type 0
+abbrev pub SeenLengths : List Child → (counts events : List ℕ) → (ℕ → List ℕ) → ℕ → List ℕ → Type 0
 SeenLengths firsts counts events rows n seen = (q : ℕ) → q < n → get_or seen q 0 ≡ get_or events (highest_by (whole_in firsts counts) (rows q)) 0

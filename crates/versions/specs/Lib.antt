@@ -3,3 +3,4 @@ pub mod Flags
 pub mod Heads
 pub mod Parents
 pub mod Ranges
+pub mod Words

@@ -1,33 +1,35 @@
 // Archive points into a lent list, in linear time. A run's seen length, by which the marks go, is a lower bound of what the run has seen.
 // Here it is told exactly, as far as archive points need it (`highest`), and they are the starts of the runs that would be marked by that.
-ghost use Rattle.std.specs.Prelude.{◌≡◌, true, ◌||◌, [], ◌∷◌, map, ◌≤◌, ◌<◌, length, get_or, leb, eqb};
-ghost use Rattle.lists.specs.Lists.{filter, count, upto, below};
+ghost use Rattle.std.specs.Prelude.{◌≡◌, true, false, map, ◌≤◌, ◌<◌, length, get_or, All};
+ghost use Rattle.lists.specs.Lists.{filter, count, upto};
+ghost use Rattle.lists.specs.Scans.{max_kept};
 ghost use Rattle.model.specs.Limits.{max_runs};
+ghost use Rattle.model.specs.Answers.{answer_or};
+ghost use Rattle.model.specs.Lookups.{lookup};
 ghost use Rattle.model.specs.Graph.{runs, start};
 ghost use Rattle.model.specs.Record.{view};
-ghost use Rattle.model.specs.Broken.{Held};
-ghost use Rattle.model.specs.Archive.{seen_by_later, archive_points_of};
-ghost use Rattle.graph.specs.Records.{state, same_list, put_all};
+ghost use Rattle.model.specs.Archive.{seen_by_later, archive_points, archive_points_of};
 ghost use Rattle.versions.specs.Parents.{parents_in, runs_in};
-ghost use Rattle.versions.specs.Heads.{noted, note_all, first_children, is_head, highest_by, whole_in, HeadsFit, HeadCounts, SeenLengths};
+ghost use Rattle.versions.specs.Heads.{noted, note_all, first_children, none_below, is_head, highest_by, whole_in, HeadsFit, HeadCounts, SeenLengths};
 
 use crate::rows::ParentRows;
-use graph::records::Records;
+use crate::words::put_fitting;
+use graph::held::HeldGraph;
 use lists::Kept;
 use model::{CausalGraph, EventRunIndex, MAX_RUNS, Refusal, Written};
 
-// A run's first child once `child` is noted as one, where `first` was the first so far (0 where it had none).
+// A run's first child once `child` is noted as one.
 #[tactic(auto, unfolding(crate::specs::Heads::noted))]
-fn noted(first: u32, child: EventRunIndex) -> u32
+fn noted(first: Option<EventRunIndex>, child: EventRunIndex) -> Option<EventRunIndex>
     ensures { result ≡ noted first child.0 }
 {
-    if first == 0 { child.0 } else { first }
+    first.or(Some(child))
 }
 
 // Notes `child` as a child of its parents.
 #[tactic(auto, using(crate::proofs::HeadTurns::noting))]
-fn note_child(firsts: &mut [u32], parents: &[u32], child: EventRunIndex)
-    requires { below (length firsts.old) parents.now ≡ true }
+fn note_child(firsts: &mut [Option<EventRunIndex>], parents: &[u32], child: EventRunIndex)
+    requires { All (λ p. p < length firsts.old) parents.now }
     ensures { firsts.new ≡ note_all firsts.old child.0 parents.now }
 {
     for p in parents {
@@ -38,10 +40,10 @@ fn note_child(firsts: &mut [u32], parents: &[u32], child: EventRunIndex)
 
 // The first child of each of some runs.
 #[tactic(auto, using(crate::proofs::HeadTurns::children))]
-fn first_children(parents: ParentRows) -> [u32; MAX_RUNS]
+fn first_children(parents: ParentRows) -> [Option<EventRunIndex>; MAX_RUNS]
     ensures { result ≡ first_children (parents_in parents.entry) (runs_in parents.entry) }
 {
-    let mut firsts = [0; MAX_RUNS];
+    let mut firsts = [None; MAX_RUNS];
     for q in 0..parents.len() {
         note_child(&mut firsts, parents.of(q), EventRunIndex(q as u32));
     }
@@ -49,28 +51,29 @@ fn first_children(parents: ParentRows) -> [u32; MAX_RUNS]
 }
 
 // Whether a run with this first child has no child below `run`.
-fn is_head(first: u32, run: EventRunIndex) -> bool
-    ensures { result ≡ eqb first 0 || leb run.0 first }
+#[tactic(auto, unfolding(crate::specs::Heads::none_below))]
+fn is_head(first: Option<EventRunIndex>, run: EventRunIndex) -> bool
+    ensures { result ≡ none_below run.0 first }
 {
-    first == 0 || run.0 <= first
+    first.is_none_or(|child| run <= child)
 }
 
 // How many of some runs have no child below `run`.
-#[tactic(auto, using(crate::proofs::HeadTurns::counting), unfolding(crate::specs::Heads::is_head))]
-fn count_heads(firsts: &[u32], parents: &[u32], run: EventRunIndex) -> usize
-    requires { below (length firsts.now) parents.now ≡ true }
+#[tactic(auto, using(crate::proofs::HeadTurns::count_is), unfolding(crate::specs::Heads::is_head))]
+fn count_heads(firsts: &[Option<EventRunIndex>], parents: &[u32], run: EventRunIndex) -> usize
+    requires { All (λ p. p < length firsts.now) parents.now }
     ensures { result ≡ count (is_head firsts.now run.0) parents.now }
 {
-    let mut k = 0;
-    for p in parents {
-        k += usize::from(is_head(firsts[*p as usize], run));
-    }
-    k
+    parents
+        .iter()
+        .filter(|p| is_head(firsts[**p as usize], run))
+        .count()
 }
 
 // How many heads lie below each of some runs: the runs below it that have no child below it.
+// An array beside the first children, not one of pairs: the counts are made in a pass of their own, which needs all first children.
 #[tactic(auto, using(crate::proofs::HeadTurns::heads_on))]
-fn head_counts(firsts: &[u32; MAX_RUNS], parents: ParentRows) -> [u32; MAX_RUNS]
+fn head_counts(firsts: &[Option<EventRunIndex>; MAX_RUNS], parents: ParentRows) -> [u32; MAX_RUNS]
     requires { HeadsFit firsts.now (parents_in parents) (runs_in parents) }
     ensures { HeadCounts firsts.now (parents_in parents.entry) (runs_in parents.entry) result }
 {
@@ -87,12 +90,12 @@ fn head_counts(firsts: &[u32; MAX_RUNS], parents: ParentRows) -> [u32; MAX_RUNS]
 // them, if all heads below it are among them, so that `run` has seen every run below it; else the last parent.
 #[tactic(auto, using(crate::proofs::HeadTurns::last_parent), unfolding(crate::specs::Heads::whole_in))]
 fn highest(
-    firsts: &[u32; MAX_RUNS],
+    firsts: &[Option<EventRunIndex>; MAX_RUNS],
     counts: &[u32; MAX_RUNS],
     parents: &[u32],
     run: EventRunIndex,
 ) -> EventRunIndex
-    requires low { below run.0 parents.now ≡ true }
+    requires low { All (λ p. p < run.0) parents.now }
     requires run_there { run.0 < max_runs }
     ensures { (result.0 ≡ highest_by (whole_in firsts.now counts.now) parents.now) × (result.0 ≤ run.0) }
 {
@@ -108,8 +111,9 @@ fn highest(
 }
 
 // How far each of some runs has seen, as far as archive points need it: up to the start of the run that `highest` tells.
+#[tactic(auto, using(crate::proofs::Passes::row_each))]
 fn seen_lengths(
-    firsts: &[u32; MAX_RUNS],
+    firsts: &[Option<EventRunIndex>; MAX_RUNS],
     counts: &[u32; MAX_RUNS],
     events: &[u32],
     parents: ParentRows,
@@ -125,52 +129,44 @@ fn seen_lengths(
     seen
 }
 
-// The starts of some runs, a word each.
-#[tactic(auto, using(crate::proofs::Points::writing), unfolding(crate::proofs::Points::points_of))]
-fn put_points(starts: &[u32], points: &[u32], out: &mut Records)
-    requires { below (length starts.now) points.now ≡ true }
-    ensures same_list { same_list out.new out.old }
-    ensures written { state out.new ≡ put_all 1 (state out.old) (map (λ m. get_or starts.now m 0 ∷ []) points.now) }
+// The starts of some runs.
+fn starts_of(starts: &[u32], runs: &[u32]) -> Kept
+    requires there { All (λ r. r < length starts.now) runs.now }
+    requires few { length runs.now ≤ max_kept }
+    ensures { result ≡ map (λ r. get_or starts.now r 0) runs.now }
 {
-    for q in points {
-        out.put([starts[*q as usize]]);
+    let mut found = Kept::new();
+    for r in runs {
+        found.push(starts[*r as usize]);
     }
+    found
 }
 
 // The runs that start at archive points.
-#[tactic(auto, using(graph::proofs::Views::facts))]
-fn point_runs(g: &CausalGraph) -> Kept
-    requires { Held g.now }
-    ensures { result ≡ filter (λ q. seen_by_later (view g.now) (start (view g.now) q)) (upto (runs (view g.now))) }
+#[tactic(auto, using(crate::proofs::GraphRows::few_runs))]
+fn point_runs(g: &HeldGraph) -> Kept
+    ensures { result ≡ filter (λ q. seen_by_later (view g.now.graph) (start (view g.now.graph) q)) (upto (runs (view g.now.graph))) }
 {
     let parents = ParentRows::of_graph(g);
     let firsts = first_children(parents);
     let counts = head_counts(&firsts, parents);
-    let seen = seen_lengths(&firsts, &counts, &g.starts, parents);
-    graph::marks::marks_of(&g.starts, &seen, g.run_count)
+    let seen = seen_lengths(&firsts, &counts, &g.graph.starts, parents);
+    graph::marks::marks_of(&g.graph.starts, &seen, g.graph.run_count)
 }
 
-// `archive_points` on a graph that is known not to be broken.
-fn archive_held(g: &CausalGraph, list: &mut [u32]) -> Written
-    requires { Held g.now }
-    ensures { (result, list.new) ≡ archive_points_of g.now list.old }
+// The archive points, rising; or why they are not told.
+fn archive_words(g: CausalGraph) -> Result<Kept, Refusal>
+    ensures { result ≡ answer_or (lookup g false) (archive_points (view g)) }
 {
-    let points = point_runs(g);
-    let mut out = Records::over(list);
-    put_points(&g.starts, points.as_slice(), &mut out);
-    out.written()
+    let g = HeldGraph::of(g)?;
+    let runs = point_runs(&g);
+    Ok(starts_of(&g.graph.starts, runs.as_slice()))
 }
 
-// The archive points into `list`, rising.
-#[tactic(auto, using(model::proofs::Stored::held_of, crate::proofs::ArchiveWays::archive_broken))]
+// The archive points into `list`, rising, as many as fit.
+#[tactic(auto, using(crate::proofs::ArchiveWays::is_put))]
 pub fn archive_points(g: CausalGraph, list: &mut [u32]) -> Written
     ensures { (result, list.new) ≡ archive_points_of g list.old }
 {
-    if graph::broken::is_broken(g) {
-        return Written {
-            count: 0,
-            outcome: Err(Refusal::Broken),
-        };
-    }
-    archive_held(&g, list)
+    put_fitting(archive_words(g), list)
 }

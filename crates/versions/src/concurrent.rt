@@ -1,45 +1,46 @@
 // The runs that are concurrent with a run, into a lent list.
-ghost use Rattle.std.specs.Prelude.{◌≡◌, ◌==◌, true, cond, [], ◌∷◌, map, ◌-◌, ◌≤◌, ◌<◌, length, count_by, eqb};
+ghost use Rattle.std.specs.Prelude.{◌≡◌, true, ◌-◌, ◌≤◌, ◌<◌, length, leb, All};
 ghost use Rattle.std.specs.List.{list_any};
-ghost use Rattle.lists.specs.Lists.{below};
 ghost use Rattle.model.specs.Limits.{max_runs};
+ghost use Rattle.model.specs.Answers.{answer_or};
+ghost use Rattle.model.specs.Lookups.{lookup};
+ghost use Rattle.model.specs.Graph.{runs};
 ghost use Rattle.model.specs.Record.{view};
-ghost use Rattle.model.specs.Broken.{Held};
-ghost use Rattle.model.specs.Beside.{concurrency_list_of};
-ghost use Rattle.graph.specs.Records.{state, same_list, put, put_all};
+ghost use Rattle.model.specs.Beside.{concurrency_list, concurrency_list_of};
 ghost use Rattle.versions.specs.Parents.{parents_in, runs_in};
 ghost use Rattle.versions.specs.Flags.{flag_all, flag_parents, flag_down, flagged, flag_child, flag_up, free, Flags};
 
 use crate::rows::ParentRows;
-use graph::records::Records;
+use crate::words::put_all;
+use graph::held::HeldGraph;
+use lists::Kept;
 use model::{CausalGraph, EventRunIndex, MAX_RUNS, Refusal, Written};
 
 // Flags some runs.
 #[tactic(auto, using(crate::proofs::Passes::flagging))]
-pub(crate) fn flag_all(flags: &mut [u32], runs: &[u32])
-    requires { below (length flags.old) runs.now ≡ true }
+pub(crate) fn flag_all(flags: &mut [bool], runs: &[u32])
+    requires { All (λ p. p < length flags.old) runs.now }
     ensures { flags.new ≡ flag_all flags.old runs.now }
 {
     for p in runs {
-        flags[*p as usize] = 1;
+        flags[*p as usize] = true;
     }
 }
 
 // The parents of a run are flagged if it is.
-#[tactic(auto, using(crate::proofs::Passes::row_below), unfolding(crate::specs::Flags::flag_parents))]
-fn flag_parents(flags: &mut [u32; MAX_RUNS], parents: ParentRows, run: EventRunIndex)
+#[tactic(auto, using(crate::proofs::Passes::row_each), unfolding(crate::specs::Flags::flag_parents))]
+fn flag_parents(flags: &mut [bool; MAX_RUNS], parents: ParentRows, run: EventRunIndex)
     requires { run.0 < runs_in parents }
     ensures { flags.new ≡ flag_parents (parents_in parents.entry) flags.old run.0 }
 {
-    if flags[run.0 as usize] == 0 {
-        return;
+    if flags[run.0 as usize] {
+        flag_all(flags, parents.of(run.0 as usize));
     }
-    flag_all(flags, parents.of(run.0 as usize))
 }
 
 // The same of the runs before `end`, from the last down.
 #[tactic(auto, using(crate::proofs::Passes::down_next, crate::proofs::Passes::down_none))]
-fn flag_down(flags: &mut [u32; MAX_RUNS], parents: ParentRows, end: EventRunIndex)
+fn flag_down(flags: &mut [bool; MAX_RUNS], parents: ParentRows, end: EventRunIndex)
     requires { end.0 ≤ runs_in parents }
     ensures { flags.new ≡ flag_down (parents_in parents.entry) flags.old end.0 }
 {
@@ -48,26 +49,20 @@ fn flag_down(flags: &mut [u32; MAX_RUNS], parents: ParentRows, end: EventRunInde
     }
 }
 
-// Whether a number is at least `run` and flagged.
-#[tactic(auto, using(std::proofs::lemmas::Option::gets), unfolding(crate::specs::Flags::flagged))]
-fn is_flagged(flags: &[u32], run: EventRunIndex, p: EventRunIndex) -> bool
-    ensures { result ≡ flagged flags.now run.0 p.0 }
-{
-    run.0 <= p.0 && flags.get(p.0 as usize).copied().unwrap_or(0) != 0
-}
-
-// Whether such a number is among some runs.
-fn has_flagged(flags: &[u32], run: EventRunIndex, runs: &[u32]) -> bool
+// Whether some of the runs is not below `run`, and flagged.
+#[tactic(auto, unfolding(crate::specs::Flags::flagged))]
+fn has_flagged(flags: &[bool], run: EventRunIndex, runs: &[u32]) -> bool
+    requires { All (λ p. p < length flags.now) runs.now }
     ensures { result ≡ list_any (flagged flags.now run.0) runs.now }
 {
     runs.iter()
-        .any(|p| is_flagged(flags, run, EventRunIndex(*p)))
+        .any(|p| run <= EventRunIndex(*p) && flags[*p as usize])
 }
 
 // A run is flagged if it has such a parent.
-#[tactic(auto, using(crate::proofs::Passes::any_is, crate::proofs::HeadTurns::byte_bit), unfolding(crate::specs::Flags::flag_child))]
+#[tactic(auto, using(crate::proofs::Passes::rising_up), unfolding(crate::specs::Flags::flag_child))]
 fn flag_child(
-    flags: &mut [u32; MAX_RUNS],
+    flags: &mut [bool; MAX_RUNS],
     run: EventRunIndex,
     parents: ParentRows,
     q: EventRunIndex,
@@ -76,13 +71,13 @@ fn flag_child(
     ensures { flags.new ≡ flag_child (parents_in parents.entry) run.0 flags.old q.0 }
 {
     let flag = has_flagged(flags, run, parents.of(q.0 as usize));
-    flags[q.0 as usize] = u32::from(flag);
+    flags[q.0 as usize] = flag;
 }
 
 // The same of the runs from `from` on.
 #[tactic(auto, using(crate::proofs::Passes::up_next, crate::proofs::Passes::up_none))]
 fn flag_up(
-    flags: &mut [u32; MAX_RUNS],
+    flags: &mut [bool; MAX_RUNS],
     run: EventRunIndex,
     parents: ParentRows,
     from: EventRunIndex,
@@ -95,84 +90,50 @@ fn flag_up(
 }
 
 // A flag for each run that is an ancestor of `run`, `run` itself, or a descendant.
-fn flags_of(g: &CausalGraph, run: EventRunIndex) -> [u32; MAX_RUNS]
-    requires held { Held g.now }
-    requires run_there { run.0 < g.now.run_count }
-    ensures { Flags (view g.now) run.0 result }
+fn flags_of(g: &HeldGraph, run: EventRunIndex) -> [bool; MAX_RUNS]
+    requires { run.0 < g.now.graph.run_count }
+    ensures { Flags (view g.now.graph) run.0 result }
 {
     let parents = ParentRows::of_graph(g);
     let next = EventRunIndex(run.0 + 1);
-    let mut flags = [0; MAX_RUNS];
-    flags[run.0 as usize] = 1;
+    let mut flags = [false; MAX_RUNS];
+    flags[run.0 as usize] = true;
     flag_down(&mut flags, parents, next);
     flag_up(&mut flags, run, parents, next);
     flags
 }
 
-// How many runs have no flag.
-fn count_free(flags: &[u32]) -> usize
-    ensures { result ≡ count_by (λ f. f == 0) flags.now }
-{
-    flags.iter().filter(|f| **f == 0).count()
-}
-
-// Writes a run if it has no flag.
-fn put_free(out: &mut Records, run: EventRunIndex, flag: u32)
-    ensures same_list { same_list out.new out.old }
-    ensures written { state out.new ≡ cond (eqb flag 0) (put 1 (state out.old) (run.0 ∷ [])) (state out.old) }
-{
-    if flag == 0 {
-        out.put([run.0]);
-    }
-}
-
-// The runs that have no flag, a word each.
+// The runs that have no flag.
 #[tactic(auto, using(crate::proofs::Passes::freeing))]
-fn put_all_free(flags: &[u32], out: &mut Records)
+fn free_runs(flags: &[bool]) -> Kept
     requires { length flags.now ≤ max_runs }
-    ensures same_list { same_list out.new out.old }
-    ensures written { state out.new ≡ put_all 1 (state out.old) (map (λ q. q ∷ []) (free flags.now (length flags.now))) }
+    ensures { result ≡ free flags.now (length flags.now) }
 {
+    let mut runs = Kept::new();
     for (q, flag) in flags.iter().enumerate() {
-        put_free(out, EventRunIndex(q as u32), *flag);
+        runs.push_if(!*flag, q as u32);
     }
+    runs
 }
 
-// `concurrent_runs` on a graph that is known not to be broken.
-#[tactic(auto, using(graph::proofs::Views::facts))]
-fn concurrent_held(g: &CausalGraph, run: EventRunIndex, list: &mut [u32]) -> Written
-    requires { Held g.now }
-    ensures { (result, list.new) ≡ concurrency_list_of g.now run.0 list.old }
+// The runs that are neither ancestor nor descendant of `run`, nor `run` itself, rising; or why they are not told.
+#[tactic(auto, using(crate::proofs::GraphRows::few_runs))]
+fn concurrent_words(g: CausalGraph, run: EventRunIndex) -> Result<Kept, Refusal>
+    ensures { result ≡ answer_or (lookup g (leb (runs (view g)) run.0)) (concurrency_list (view g) run.0) }
 {
-    let n = g.run_count;
+    let g = HeldGraph::of(g)?;
+    let n = g.graph.run_count;
     if n <= run.0 as usize {
-        return Written {
-            count: 0,
-            outcome: Err(Refusal::Outside),
-        };
+        return Err(Refusal::Outside);
     }
-    let flags = flags_of(g, run);
-    if list.len() < count_free(&flags[..n]) {
-        return Written {
-            count: 0,
-            outcome: Err(Refusal::ListTooShort),
-        };
-    }
-    let mut out = Records::over(list);
-    put_all_free(&flags[..n], &mut out);
-    out.written()
+    let flags = flags_of(&g, run);
+    Ok(free_runs(&flags[..n]))
 }
 
-// The runs that are neither ancestor nor descendant of `run`, nor `run` itself, into `list`, rising.
-#[tactic(auto, using(model::proofs::Stored::held_of, crate::proofs::ConcurrentWays::concurrent_broken))]
+// The runs that are neither ancestor nor descendant of `run`, nor `run` itself, into `list`, rising; none where they do not fit.
+#[tactic(auto, using(crate::proofs::ConcurrentWays::is_put))]
 pub fn concurrent_runs(g: CausalGraph, run: EventRunIndex, list: &mut [u32]) -> Written
     ensures { (result, list.new) ≡ concurrency_list_of g run.0 list.old }
 {
-    if graph::broken::is_broken(g) {
-        return Written {
-            count: 0,
-            outcome: Err(Refusal::Broken),
-        };
-    }
-    concurrent_held(&g, run, list)
+    put_all(concurrent_words(g, run), list)
 }

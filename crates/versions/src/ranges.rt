@@ -1,12 +1,19 @@
 // What ranges of events mark, run by run, in linear time. An event is marked exactly if the words at most it are odd in number, and the next
 // word is then its range's end. Each pass goes forward over the runs and the words together.
-ghost use Rattle.std.specs.Prelude.{◌≡◌, true, false, ◌-◌, ◌≤◌, length};
+ghost use Rattle.std.specs.Prelude.{◌≡◌, true, false, ◌-◌, ◌≤◌, length, leb, take_while};
 ghost use Rattle.std.specs.Option.{MatchOption};
 ghost use Rattle.lists.specs.Lists.{all, upto};
 ghost use Rattle.model.specs.Wanted;
 ghost use Rattle.versions.specs.Ranges.{place_of, words_within, clear_at, end_at, clear_in, Ends, Starts};
 
 use model::{EventIndex, MAX_RUNS};
+
+// How many words come before the first that is above an event.
+fn count_at_most(words: &[u32], e: EventIndex) -> usize
+    ensures { result ≡ length (take_while (λ w. leb w e.0) words.now) }
+{
+    words.iter().take_while(|w| EventIndex(**w) <= e).count()
+}
 
 // Ranges of events, as words: a first and its end in turn, rising.
 #[derive(Clone, Copy)]
@@ -36,7 +43,7 @@ impl<'a> EventRanges<'a> {
         ensures { result ≡ words_within first.0 end.0 self.entry.words.now }
     {
         match (self.words.first(), self.words.last()) {
-            (Some(low), Some(high)) => first.0 <= *low && *high <= end.0,
+            (Some(low), Some(high)) => first <= EventIndex(*low) && EventIndex(*high) <= end,
             _ => true,
         }
     }
@@ -47,12 +54,7 @@ impl<'a> EventRanges<'a> {
         requires { from ≤ place_of self.words.now e.0 }
         ensures { result ≡ place_of self.entry.words.now e.0 }
     {
-        for k in from..self.words.len() {
-            if e.0 < self.words[k] {
-                return k;
-            }
-        }
-        self.words.len()
+        from + count_at_most(&self.words[from..], e)
     }
 
     // Whether no range begins at place k or behind it and before `end`.
@@ -64,7 +66,7 @@ impl<'a> EventRanges<'a> {
             return true;
         }
         let next = k + k % 2;
-        self.words.len() <= next || end.0 <= self.words[next]
+        self.words.len() <= next || end <= EventIndex(self.words[next])
     }
 
     // Whether no range begins inside a run, by where each run starts, and last where the last one ends.
@@ -82,23 +84,24 @@ impl<'a> EventRanges<'a> {
         true
     }
 
-    // The end of what is marked from an event up to `end`, where k words are at most that event; 0 if it is not marked.
-    #[tactic(auto, using(std::proofs::lemmas::Option::gets), unfolding(crate::specs::Ranges::end_at, crate::specs::Ranges::is_odd))]
-    fn end_at(self, k: usize, end: EventIndex) -> u32
+    // The end of what is marked from an event up to `end`, where k words are at most that event, if it is marked.
+    #[tactic(auto, using(crate::proofs::RangeTurns::placing), unfolding(crate::specs::Ranges::end_at, crate::specs::Ranges::is_odd))]
+    fn end_at(self, k: usize, end: EventIndex) -> Option<EventIndex>
+        requires { k ≤ length self.words.now }
         ensures { result ≡ end_at self.entry.words.now k end.0 }
     {
         if k % 2 == 0 {
-            return 0;
+            return None;
         }
-        end.0.min(self.words.get(k).copied().unwrap_or(0))
+        Some(EventIndex(self.words[k]).min(end))
     }
 
-    // The end of what is marked of each run; 0 if its first event is not.
-    pub(crate) fn marked_ends(self, starts: &[u32]) -> [u32; MAX_RUNS]
+    // The end of what is marked of each run, if its first event is.
+    pub(crate) fn marked_ends(self, starts: &[u32]) -> [Option<EventIndex>; MAX_RUNS]
         requires { Starts starts.now (length starts.now - 1) }
         ensures { Ends starts.now self.entry.words.now (length starts.now - 1) result }
     {
-        let mut ends = [0; MAX_RUNS];
+        let mut ends = [None; MAX_RUNS];
         let mut k = 0;
         for r in 0..starts.len() - 1 {
             k = self.place(k, EventIndex(starts[r]));

@@ -1,13 +1,13 @@
 // The parents of runs, which lie row after row among the entries.
 ghost use Rattle.std.specs.Prelude.{◌≡◌, ℕ, ◌+◌, ◌-◌, ◌<◌, length};
 ghost use Rattle.model.specs.Record.{view};
-ghost use Rattle.model.specs.Broken.{Held};
 ghost use Rattle.model.specs.History.{at};
 ghost use Rattle.graph.specs.Rows.{row, Rows};
 
-use model::CausalGraph;
+use graph::held::HeldGraph;
 
 // The parents of each of some runs: where each run's begin among the items, and last where those of the last run end.
+// No `Jagged` of the crate `tables`, which this crate does not know: this type holds that a run's parents are below it, a `Jagged` does not.
 #[derive(Clone, Copy)]
 pub(crate) struct ParentRows<'a> {
     pub(crate) starts: &'a [u32],
@@ -17,16 +17,15 @@ pub(crate) struct ParentRows<'a> {
 
 impl<'a> ParentRows<'a> {
     // Those of a graph's runs.
-    #[tactic(auto, using(graph::proofs::Views::facts))]
-    pub(crate) fn of_graph(g: &'a CausalGraph) -> ParentRows<'a>
-        requires { Held g.now }
-        ensures counted { length result.starts.now ≡ g.now.run_count + 1 }
-        ensures parents { (r : ℕ) → r < g.now.run_count → row result.starts.now result.items.now r ≡ at (view g.now).parents r }
+    #[tactic(auto, using(crate::proofs::GraphRows::few_runs))]
+    pub(crate) fn of_graph(g: &'a HeldGraph) -> ParentRows<'a>
+        ensures counted { length result.starts.now ≡ g.now.graph.run_count + 1 }
+        ensures parents { (r : ℕ) → r < g.now.graph.run_count → row result.starts.now result.items.now r ≡ at (view g.now.graph).parents r }
     {
-        let starts = &g.parent_starts[..g.run_count + 1];
+        let starts = &g.graph.parent_starts[..g.graph.run_count + 1];
         ParentRows {
             starts,
-            items: &g.parents,
+            items: &g.graph.parents,
         }
     }
 

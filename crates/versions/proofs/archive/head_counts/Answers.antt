@@ -18,5 +18,5 @@ loop-m-preserved c =
       simp length-set l.invariant.0,
       omega arith,
       omega (arith, e, l.invariant.2, count_turn a.firsts.now rows l.m),
-      filled_next (head_count a.firsts.now rows) l.counts l.m l.heads (omega (arith, l.invariant.0, a.parents.rows.few)) l.invariant.3 l.invariant.2,
+      filled_next 0 (head_count a.firsts.now rows) l.counts l.m l.heads (omega (arith, l.invariant.0, a.parents.rows.few)) l.invariant.3 l.invariant.2,
     )

@@ -7,8 +7,8 @@ use Rattle.versions.proofs.archive.point_runs.Goals as goal
 
 pub head_counts-counts-requires : goal.head_counts-counts-requires
 head_counts-counts-requires c =
-    let g = c.args.g.now in
-    let held = c.requires in
+    let g = c.args.g.now.graph in
+    let held = c.args.g.now.held in
     let all = c.of_graph-parents in
     let runs : runs_in all.result ≡ g.run_count = omega (arith, all.ensures.counted) in
     let firsts = rw runs at c.first_children-firsts.ensures in
@@ -16,8 +16,8 @@ head_counts-counts-requires c =
 
 pub returns : goal.returns
 returns c =
-    let g = c.args.g.now in
-    let held = c.requires in
+    let g = c.args.g.now.graph in
+    let held = c.args.g.now.held in
     let all = c.of_graph-parents in
     let runs : runs_in all.result ≡ g.run_count = omega (arith, all.ensures.counted) in
     let firsts = rw runs at c.first_children-firsts.ensures in
