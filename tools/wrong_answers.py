@@ -164,12 +164,12 @@ CALLS = [
 
 MOVES = [
     ("replaying::replay", "opens and applies without moves", "no_moves"),
-    ("replaying::replay", "writes no steps", "writing.rt", "if out.short {", "if out.short | true {"),
-    ("replaying::replay", "moved is 0", "writing.rt", "moved: out.moved + events,", "moved: out.moved + 0,"),
+    ("replaying::replay", "writes no steps", "writing.rt", "self.count += 1;", "self.count += 0;"),
+    ("replaying::replay", "moved is 0", "writing.rt", "u128::from(events)", "u128::from(events - events)"),
     ("walking::walk", "moved forgets the advances", "advances_not_moved"),
-    ("walking::walk", "moved counts an event for each Apply", "moving.rt", "put_step(steps, b, Kind::Apply, at, at + 1, 0)", "put_step(steps, b, Kind::Apply, at, at + 1, 1)"),
+    ("walking::walk", "moved counts an event for each Apply", "moving.rt", "put_step(Kind::Apply, at, at + 1, 0)", "put_step(Kind::Apply, at, at + 1, 1)"),
     ("walking::walk", "retreats fall along a chain", "retreats_falling"),
-    ("walking::walk", "11 though a step more fits", "writing.rt", "steps.len() / 3", "steps.len() / 4"),
+    ("walking::walk", "11 though a step more fits", "writing.rt", "self.list.len() / 3", "self.list.len() / 4"),
 ]
 
 TABLES = [
