@@ -152,13 +152,6 @@ impl Waits {
         0
     }
 
-    // Whether no run is ready.
-    pub(crate) fn is_empty(&self) -> bool
-        ensures { result ≡ eqb self.now.0 0 }
-    {
-        self.count == 0
-    }
-
     // Takes the run at `at` out of the ready ones.
     pub(crate) fn remove(&mut self, at: usize) -> u32
         requires at { at < self.old.0 }

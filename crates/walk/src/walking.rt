@@ -1,9 +1,10 @@
 // `walk` over a range of runs.
-ghost use Rattle.std.specs.Prelude.{◌≡◌, ◌+◌, ◌-◌, ◌*◌, ◌<◌, ◌≤◌, ◌^◌, false, max, min};
+ghost use Rattle.std.specs.Prelude.{◌≡◌, ◌-◌, ◌≤◌, max, min};
 ghost use Rattle.model.specs.Record.{view};
 ghost use Rattle.model.specs.Walk.{walk_of, walk_range};
 ghost use Rattle.walk.specs.Ranges.{ArraysOf, range_at};
-ghost use Rattle.walk.specs.Walked.{unwritten, walked_in, walked_of};
+ghost use Rattle.moves.specs.Emit.{so_far, written, same_list};
+ghost use Rattle.walk.specs.Walked.{walked_in};
 
 use crate::areas::Areas;
 use crate::given::Given;
@@ -11,16 +12,9 @@ use crate::visiting;
 use graph::held::HeldGraph;
 use graph::ranges;
 use model::{CausalGraph, EventRunIndex, Refusal, Walked};
-use moves::writing::Out;
+use moves::writing::Steps;
 use tables::rows::Area;
 use tables::tabling;
-
-// What a range came to: what is written, and whether its rows were too long.
-#[derive(Clone, Copy)]
-pub(crate) struct Ranged {
-    pub(crate) out: Out,
-    pub(crate) rows_too_long: bool,
-}
 
 // `first` as far as the range goes, and at least `known`.
 fn clamped(known: u32, first: u32, runs: u32) -> u32
@@ -31,21 +25,19 @@ fn clamped(known: u32, first: u32, runs: u32) -> u32
 
 // The range a..b: its rows, and its steps after those written before.
 pub(crate) fn walk_range(
-    out: Out,
     a: EventRunIndex,
     b: EventRunIndex,
     known: u32,
     first: u32,
     graph: &CausalGraph,
     rows: &mut [u32],
-    steps: &mut [u32],
+    steps: &mut Steps,
     areas: &mut Areas,
-) -> Ranged
+) -> Result<(), Refusal>
     requires arrays { ArraysOf graph.now b.0 }
     requires inside { (a.0 ≤ b.0) × (known ≤ b.0 - a.0) }
-    requires moved_bound { out.moved ≤ a.0 * 2 ^ 52 }
-    ensures steps_after { (result, rows.new, steps.new) ≡ walked_in graph.now.starts (range_at graph.now a.0 b.0) a.0 known first out rows.old steps.old }
-    ensures moved_bound { result.out.moved ≤ b.0 * 2 ^ 52 }
+    ensures same_list { same_list steps.new steps.old }
+    ensures steps_after { (written result steps.new, rows.new) ≡ walked_in graph.now.starts (range_at graph.now a.0 b.0) a.0 known first (so_far steps.old) rows.old }
 {
     let runs = b.0 - a.0;
     let n = runs as usize;
@@ -59,10 +51,7 @@ pub(crate) fn walk_range(
         &mut areas.tables,
         &mut areas.scratch,
     ) else {
-        return Ranged {
-            out,
-            rows_too_long: true,
-        };
+        return Err(Refusal::RowsTooLong);
     };
     let x = a.0 as usize;
     let y = x + n + 1;
@@ -77,29 +66,7 @@ pub(crate) fn walk_range(
         known,
         first: clamped(known, first, runs),
     };
-    let out = visiting::visits(&given, out, steps);
-    Ranged {
-        out,
-        rows_too_long: false,
-    }
-}
-
-// The answer.
-pub(crate) fn walked(r: Ranged) -> Walked
-    ensures { result ≡ walked_of r }
-{
-    let outcome = if r.rows_too_long {
-        Err(Refusal::RowsTooLong)
-    } else if r.out.short {
-        Err(Refusal::ListTooShort)
-    } else {
-        Ok(())
-    };
-    Walked {
-        count: r.out.count,
-        moved: r.out.moved,
-        outcome,
-    }
+    visiting::visits(&given, steps)
 }
 
 // `walk` on a graph that is known not to be broken and a range inside it.
@@ -110,18 +77,15 @@ fn walk_held(
     known: u32,
     first: u32,
     rows: &mut [u32],
-    steps: &mut [u32],
+    list: &mut [u32],
 ) -> Walked
     requires { (a.0 ≤ b.0) × (b.0 ≤ g.now.graph.run_count) × (known ≤ b.0 - a.0) }
-    ensures { (result, rows.new, steps.new) ≡ walk_range (view g.now.graph) a.0 b.0 known first rows.old steps.old }
+    ensures { (result, rows.new, list.new) ≡ walk_range (view g.now.graph) a.0 b.0 known first rows.old list.old }
 {
-    let out = Out {
-        count: 0,
-        moved: 0,
-        short: false,
-    };
+    let mut steps = Steps::over(list);
     let mut areas = Areas::new();
-    walked(walk_range(out, a, b, known, first, &g.graph, rows, steps, &mut areas))
+    let outcome = walk_range(a, b, known, first, &g.graph, rows, &mut steps, &mut areas);
+    steps.walked(outcome)
 }
 
 // The walk over the runs from `first_run` up to `end_run`: rows into `rows`, steps into `steps`.

@@ -1,5 +1,6 @@
 -- `walk::walking::walk_range`: a range's rows, tables and steps.
 use Rattle.std.proofs.Common.{Some, List, ℕ, ◌+◌, ◌-◌, ◌≤◌, refl, sym, subst, arith}
+use Rattle.moves.specs.Emit.{so_far, written}
 use Rattle.tables.specs.Laid.{shares, RangeLaid}
 use Rattle.walk.specs.Ranges.{range_at}
 use Rattle.walk.specs.Prepare.{Measured, Relatable, Related}
@@ -14,7 +15,7 @@ returns-in_default-clause-steps_after c =
     let a = c.args in
     let g = a.graph.now in
     let l = c.lay in
-    range_short g.starts g.parent_starts g.parents a.a.0 (a.b.0 - a.a.0) a.rows.now l.new.rows l.new.groups l.new.tables l.result l.ensures.range_laid (a.b.0 - a.a.0) a.known a.first a.out a.steps.now refl c.in_default.is
+    range_short g.starts g.parent_starts g.parents a.a.0 (a.b.0 - a.a.0) a.rows.now l.new.rows l.new.groups l.new.tables l.result l.ensures.range_laid (a.b.0 - a.a.0) a.known a.first (so_far a.steps.now) refl c.in_default.is
 
 pub prepare-requires-clause-measurable : goal.prepare-requires-clause-measurable
 prepare-requires-clause-measurable c =
@@ -66,7 +67,7 @@ returns-clause-steps_after c =
     let F = subst (λ (s : List ℕ). Related s n q.groups q.children q.tables) own_is c.prepare.ensures.related in
     let f = c.clamped.ensures in
     let low : c.clamped.result ≤ n = omega (arith, f, c.requires.inside.1) in
-    let v = c.visits-out in
+    let v = c.visits in
     let same = range_same g.starts g.parent_starts g.parents a.a.0 n A a.rows.now l.new.rows q.groups l.new.tables c.in-Some.area R q.tables q.before q.sizes q.children a.known c.clamped.result M F (omega (arith, M.kept.size, c.in-Some.ensures.tables_len_unchanged)) (omega (arith, f)) low in
-    range_walked g.starts g.parent_starts g.parents a.a.0 n a.rows.now l.new.rows q.groups l.new.tables (Some c.in-Some.area) R (a.b.0 - a.a.0) a.known a.first c.clamped.result _ a.out v.result a.steps.now v.new.steps refl c.in-Some.area refl
+    range_walked g.starts g.parent_starts g.parents a.a.0 n a.rows.now l.new.rows q.groups l.new.tables (Some c.in-Some.area) R (a.b.0 - a.a.0) a.known a.first c.clamped.result _ (so_far a.steps.now) (written v.result v.new.steps) refl c.in-Some.area refl
     (omega (arith, c.requires.inside.1)) (omega (arith, f)) same v.ensures.steps_after
