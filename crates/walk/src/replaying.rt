@@ -8,6 +8,7 @@ ghost use Rattle.walk.specs.CutRecords.{range_by, ranges_in, Tiled};
 
 use crate::areas::Areas;
 use crate::walking;
+use crate::walking::Bounds;
 use graph::held::HeldGraph;
 use model::{CausalGraph, EventRunIndex, MAX_RUNS, Refusal, Walked};
 use moves::writing::{Kind, Steps};
@@ -53,7 +54,15 @@ fn replay_next(
     steps.put_step(Kind::Open, a.0, b.0, 0)?;
     match kind {
         RangeKind::Linear => steps.put_applies(a.0, b.0),
-        RangeKind::Concurrent => walking::walk_range(a, b, 0, 0, graph, rows, steps, areas),
+        RangeKind::Concurrent => {
+            let bounds = Bounds {
+                from: a,
+                end: b,
+                known: 0,
+                first: 0,
+            };
+            walking::walk_range(bounds, graph, rows, steps, areas)
+        }
     }
 }
 
@@ -84,16 +93,16 @@ fn replay_all(
 }
 
 // Full replay of a graph that is known not to be broken.
-pub fn replay_held(g: &HeldGraph, rows: &mut [u32], list: &mut [u32]) -> Walked
-    ensures { (result, rows.new, list.new) ≡ replay_of g.now.graph rows.old list.old }
+pub fn replay_held(g: &HeldGraph, rows: &mut [u32], steps: &mut [u32]) -> Walked
+    ensures { (result, rows.new, steps.new) ≡ replay_of g.now.graph rows.old steps.old }
 {
     // Three words for each range, of which there are at most as many as runs.
     let mut cut = [0; 3 * MAX_RUNS];
     let w = graph::cut::cut_held(g, EventRunIndex(0), &mut cut);
     let (ranges, _) = cut[..3 * w.count].as_chunks();
-    let mut steps = Steps::over(list);
-    let outcome = replay_all(ranges, &g.graph, rows, &mut steps);
-    steps.walked(outcome)
+    let mut written = Steps::over(steps);
+    let outcome = replay_all(ranges, &g.graph, rows, &mut written);
+    written.walked(outcome)
 }
 
 // Full replay: rows of each range into `rows`, all steps into `steps`.
@@ -102,10 +111,6 @@ pub fn replay(g: CausalGraph, rows: &mut [u32], steps: &mut [u32]) -> Walked
 {
     match HeldGraph::of(g) {
         Ok(held) => replay_held(&held, rows, steps),
-        Err(r) => Walked {
-            count: 0,
-            moved: 0,
-            outcome: Err(r),
-        },
+        Err(r) => Steps::over(steps).walked(Err(r)),
     }
 }

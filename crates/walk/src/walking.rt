@@ -16,6 +16,16 @@ use moves::writing::Steps;
 use tables::rows::Area;
 use tables::tabling;
 
+// A walk's range, from one run up to another, how many of its runs are known, and how many come first.
+#[derive(Clone, Copy)]
+pub(crate) struct Bounds {
+    pub(crate) from: EventRunIndex,
+    pub(crate) end: EventRunIndex,
+    pub(crate) known: u32,
+    pub(crate) first: u32,
+    ghost inside: { (from.0 ≤ end.0) × (known ≤ end.0 - from.0) },
+}
+
 // `first` as far as the range goes, and at least `known`.
 fn clamped(known: u32, first: u32, runs: u32) -> u32
     ensures { result ≡ max known (min first runs) }
@@ -23,22 +33,24 @@ fn clamped(known: u32, first: u32, runs: u32) -> u32
     known.max(first.min(runs))
 }
 
-// The range a..b: its rows, and its steps after those written before.
+// A range walked: its rows, and its steps after those written before.
 pub(crate) fn walk_range(
-    a: EventRunIndex,
-    b: EventRunIndex,
-    known: u32,
-    first: u32,
+    bounds: Bounds,
     graph: &CausalGraph,
     rows: &mut [u32],
     steps: &mut Steps,
     areas: &mut Areas,
 ) -> Result<(), Refusal>
-    requires arrays { ArraysOf graph.now b.0 }
-    requires inside { (a.0 ≤ b.0) × (known ≤ b.0 - a.0) }
+    requires { ArraysOf graph.now bounds.end.0 }
     ensures same_list { same_list steps.new steps.old }
-    ensures steps_after { (written result steps.new, rows.new) ≡ walked_in graph.now.starts (range_at graph.now a.0 b.0) a.0 known first (so_far steps.old) rows.old }
+    ensures steps_after { (written result steps.new, rows.new) ≡ walked_in graph.now.starts (range_at graph.now bounds.from.0 bounds.end.0) bounds.from.0 bounds.known bounds.first (so_far steps.old) rows.old }
 {
+    let Bounds {
+        from: a,
+        end: b,
+        known,
+        first,
+    } = bounds;
     let runs = b.0 - a.0;
     let n = runs as usize;
     let Some(area) = tabling::lay(
@@ -70,22 +82,14 @@ pub(crate) fn walk_range(
 }
 
 // `walk` on a graph that is known not to be broken and a range inside it.
-fn walk_held(
-    g: &HeldGraph,
-    a: EventRunIndex,
-    b: EventRunIndex,
-    known: u32,
-    first: u32,
-    rows: &mut [u32],
-    list: &mut [u32],
-) -> Walked
-    requires { (a.0 ≤ b.0) × (b.0 ≤ g.now.graph.run_count) × (known ≤ b.0 - a.0) }
-    ensures { (result, rows.new, list.new) ≡ walk_range (view g.now.graph) a.0 b.0 known first rows.old list.old }
+fn walk_held(g: &HeldGraph, bounds: Bounds, rows: &mut [u32], steps: &mut [u32]) -> Walked
+    requires { bounds.end.0 ≤ g.now.graph.run_count }
+    ensures { (result, rows.new, steps.new) ≡ walk_range (view g.now.graph) bounds.from.0 bounds.end.0 bounds.known bounds.first rows.old steps.old }
 {
-    let mut steps = Steps::over(list);
+    let mut written = Steps::over(steps);
     let mut areas = Areas::new();
-    let outcome = walk_range(a, b, known, first, &g.graph, rows, &mut steps, &mut areas);
-    steps.walked(outcome)
+    let outcome = walk_range(bounds, &g.graph, rows, &mut written, &mut areas);
+    written.walked(outcome)
 }
 
 // The walk over the runs from `first_run` up to `end_run`: rows into `rows`, steps into `steps`.
@@ -101,11 +105,15 @@ pub fn walk(
     ensures { (result, rows.new, steps.new) ≡ walk_of g first_run.0 end_run.0 known first rows.old steps.old }
 {
     match ranges::range_outcome(g, first_run, end_run, known) {
-        Ok(held) => walk_held(&held, first_run, end_run, known, first, rows, steps),
-        Err(r) => Walked {
-            count: 0,
-            moved: 0,
-            outcome: Err(r),
-        },
+        Ok(held) => {
+            let bounds = Bounds {
+                from: first_run,
+                end: end_run,
+                known,
+                first,
+            };
+            walk_held(&held, bounds, rows, steps)
+        }
+        Err(r) => Steps::over(steps).walked(Err(r)),
     }
 }

@@ -35,8 +35,8 @@ walked-requires c =
     let w = c.cut_held-w in
     let rs = c.as_chunks.result.0.now in
     let read = cut_reads g.graph g.held _ w.new.list w.result refl w.ensures rs (records_are g.graph g.held _ w.new.list w.result refl w.ensures rs c.as_chunks.ensures.front) in
-    let e = c.replay_all-outcome.ensures.steps_after ∙ ap (λ (x : Writing). replay_all g.graph.starts (range_at g.graph) (x, a.rows.now) (ranges_in rs)) c.over-steps.ensures.begun in
-    omega (arith, ap (λ (x : WalkResult). x.0.count) (replay_whole g.graph g.held a.rows.now a.list.now (ranges_in rs) read _ e), replay_few g.graph g.held a.rows.now a.list.now)
+    let e = c.replay_all-outcome.ensures.steps_after ∙ ap (λ (x : Writing). replay_all g.graph.starts (range_at g.graph) (x, a.rows.now) (ranges_in rs)) c.over-written.ensures.begun in
+    omega (arith, ap (λ (x : WalkResult). x.0.count) (replay_whole g.graph g.held a.rows.now a.steps.now (ranges_in rs) read _ e), replay_few g.graph g.held a.rows.now a.steps.now)
 
 pub returns : goal.returns
 returns c =
@@ -46,8 +46,8 @@ returns c =
     let r = c.replay_all-outcome in
     let rs = c.as_chunks.result.0.now in
     let read = cut_reads g.graph g.held _ w.new.list w.result refl w.ensures rs (records_are g.graph g.held _ w.new.list w.result refl w.ensures rs c.as_chunks.ensures.front) in
-    let e = r.ensures.steps_after ∙ ap (λ (x : Writing). replay_all g.graph.starts (range_at g.graph) (x, a.rows.now) (ranges_in rs)) c.over-steps.ensures.begun in
-    let all : (c.walked.result, r.new.rows, r.new.steps.list.now) ≡ replay_of g.graph a.rows.now a.list.now =
-    rw c.walked.ensures (replay_whole g.graph g.held a.rows.now a.list.now (ranges_in rs) read _ e) in
-    let back : (x : List ℕ) → x ≡ r.new.steps.list.now → (c.walked.result, r.new.rows, x) ≡ replay_of g.graph a.rows.now a.list.now = λ x e. rw e all in
+    let e = r.ensures.steps_after ∙ ap (λ (x : Writing). replay_all g.graph.starts (range_at g.graph) (x, a.rows.now) (ranges_in rs)) c.over-written.ensures.begun in
+    let all : (c.walked.result, r.new.rows, r.new.steps.list.now) ≡ replay_of g.graph a.rows.now a.steps.now =
+    rw c.walked.ensures (replay_whole g.graph g.held a.rows.now a.steps.now (ranges_in rs) read _ e) in
+    let back : (x : List ℕ) → x ≡ r.new.steps.list.now → (c.walked.result, r.new.rows, x) ≡ replay_of g.graph a.rows.now a.steps.now = λ x e. rw e all in
     search (rules, back)
