@@ -191,14 +191,14 @@ WALK = [
     ("walking::walk", "weighs the oldest first", "oldest_first"),
     ("walking::walk", "measures on after cost 0", "measured_on"),
     ("walking::walk", "a tie goes to the older", "choice.rt", "(a.cost, a.weight) < (b.cost, b.weight)", "(a.cost, a.weight) <= (b.cost, b.weight)"),
-    ("walking::walk", "first is ignored", "walking.rt", "clamped(known, first, runs)", "clamped(known, known, runs)"),
-    ("walking::walk", "first below known is taken as it is", "walking.rt", "known.max(first.min(runs))", "0u32.max(first.min(runs))"),
+    ("walking::walk", "first is ignored", "walking.rt", "first: bounds.clamped(),", "first: bounds.known,"),
+    ("walking::walk", "first below known is taken as it is", "walking.rt", "self.known.max(self.first.min(runs))", "0u32.max(self.first.min(runs))"),
     ("walking::walk", "writes no steps", "ready.rt", "self.ready[self.count] = r;\n        self.count += 1;", "self.ready[self.count] = r;\n        self.count += 0;"),
-    ("replaying::replay", "opens and applies without moves", "replaying.rt", "walking::walk_range(a, b, 0, 0, graph, rows, steps, areas)", "steps.put_applies(a.0, b.0)"),
+    ("replaying::replay", "opens and applies without moves", "replaying.rt", "walking::walk_range(bounds, graph, rows, steps, areas)", "steps.put_applies(a.0, b.0)"),
     ("replaying::replay", "writes no steps", "replaying.rt", "cut[..3 * w.count]", "cut[..0 * w.count]"),
     ("replaying::replay", "works in the first range only", "replaying.rt", "in ranges {", "in &ranges[..ranges.len().min(1)] {"),
     ("replaying::replay", "opens no run", "replaying.rt", "Kind::Open, a.0, b.0, 0)", "Kind::Open, a.0, a.0, 0)"),
-    ("replaying::replay", "takes a range's first run as known", "replaying.rt", "walk_range(a, b, 0, 0, graph", "walk_range(a, b, 1, 0, graph"),
+    ("replaying::replay", "takes a range's first run as known", "replaying.rt", "known: 0,", "known: 1,"),
 ]
 
 BOOK = [

@@ -26,11 +26,14 @@ pub(crate) struct Bounds {
     ghost inside: { (from.0 ≤ end.0) × (known ≤ end.0 - from.0) },
 }
 
-// `first` as far as the range goes, and at least `known`.
-fn clamped(known: u32, first: u32, runs: u32) -> u32
-    ensures { result ≡ max known (min first runs) }
-{
-    known.max(first.min(runs))
+impl Bounds {
+    // `first` as far as the range goes, and at least `known`.
+    fn clamped(self) -> u32
+        ensures { result ≡ max self.known (min self.first (self.end.0 - self.from.0)) }
+    {
+        let runs = self.end.0 - self.from.0;
+        self.known.max(self.first.min(runs))
+    }
 }
 
 // A range walked: its rows, and its steps after those written before.
@@ -45,14 +48,8 @@ pub(crate) fn walk_range(
     ensures same_list { same_list steps.new steps.old }
     ensures steps_after { (written result steps.new, rows.new) ≡ walked_in graph.now.starts (range_at graph.now bounds.from.0 bounds.end.0) bounds.from.0 bounds.known bounds.first (so_far steps.old) rows.old }
 {
-    let Bounds {
-        from: a,
-        end: b,
-        known,
-        first,
-    } = bounds;
-    let runs = b.0 - a.0;
-    let n = runs as usize;
+    let a = bounds.from;
+    let n = (bounds.end.0 - a.0) as usize;
     let Some(area) = tabling::lay(
         &graph.parent_starts,
         &graph.parents,
@@ -75,8 +72,8 @@ pub(crate) fn walk_range(
         base: a,
         runs: n,
         chains: area.chains,
-        known,
-        first: clamped(known, first, runs),
+        known: bounds.known,
+        first: bounds.clamped(),
     };
     visiting::visits(&given, steps)
 }
