@@ -164,12 +164,15 @@ CALLS = [
 
 MOVES = [
     ("replaying::replay", "opens and applies without moves", "no_moves"),
-    ("replaying::replay", "writes no steps", "writing.rt", "if out.short {", "if out.short | true {"),
-    ("replaying::replay", "moved is 0", "writing.rt", "moved: out.moved + events,", "moved: out.moved + 0,"),
+    ("replaying::replay", "writes no steps", "writing.rt", "self.count += 1;", "self.count += 0;"),
+    ("replaying::replay", "moved is 0", "writing.rt", "u128::from(events)", "u128::from(events - events)"),
     ("walking::walk", "moved forgets the advances", "advances_not_moved"),
-    ("walking::walk", "moved counts an event for each Apply", "moving.rt", "put_step(steps, b, Kind::Apply, at, at + 1, 0)", "put_step(steps, b, Kind::Apply, at, at + 1, 1)"),
+    ("walking::walk", "moved counts an event for each Apply", "moving.rt", "put_step(Kind::Apply, at, at + 1, 0)", "put_step(Kind::Apply, at, at + 1, 1)"),
     ("walking::walk", "retreats fall along a chain", "retreats_falling"),
-    ("walking::walk", "11 though a step more fits", "writing.rt", "steps.len() / 3", "steps.len() / 4"),
+    ("walking::walk", "11 though a step more fits", "writing.rt", "self.list.len() / 3", "self.list.len() / 4"),
+    ("walking::walk", "13 in place of 11", "writing.rt", "Err(Refusal::ListTooShort)", "Err(Refusal::RowsTooLong)"),
+    ("replaying::replay", "moved is the step count", "writing.rt", "moved: self.moved as u64,", "moved: self.count,"),
+    ("replaying::replay", "count 0 under 13", "writing.rt", "count: self.count,", "count: match outcome { Err(Refusal::RowsTooLong) => 0, _ => self.count },"),
 ]
 
 TABLES = [
@@ -188,17 +191,14 @@ WALK = [
     ("walking::walk", "weighs the oldest first", "oldest_first"),
     ("walking::walk", "measures on after cost 0", "measured_on"),
     ("walking::walk", "a tie goes to the older", "choice.rt", "(a.cost, a.weight) < (b.cost, b.weight)", "(a.cost, a.weight) <= (b.cost, b.weight)"),
-    ("walking::walk", "first is ignored", "walking.rt", "clamped(known, first, runs)", "clamped(known, known, runs)"),
-    ("walking::walk", "first below known is taken as it is", "walking.rt", "known.max(first.min(runs))", "0u32.max(first.min(runs))"),
-    ("walking::walk", "13 in place of 11", "walking.rt", "Err(Refusal::ListTooShort)", "Err(Refusal::RowsTooLong)"),
+    ("walking::walk", "first is ignored", "walking.rt", "first: bounds.clamped(),", "first: bounds.known,"),
+    ("walking::walk", "first below known is taken as it is", "walking.rt", "self.known.max(self.first.min(runs))", "0u32.max(self.first.min(runs))"),
     ("walking::walk", "writes no steps", "ready.rt", "self.ready[self.count] = r;\n        self.count += 1;", "self.ready[self.count] = r;\n        self.count += 0;"),
-    ("replaying::replay", "opens and applies without moves", "replaying.rt", "if kind == 0 {", "if kind / 2 == 0 {"),
-    ("replaying::replay", "writes no steps", "replaying.rt", "replay_all(w.count, &cut", "replay_all(0, &cut"),
-    ("replaying::replay", "works in the first range only", "replaying.rt", "for i in 0..n {", "for i in 0..n.min(1) {"),
-    ("replaying::replay", "moved is the step count", "walking.rt", "moved: r.out.moved,", "moved: r.out.count,"),
+    ("replaying::replay", "opens and applies without moves", "replaying.rt", "walking::walk_range(bounds, graph, rows, steps, areas)", "steps.put_applies(a.0, b.0)"),
+    ("replaying::replay", "writes no steps", "replaying.rt", "cut[..3 * w.count]", "cut[..0 * w.count]"),
+    ("replaying::replay", "works in the first range only", "replaying.rt", "in ranges {", "in &ranges[..ranges.len().min(1)] {"),
     ("replaying::replay", "opens no run", "replaying.rt", "Kind::Open, a.0, b.0, 0)", "Kind::Open, a.0, a.0, 0)"),
-    ("replaying::replay", "count 0 under 13", "walking.rt", "            out,\n            rows_too_long: true,", "            out: Out { count: 0, moved: out.moved, short: out.short },\n            rows_too_long: true,"),
-    ("replaying::replay", "takes a range's first run as known", "replaying.rt", "walk_range(out, a, b, 0, 0, graph", "walk_range(out, a, b, 1, 0, graph"),
+    ("replaying::replay", "takes a range's first run as known", "replaying.rt", "known: 0,", "known: 1,"),
 ]
 
 BOOK = [

@@ -1,13 +1,16 @@
 -- What a writer leaves, in closed form: the whole records that fit, and the rest of the list untouched. Assumes nothing.
-use Rattle.std.proofs.Common.{◌≡◌, refl, sym, ap, ◌∙◌, ⊎_elim, Bool, true, false, List, [], ◌∷◌, ◌++◌, append_assoc, ℕ, suc, ◌+◌, ◌*◌, ◌/◌, ◌-◌, ◌<◌, ◌≤◌, zero-add, add-one, arith, lt-ltb, le-ltb}
+use Rattle.std.proofs.Common.{◌≡◌, sym, ap, ◌∙◌, ⊎_elim, Bool, cond, List, [], ◌∷◌, ◌++◌, append_assoc, ℕ, suc, ◌+◌, ◌*◌, ◌/◌, ◌-◌, ◌<◌, ◌≤◌, zero-add, add-one, arith, lt-ltb, le-ltb}
 use Rattle.std.proofs.Common.{length, take, drop, length-set, length-append, take-append-drop, take_at, drop-drop, length-take-le, ltb}
 use native.Mathlib.Nat.{sub-zero}
 use native.Mathlib.Numerals.{add-two}
 use lib.Seq.{sets-eq, drop-append-add, take-nil}
 use lib.Dec.{leb-suc-suc}
 use Rattle.lists.proofs.Truth.{lt_or_le}
-use Rattle.moves.specs.declared.writing.Out.{Out}
-use Rattle.moves.specs.Emit.{kind_word, Rec, Writing, put3, emit}
+use Rattle.std.specs.Prelude.{Ok, Err}
+use Rattle.model.specs.declared.answers.Refusal.TheVariants.{ListTooShort}
+use Rattle.model.specs.Refusals.{Outcome}
+use Rattle.moves.specs.Emit.{kind_word, Rec, Writing, going, stopped, put3, emit}
+use Rattle.moves.proofs.Emitting.{emit-refused}
 
 -- The words of some records, and the events that they move
 unfoldable pub rec_words : List Rec → List ℕ
@@ -18,26 +21,16 @@ unfoldable pub rec_events : List Rec → ℕ
 rec_events [] = 0
 rec_events (s ∷ ss) = s.events + rec_events ss
 
--- k records stand there, which moved m, and all found room
-abbrev pub going : ℕ → ℕ → Out
-going k m = record { count = k; moved = m; short = false }
-
--- the same, and one found no room
-abbrev pub stopped : ℕ → ℕ → Out
-stopped k m = record { count = k; moved = m; short = true }
+-- What is answered where the list was too short, or not
+abbrev pub told : Bool → Outcome
+told t = cond t (Err ListTooShort) (Ok tt)
 
 -- k records stand there, which moved m; of ss those that fit follow
 abbrev pub after : ℕ → ℕ → List ℕ → List Rec → List Rec → Writing
 after k m ws ss fit = (
-  record { count = k + length fit; moved = m + rec_events fit; short = ltb (length ws / 3 - k) (length ss) },
+  record { count = k + length fit; moved = m + rec_events fit; outcome = told (ltb (length ws / 3 - k) (length ss)) },
   take (3 * k) ws ++ (rec_words fit ++ drop (3 * (k + length fit)) ws),
 )
-
--- Once a record found no room nothing changes
-pub short-stays : (k m : ℕ) (ws : List ℕ) (ss : List Rec) → emit (stopped k m, ws) ss ≡ (stopped k m, ws)
-unfolding emit
-short-stays k m ws [] = refl
-short-stays k m ws (s ∷ ss) = short-stays k m ws ss
 
 put3_eq : (ws : List ℕ) (at x y z : ℕ) → at + 3 ≤ length ws → put3 ws at x y z ≡ (take at ws ++ (x ∷ y ∷ z ∷ [])) ++ drop (at + 3) ws
 put3_eq ws at x y z h = rw (add-one, add-two) (sets-eq (x ∷ y ∷ z ∷ []) ws at h)
@@ -64,8 +57,8 @@ module _ (ws : List ℕ) (k x y z : ℕ) (h : 3 * k + 3 ≤ length ws) where
       drop-append-add front (drop (3 * k + 3) ws) (3 * n) ∙ drop-drop (3 * n) (3 * k + 3) ws ∙ ap (λ (m : ℕ). drop m ws) (sym f)
 
 writing_eq : {n n' m m' : ℕ} {t t' : Bool} {l l' : List ℕ} → n ≡ n' → m ≡ m' → t ≡ t' → l ≡ l' →
-    ◌≡◌ {A = Writing} (record { count = n; moved = m; short = t }, l) (record { count = n'; moved = m'; short = t' }, l')
-writing_eq p q r e = λ i. (record { count = p i; moved = q i; short = r i }, e i)
+    ◌≡◌ {A = Writing} (record { count = n; moved = m; outcome = told t }, l) (record { count = n'; moved = m'; outcome = told t' }, l')
+writing_eq p q r e = λ i. (record { count = p i; moved = q i; outcome = told (r i) }, e i)
 
 rejoined : (k : ℕ) (ws : List ℕ) → take (3 * k) ws ++ drop (3 * (k + 0)) ws ≡ ws
 rejoined k ws = let e : 3 * (k + 0) ≡ 3 * k = omega arith in rw e (take-append-drop (3 * k) ws)
@@ -110,10 +103,10 @@ emit-closed (s ∷ ss) k m ws h = ⊎_elim
     ∙ one_more s ss k m ws lt (take (length ws / 3 - (k + 1)) ss) ∙ ap (λ (j : ℕ). after k m ws (s ∷ ss) (take j (s ∷ ss))) (sym e)))
     (λ (ge : length ws / 3 ≤ k).
     let e : length ws / 3 - k ≡ 0 = omega arith in
-    rw (le-ltb k (length ws / 3) ge) (short-stays k m ws ss ∙ no_room s ss k m ws ge ∙ ap (λ (j : ℕ). after k m ws (s ∷ ss) (take j (s ∷ ss))) (sym e)))
+    rw (le-ltb k (length ws / 3) ge) (emit-refused ListTooShort k m ws ss ∙ no_room s ss k m ws ge ∙ ap (λ (j : ℕ). after k m ws (s ∷ ss) (take j (s ∷ ss))) (sym e)))
     (lt_or_le k (length ws / 3))
 
 -- From the start: the records that fit, and the rest of the list as it was
 pub emit-fresh : (ss : List Rec) (ws : List ℕ) → let fit : List Rec = take (length ws / 3) ss in emit (going 0 0, ws) ss
-    ≡ (record { count = length fit; moved = rec_events fit; short = ltb (length ws / 3) (length ss) }, rec_words fit ++ drop (3 * length fit) ws)
+    ≡ (record { count = length fit; moved = rec_events fit; outcome = told (ltb (length ws / 3) (length ss)) }, rec_words fit ++ drop (3 * length fit) ws)
 emit-fresh ss ws = simp (sub-zero, zero-add) at (emit-closed ss 0 0 ws (omega arith))

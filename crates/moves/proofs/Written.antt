@@ -7,10 +7,10 @@ use Rattle.model.specs.Graph.{Graph, start}
 use Rattle.model.specs.Steps.{Step, retreat, advance, apply, opened, step_words, words, moved_in}
 use Rattle.model.proofs.Reading.{words-length}
 use Rattle.moves.specs.declared.writing.Kind.TheVariants.{Retreat, Advance, Apply, Open}
-use Rattle.moves.specs.Emit.{Rec, Writing, step_of, emit_one, emit, applies}
+use Rattle.moves.specs.Emit.{Rec, Writing, going, step_of, emit_one, emit, applies}
 use Rattle.moves.specs.Moves.{rec_of, recs}
 use Rattle.moves.proofs.Emitting.{emit-append}
-use Rattle.moves.proofs.Closing.{rec_words, rec_events, going, emit-fresh}
+use Rattle.moves.proofs.Closing.{rec_words, rec_events, told, emit-fresh}
 use Rattle.moves.proofs.Defined.{map-append}
 
 -- Some steps after others are all of them
@@ -59,10 +59,10 @@ take-recs gst zero ss = refl
 take-recs gst (suc k) [] = refl
 take-recs gst (suc k) (s ∷ ss) = ap (λ (l : List Rec). rec_of gst s ∷ l) (take-recs gst k ss)
 
--- Steps in an empty list of some room: those that fit are written, counted and moved, and it is short if not all fit
+-- Steps in an empty list of some room: those that fit are written, counted and moved, and it was too short if not all fit
 pub written_is : (g : Graph) (ss : List Step) (area : List ℕ) → let fit : List Step = take (length area / 3) ss in
     emit (going 0 0, area) (recs g.starts ss)
-    ≡ (record { count = length fit; moved = moved_in g fit; short = ltb (length area / 3) (length ss) }, over (words fit) area)
+    ≡ (record { count = length fit; moved = moved_in g fit; outcome = told (ltb (length area / 3) (length ss)) }, over (words fit) area)
 unfolding over
 written_is g ss area =
     let room : ℕ = length area / 3 in
@@ -72,4 +72,4 @@ written_is g ss area =
     let mv : rec_events (take room (recs g.starts ss)) ≡ moved_in g (take room ss) = ap rec_events t ∙ events_are g (take room ss) in
     let three : 3 * length (take room (recs g.starts ss)) ≡ length (words (take room ss)) = omega (arith, len, words-length (take room ss)) in
     let sh : ltb room (length (recs g.starts ss)) ≡ ltb room (length ss) = ap (ltb room) (length-map ss (rec_of g.starts)) in
-    emit-fresh (recs g.starts ss) area ∙ (λ i. (record { count = len i; moved = mv i; short = sh i }, ws i ++ drop (three i) area))
+    emit-fresh (recs g.starts ss) area ∙ (λ i. (record { count = len i; moved = mv i; outcome = told (sh i) }, ws i ++ drop (three i) area))

@@ -1,8 +1,11 @@
 -- Records written one after another into a lent list, as long as they fit. Assumes nothing.
-use Rattle.std.specs.Prelude.{Bool, true, false, List, [], ◌∷◌, ℕ, zero, suc, ◌+◌, ◌*◌, ◌/◌, length, set, ltb}
+use Rattle.std.specs.Prelude.{◌≡◌, Bool, true, false, List, [], ◌∷◌, ℕ, zero, suc, ◌+◌, ◌*◌, ◌/◌, length, set, ltb, Ok, Err}
+use Rattle.model.specs.declared.answers.Walked.{Walked}
+use Rattle.model.specs.declared.answers.Refusal.TheVariants.{ListTooShort}
+use Rattle.model.specs.Refusals.{Outcome}
 use Rattle.moves.specs.declared.writing.Kind.{Kind}
 use Rattle.moves.specs.declared.writing.Kind.TheVariants.{Retreat, Advance, Apply, Open}
-use Rattle.moves.specs.declared.writing.Out.{Out}
+use Rattle.moves.specs.declared.writing.Steps.{Steps}
 
 -- The word that stands for a kind of steps
 abbrev pub kind_word : Kind → ℕ
@@ -21,9 +24,21 @@ pub record Rec : Type 0 where
 abbrev pub step_of : Kind → ℕ → ℕ → ℕ → Rec
 step_of k a b e = record { kind = k; first = a; past = b; events = e }
 
--- How far a list is written, and the list
+-- What stands in a list and what came of it, as a call answers it, and the list
 abbrev pub Writing : Type 0
-Writing = Out × List ℕ
+Writing = Walked × List ℕ
+
+-- k records stand there, which moved m, and all found room; or one found none
+abbrev pub going : ℕ → ℕ → Walked
+going k m = record { count = k; moved = m; outcome = Ok tt }
+
+abbrev pub stopped : ℕ → ℕ → Walked
+stopped k m = record { count = k; moved = m; outcome = Err ListTooShort }
+
+-- Where something was refused no more is done
+abbrev pub if_going : Outcome → Writing → Writing → Writing
+if_going (Ok _) next w = next
+if_going (Err _) next w = w
 
 abbrev pub pick : Bool → Writing → Writing → Writing
 pick true a b = a
@@ -33,13 +48,19 @@ pick false a b = b
 abbrev pub put3 : List ℕ → ℕ → ℕ → ℕ → ℕ → List ℕ
 put3 ws at k a b = set (set (set ws at k) (at + 1) a) (at + 2) b
 
--- One record: it is written if none before it found no room and it fits whole; the first that does not fit leaves the list as it is
-abbrev pub emit_one : Writing → Rec → Writing
-emit_one w s =
-    pick w.0.short w
+-- Three words after the others, which move so many events: they are written if all before them found room and they fit whole; the first
+-- that do not fit leave the list as it is
+abbrev pub put_words : Writing → ℕ → ℕ → ℕ → ℕ → Writing
+put_words w k a b events =
+    if_going w.0.outcome
     (pick (ltb w.0.count (length w.1 / 3))
-    (record { count = w.0.count + 1; moved = w.0.moved + s.events; short = false }, put3 w.1 (3 * w.0.count) (kind_word s.kind) s.first s.past)
-    (record { count = w.0.count; moved = w.0.moved; short = true }, w.1))
+    (going (w.0.count + 1) (w.0.moved + events), put3 w.1 (3 * w.0.count) k a b)
+    (stopped w.0.count w.0.moved, w.1))
+    w
+
+-- One record
+abbrev pub emit_one : Writing → Rec → Writing
+emit_one w s = put_words w (kind_word s.kind) s.first s.past s.events
 
 -- All of them, in turn
 unfoldable pub emit : Writing → List Rec → Writing
@@ -50,3 +71,14 @@ emit w (s ∷ ss) = emit (emit_one w s) ss
 unfoldable pub applies : ℕ → ℕ → List Rec
 applies a zero = []
 applies a (suc n) = step_of Apply a (a + 1) 0 ∷ applies (a + 1) n
+
+-- What a writer has written, with what it answered; and so far, where nothing was refused
+abbrev pub written : Outcome → Steps → Writing
+written r w = (record { count = w.count; moved = w.moved; outcome = r }, w.list.now)
+
+abbrev pub so_far : Steps → Writing
+so_far w = written (Ok tt) w
+
+-- Two are over one list
+abbrev pub same_list : Steps → Steps → Type 0
+same_list v w = v.list.ghost_name ≡ w.list.ghost_name

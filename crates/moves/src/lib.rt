@@ -2,4 +2,5 @@
 
 // Steps written into a lent list, three words each, and a visit's moves.
 pub mod moving;
+pub mod spans;
 pub mod writing;

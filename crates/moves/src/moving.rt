@@ -1,98 +1,86 @@
 // A visit's steps: retreats and advances, chain by chain, consecutive runs joined, and Apply.
-ghost use Rattle.std.specs.Prelude.{◌≡◌, ℕ, ◌+◌, ◌<◌, ◌≤◌, ◌^◌, length};
-ghost use Rattle.model.specs.Limits.{max_runs, max_starts};
-ghost use Rattle.moves.specs.Emit.{emit};
+ghost use Rattle.std.specs.Prelude.{◌≡◌, ◌<◌};
+ghost use Rattle.model.specs.Limits.{max_runs};
+ghost use Rattle.moves.specs.Emit.{so_far, written, same_list, emit};
 ghost use Rattle.moves.specs.Stretches.{Below, stretches};
-ghost use Rattle.moves.specs.Moves.{Inside, runs_of, moves_from, visit_of};
+ghost use Rattle.moves.specs.Moves.{runs_of, moves_from, visit_of};
 
-use crate::writing::{Kind, Out, Runs, put_step, put_stretches};
+use crate::spans;
+use crate::spans::Runs;
+use crate::writing::{Kind, Steps};
+use model::Refusal;
 use tables::words::item;
 
-// Each chain's members, one chain after another, and where each chain's begin.
+// Each chain's members, one chain after another, where each chain's begin, and how many chains there are.
 #[derive(Clone, Copy)]
-struct Chains<'a> {
-    members: &'a [u32],
-    begins: &'a [u32],
-    ghost few: { length members.now ≤ max_starts },
-    ghost small: { Below max_runs members.now },
+pub struct Chains<'a> {
+    pub members: &'a [u32],
+    pub begins: &'a [u32],
+    pub count: usize,
+    pub ghost small: { Below max_runs members.now },
 }
 
-// The runs of one chain that are in one version and not in the other.
+// The runs of one chain that are in one version and not in the other. What a version has past the members' end counts as nothing, so
+// nothing is asked of a version.
 fn put_chain(
-    steps: &mut [u32],
-    out: Out,
+    steps: &mut Steps,
     runs: Runs,
     kind: Kind,
     chains: Chains,
     from: &[u32],
     to: &[u32],
     c: usize,
-) -> Out
-    requires room { out.moved + 2 ^ 42 < 2 ^ 63 }
-    requires inside { Inside chains.members.now chains.begins.now from.now c }
-    ensures steps_after { (result, steps.new) ≡ emit (out, steps.old)
+) -> Result<(), Refusal>
+    ensures same_list { same_list steps.new steps.old }
+    ensures steps_after { written result steps.new ≡ emit (so_far steps.old)
         (stretches runs.entry.starts.now kind runs.entry.base (runs_of chains.entry.members.now chains.entry.begins.now from.now to.now c)) }
-    ensures moved_bound { result.moved ≤ out.moved + 2 ^ 42 }
 {
     let lo = item(to, c, 0) as usize;
     let hi = item(from, c, 0) as usize;
     if hi <= lo {
-        return out;
+        return Ok(());
     }
     let b = item(chains.begins, c, 0) as usize;
-    let s = b + lo;
-    let e = b + hi;
-    put_stretches(steps, out, runs, kind, &chains.members[s..e])
+    let e = (b + hi).min(chains.members.len());
+    let s = (b + lo).min(e);
+    spans::put_stretches(steps, runs, kind, &chains.members[s..e])
 }
 
-// All of n chains, in order.
+// All chains, in order.
 fn put_moves(
-    steps: &mut [u32],
-    out: Out,
+    steps: &mut Steps,
     runs: Runs,
     kind: Kind,
     chains: Chains,
     from: &[u32],
     to: &[u32],
-    n: usize,
-) -> Out
-    requires room { out.moved + 2 ^ 51 < 2 ^ 63 }
-    requires few { n ≤ max_runs }
-    requires inside { (c : ℕ) → c < n → Inside chains.members.now chains.begins.now from.now c }
-    ensures steps_after { (result, steps.new) ≡ emit (out, steps.old)
-        (moves_from runs.entry.starts.now kind runs.entry.base chains.entry.members.now chains.entry.begins.now from.now to.now 0 n) }
-    ensures moved_bound { result.moved ≤ out.moved + 2 ^ 51 }
+) -> Result<(), Refusal>
+    ensures same_list { same_list steps.new steps.old }
+    ensures steps_after { written result steps.new ≡ emit (so_far steps.old)
+        (moves_from runs.entry.starts.now kind runs.entry.base chains.entry.members.now chains.entry.begins.now from.now to.now 0 chains.entry.count) }
 {
-    let mut o = out;
-    for c in 0..n {
-        o = put_chain(steps, o, runs, kind, chains, from, to, c);
+    for c in 0..chains.count {
+        put_chain(steps, runs, kind, chains, from, to, c)?;
     }
-    o
+    Ok(())
 }
 
 // A visit of a run with this row, from the current version.
-pub fn put_visit<'a>(
-    steps: &mut [u32],
-    out: Out,
-    starts: &[u32],
-    base: u32,
-    members: &'a [u32],
-    begins: &'a [u32],
+pub fn put_visit(
+    steps: &mut Steps,
+    runs: Runs,
+    chains: Chains,
     current: &[u32],
     row: &[u32],
-    n: usize,
     run: u32,
-) -> Out
-    requires { (out.moved + 2 ^ 52 < 2 ^ 63) × (base < 2 ^ 31) × (run < max_runs) × (length members.now ≤ max_starts) × Below max_runs members.now × (n ≤ max_runs) ×
-        ((c : ℕ) → c < n → Inside members.now begins.now current.now c × Inside members.now begins.now row.now c) }
-    ensures steps_after { (result, steps.new) ≡ emit (out, steps.old)
-        (visit_of starts.now base members.now begins.now current.now row.now n run) }
-    ensures moved_bound { result.moved ≤ out.moved + 2 ^ 52 }
+) -> Result<(), Refusal>
+    requires { run < max_runs }
+    ensures same_list { same_list steps.new steps.old }
+    ensures steps_after { written result steps.new ≡ emit (so_far steps.old)
+        (visit_of runs.entry.starts.now runs.entry.base chains.entry.members.now chains.entry.begins.now current.now row.now chains.entry.count run) }
 {
-    let runs = Runs { starts, base };
-    let chains = Chains { members, begins };
-    let a = put_moves(steps, out, runs, Kind::Retreat, chains, current, row, n);
-    let b = put_moves(steps, a, runs, Kind::Advance, chains, row, current, n);
-    let at = base + run;
-    put_step(steps, b, Kind::Apply, at, at + 1, 0)
+    put_moves(steps, runs, Kind::Retreat, chains, current, row)?;
+    put_moves(steps, runs, Kind::Advance, chains, row, current)?;
+    let at = runs.base + run;
+    steps.put_step(Kind::Apply, at, at + 1, 0)
 }

@@ -1,6 +1,6 @@
 -- The records of a cut read from the list that holds them. Assumes nothing.
-use Rattle.std.proofs.Common.{◌≡◌, refl, sym, ap, ap₂, ◌∙◌, ◌⊎◌, inl, inr, true, cond, List, [], ◌∷◌, ◌++◌, map, ℕ, zero, suc, ◌+◌, ◌*◌, ◌/◌, ◌≤◌, ◌<◌, arith, length, get_or, take, drop}
-use Rattle.std.proofs.Common.{length-append, length-drop, take_all, drop-drop, get_or-drop, lt-ltb, le-ltb}
+use Rattle.std.proofs.Common.{◌≡◌, refl, sym, ap, ap₂, ◌∙◌, subst, ◌⊎◌, inl, inr, true, cond, List, [], ◌∷◌, ◌++◌, map, ℕ, zero, suc, ◌+◌, ◌*◌, ◌/◌, ◌≤◌, ◌<◌, arith, length, get_or, take, drop}
+use Rattle.std.proofs.Common.{length-append, take_at, take_all, lt-ltb, le-ltb}
 use lib.ListN.{length-map}
 use borrow.Author.Tests.{lt-leb}
 use Rattle.lists.specs.Lists.{concat}
@@ -19,7 +19,9 @@ use Rattle.model.proofs.FormedReads.{marked-first}
 use Rattle.model.proofs.Lasting.{marks_list}
 use Rattle.model.proofs.RoomsReplay.{Laid, cut_laid}
 use Rattle.graph.proofs.Views.{facts, runs-view}
-use Rattle.walk.specs.CutRecords.{range_by, ranges_in, Tiled}
+use Rattle.std.specs.Simd.{first_chunks}
+use Rattle.model.specs.History.{at}
+use Rattle.walk.specs.CutRecords.{kind_of, range_by, range_in, ranges_in, Tiled}
 use Rattle.walk.proofs.Arrays.{arrays_of}
 use Rattle.std.specs.Prelude.{Ok, Err}
 
@@ -36,8 +38,8 @@ past : HistoryRange → ℕ
 past (linear a b) = b
 past (concurrent a b) = b
 
-by_kind : (r : HistoryRange) → range_by (kind r) (first r) (past r) ≡ r
-unfolding range_by kind first past
+by_kind : (r : HistoryRange) → range_in (range_words r) ≡ r
+unfolding range_in range_by range_words kind_of
 by_kind (linear a b) = refl
 by_kind (concurrent a b) = refl
 
@@ -66,76 +68,31 @@ laid_le lo (r ∷ cs) end h =
     let n = laid_next lo r cs end h in
     omega (arith, n.0, n.1, laid_le (past r) cs end n.2)
 
-laid_from : (lo lo' : ℕ) (cs : List HistoryRange) (end : ℕ) → lo ≤ lo' → Laid lo' cs end → Laid lo cs end
-laid_from lo lo' [] end le h = omega (arith, h)
-laid_from lo lo' (linear a b ∷ cs) end le h = (omega (arith, h.0), h.1, h.2)
-laid_from lo lo' (concurrent a b ∷ cs) end le h = (omega (arith, h.0), h.1, h.2)
+-- The words of ranges, three by three
+chunks_are : (cs : List HistoryRange) → first_chunks 3 (length cs) (ranges_words cs) ≡ map range_words cs
+chunks_are [] = refl
+chunks_are (r ∷ cs) =
+    ap (first_chunks 3 (suc (length cs))) (words-next r cs) ∙ ap₂ (λ (x : List ℕ) (xs : List (List ℕ)). x ∷ xs) (words_of r) (chunks_are cs)
+  where
+    words_of : (r : HistoryRange) → kind r ∷ first r ∷ past r ∷ [] ≡ range_words r
+    words_of (linear a b) = unfold kind first past range_words in refl
+    words_of (concurrent a b) = unfold kind first past range_words in refl
 
-laid_drop : (k lo : ℕ) (cs : List HistoryRange) (end : ℕ) → Laid lo cs end → Laid lo (drop k cs) end
-laid_drop zero lo cs end h = h
-laid_drop (suc k) lo [] end h = h
-laid_drop (suc k) lo (r ∷ cs) end h =
-    let n = laid_next lo r cs end h in
-    laid_drop k lo cs end (laid_from lo (past r) cs end (omega (arith, n.0, n.1)) n.2)
+-- are these ranges
+ranges_are : (cs : List HistoryRange) → ranges_in (map range_words cs) ≡ cs
+unfolding ranges_in
+ranges_are [] = refl
+ranges_are (r ∷ cs) = ap₂ (λ (x : HistoryRange) (xs : List HistoryRange). x ∷ xs) (by_kind r) (ranges_are cs)
 
--- From the i-th record on the list holds these words
-module _ (l more : List ℕ) where
-  word : (i k : ℕ) (ws : List ℕ) → drop (3 * i) l ≡ ws → get_or l (3 * i + k) 0 ≡ get_or ws k 0
-  word i k ws e = sym (get_or-drop (3 * i) l k 0) ∙ ap (λ (x : List ℕ). get_or x k 0) e
-
-  starts_with : (i : ℕ) (r : HistoryRange) (cs : List HistoryRange) → drop (3 * i) l ≡ ranges_words (r ∷ cs) ++ more →
-      drop (3 * i) l ≡ kind r ∷ first r ∷ past r ∷ ranges_words cs ++ more
-  starts_with i r cs e = e ∙ ap (λ (x : List ℕ). x ++ more) (words-next r cs)
-
-  words_on : (i : ℕ) (r : HistoryRange) (cs : List HistoryRange) → drop (3 * i) l ≡ ranges_words (r ∷ cs) ++ more → drop (3 * (i + 1)) l ≡ ranges_words cs ++ more
-  words_on i r cs e =
-      let k : 3 * (i + 1) ≡ 3 * i + 3 = omega arith in
-      ap (λ (k : ℕ). drop k l) k ∙ (sym (drop-drop 3 (3 * i) l) ∙ ap (λ (x : List ℕ). drop 3 x) (starts_with i r cs e))
-
-  -- The i-th record
-  record_is : (i : ℕ) (r : HistoryRange) (cs : List HistoryRange) → drop (3 * i) l ≡ ranges_words (r ∷ cs) ++ more →
-      (get_or l (3 * i) 0 ≡ kind r) × (get_or l (3 * i + 1) 0 ≡ first r) × (get_or l (3 * i + 2) 0 ≡ past r)
-  record_is i r cs e =
-      let z : 3 * i ≡ 3 * i + 0 = omega arith in
-      let s = starts_with i r cs e in
-      let ws : List ℕ = kind r ∷ first r ∷ past r ∷ ranges_words cs ++ more in
-      (ap (λ (k : ℕ). get_or l k 0) z ∙ word i 0 ws s, word i 1 ws s, word i 2 ws s)
-
-  -- All records read
-  pub reads_all : (cs : List HistoryRange) (i : ℕ) → drop (3 * i) l ≡ ranges_words cs ++ more → ranges_in l i (length cs) ≡ cs
-  unfolding ranges_in
-  reads_all [] i e = refl
-  reads_all (r ∷ cs) i e =
-      let w = record_is i r cs e in
-      ap₂ (λ (x : HistoryRange) (xs : List HistoryRange). x ∷ xs) ((λ j. range_by (w.0 j) (w.1 j) (w.2 j)) ∙ by_kind r) (reads_all cs (i + 1) (words_on i r cs e))
-
-  words-drop : (k : ℕ) (cs : List HistoryRange) (i : ℕ) → k ≤ length cs → drop (3 * i) l ≡ ranges_words cs ++ more → drop (3 * (i + k)) l ≡ ranges_words (drop k cs) ++ more
-  words-drop zero cs i le e = let z : i + 0 ≡ i = omega arith in ap (λ (j : ℕ). drop (3 * j) l) z ∙ e
-  words-drop (suc k) [] i le e = absurd (omega arith)
-  words-drop (suc k) (r ∷ cs) i le e =
-      let z : i + suc k ≡ i + 1 + k = omega arith in
-      ap (λ (j : ℕ). drop (3 * j) l) z ∙ words-drop k cs (i + 1) (omega arith) (words_on i r cs e)
-
-  -- What a record of ranges one after another says
-  stands : (i : ℕ) (cs : List HistoryRange) (lo end : ℕ) → drop (3 * i) l ≡ ranges_words cs ++ more → Laid lo cs end → 0 < length cs →
-      (get_or l (3 * i + 1) 0 ≤ get_or l (3 * i + 2) 0) × (get_or l (3 * i + 2) 0 ≤ end)
-  stands i [] lo end e h lt = absurd (omega arith)
-  stands i (r ∷ cs) lo end e h lt =
-      let w = record_is i r cs e in
-      let n = laid_next lo r cs end h in
-      let past-le = laid_le (past r) cs end n.2 in
-      (omega (arith, w.1, w.2, n.1), omega (arith, w.2, past-le))
-
-  stands_next : (i : ℕ) (cs : List HistoryRange) (lo end : ℕ) → drop (3 * i) l ≡ ranges_words cs ++ more → Laid lo cs end → 1 < length cs →
-      get_or l (3 * i + 2) 0 ≤ get_or l (3 * (i + 1) + 1) 0
-  stands_next i [] lo end e h lt = absurd (omega arith)
-  stands_next i (r ∷ []) lo end e h lt = absurd (omega arith)
-  stands_next i (r ∷ s ∷ cs) lo end e h lt =
-      let w = record_is i r (s ∷ cs) e in
-      let v = record_is (i + 1) s cs (words_on i r (s ∷ cs) e) in
-      let n = laid_next lo r (s ∷ cs) end h in
-      let m = laid_next (past r) s cs end n.2 in
-      omega (arith, w.2, v.1, m.0)
+-- and each lies before the end
+ranges_stand : (lo : ℕ) (cs : List HistoryRange) (end : ℕ) → Laid lo cs end → (i : ℕ) → i < length (map range_words cs) →
+    (get_or (at (map range_words cs) i) 1 0 ≤ get_or (at (map range_words cs) i) 2 0) × (get_or (at (map range_words cs) i) 2 0 ≤ end)
+unfolding at range_words
+ranges_stand lo [] end h i lt = absurd (omega arith)
+ranges_stand lo (linear a b ∷ cs) end h zero lt = (omega (arith, h.1), omega (arith, laid_le b cs end h.2))
+ranges_stand lo (concurrent a b ∷ cs) end h zero lt = (omega (arith, h.1), omega (arith, laid_le b cs end h.2))
+ranges_stand lo (linear a b ∷ cs) end h (suc i) lt = ranges_stand b cs end h.2 i (omega (arith, lt))
+ranges_stand lo (concurrent a b ∷ cs) end h (suc i) lt = ranges_stand b cs end h.2 i (omega (arith, lt))
 
 module _ (g : CausalGraph) (held : Held g) where
   abbrev ranges : List HistoryRange
@@ -201,31 +158,24 @@ module _ (g : CausalGraph) (held : Held g) where
     cut_is : cut ≡ ranges_words ranges ++ drop (length (ranges_words ranges)) lent
     cut_is = ap (λ (x : Written × List ℕ). x.1) (e ∙ cut_all lent size) ∙ (unfold over in refl)
 
-    abbrev rest : List ℕ
-    rest = drop (length (ranges_words ranges)) lent
-
     pub cut_long : 3 * w.count ≤ length cut
     cut_long =
-        let k : length cut ≡ length (ranges_words ranges) + length rest = ap length cut_is ∙ length-append (ranges_words ranges) rest in
-        omega (arith, count-is, words-length ranges, k)
+        let rest : List ℕ = drop (length (ranges_words ranges)) lent in
+        omega (arith, count-is, words-length ranges, ap length cut_is, length-append (ranges_words ranges) rest)
 
-    pub cut_reads : ranges_in cut 0 w.count ≡ ranges
-    cut_reads = ap (ranges_in cut 0) count-is ∙ reads_all cut rest ranges 0 cut_is
+    -- Its records
+    pub records_are : (rs : List (List ℕ)) → rs ≡ first_chunks 3 (length (take (3 * w.count) cut) / 3) (take (3 * w.count) cut) → rs ≡ map range_words ranges
+    records_are rs q =
+        let words : List ℕ = ranges_words ranges in
+        let all : take (3 * w.count) cut ≡ words = ap (take (3 * w.count)) cut_is ∙ take_at words (drop (length words) lent) (3 * w.count) (omega (arith, words-length ranges, count-is)) in
+        let n : length words / 3 ≡ length ranges = omega (arith, words-length ranges) in
+        q ∙ (ap (λ (ws : List ℕ). first_chunks 3 (length ws / 3) ws) all ∙ (ap (λ (n : ℕ). first_chunks 3 n words) n ∙ chunks_are ranges))
 
-    words-at : (i : ℕ) → i < w.count → drop (3 * i) cut ≡ ranges_words (drop i ranges) ++ rest
-    words-at i lt =
-        let z : 0 + i ≡ i = omega arith in
-        ap (λ (j : ℕ). drop (3 * j) cut) (sym z) ∙ words-drop cut rest i ranges 0 (omega (arith, count-is)) cut_is
+    pub cut_reads : (rs : List (List ℕ)) → rs ≡ map range_words ranges → ranges_in rs ≡ ranges
+    cut_reads rs q = ap ranges_in q ∙ ranges_are ranges
 
-    laid_at : (i : ℕ) → Laid 0 (drop i ranges) (runs (view g))
-    laid_at i = laid_drop i 0 ranges (runs (view g)) (cut_laid (view g) 0)
-
-    stand : (i : ℕ) → i < w.count → (get_or cut (3 * i + 1) 0 ≤ get_or cut (3 * i + 2) 0) × (get_or cut (3 * i + 2) 0 ≤ runs (view g))
-    stand i lt = stands cut rest i (drop i ranges) 0 (runs (view g)) (words-at i lt) (laid_at i) (omega (arith, count-is, length-drop i ranges))
-
-    pub cut_tiled : Tiled g cut w.count
-    cut_tiled = record {
-      order = λ i lt. (stand i lt).0;
-      arrays = λ i lt. arrays_of g held (get_or cut (3 * i + 2) 0) (omega (arith, (stand i lt).1, runs-view g held));
-      next = λ i lt. stands_next cut rest i (drop i ranges) 0 (runs (view g)) (words-at i (omega arith)) (laid_at i) (omega (arith, count-is, length-drop i ranges));
-    }
+    pub cut_tiled : (rs : List (List ℕ)) → rs ≡ map range_words ranges → Tiled g rs
+    cut_tiled rs q = subst (Tiled g) (sym q) (record {
+      order = λ i lt. (ranges_stand 0 ranges (runs (view g)) (cut_laid (view g) 0) i lt).0;
+      arrays = λ i lt. arrays_of g held _ (omega (arith, (ranges_stand 0 ranges (runs (view g)) (cut_laid (view g) 0) i lt).1, runs-view g held));
+    })

@@ -40,3 +40,4 @@ pub mod WholeWalk
 pub mod CutRead
 pub mod WholeReplay
 pub mod ReplayWays
+pub mod Counting

@@ -10,11 +10,10 @@ use Rattle.std.proofs.lemmas.Option.{MatchOption-at_none, MatchOption-at_some}
 use Rattle.tables.specs.declared.rows.Area.{Area}
 use Rattle.tables.specs.Laid.{shares, RangeLaid}
 use Rattle.tables.proofs.Gathering.{shares-length}
-use Rattle.moves.specs.declared.writing.Out.{Out}
 use Rattle.moves.specs.Emit.{Writing, emit}
 use Rattle.moves.specs.Moves.{recs}
 use Rattle.walk.specs.Ranges.{range_by, range_in, Arrays}
-use Rattle.walk.specs.Walked.{ranged, walked_in}
+use Rattle.walk.specs.Walked.{State, rows_refused, walked_in}
 use Rattle.walk.proofs.Clamping.{clamp_steps}
 use Rattle.walk.proofs.Answering.{walked-rows, walked-steps}
 
@@ -39,11 +38,11 @@ module _ (starts heads parents : List ℕ) (a n : ℕ) (area₀ area groups tabl
   all_fit x e = le-ltb (length area₀) _ (MatchOption-at_some _ _ x e R.out.told).0
 
   -- Rows were too long
-  pub range_short : (d known first : ℕ) (out : Out) (steps : List ℕ) → n ≡ d → r ≡ None →
-      (ranged out true, area, steps) ≡ walked_in starts (range_in starts heads parents a d) a known first out area₀ steps
-  range_short d known first out steps e h =
-      ap (λ (l : List ℕ). (ranged out true, l, steps)) (sym rows_are) ∙
-      (sym (walked-rows starts w a known first out area₀ steps (too_long h)) ∙ ap (λ (k : ℕ). walked_in starts (range_in starts heads parents a k) a known first out area₀ steps) e)
+  pub range_short : (d known first : ℕ) (x : Writing) → n ≡ d → r ≡ None →
+      (rows_refused x, area) ≡ walked_in starts (range_in starts heads parents a d) a known first x area₀
+  range_short d known first x e h =
+      ap (λ (l : List ℕ). (rows_refused x, l)) (sym rows_are) ∙
+      (sym (walked-rows starts w a known first x area₀ (too_long h)) ∙ ap (λ (k : ℕ). walked_in starts (range_in starts heads parents a k) a known first x area₀) e)
 
   size : length w.parents ≡ n
   unfolding range_in range_by
@@ -58,12 +57,10 @@ module _ (starts heads parents : List ℕ) (a n : ℕ) (area₀ area groups tabl
       sym (clamp_steps w known first (omega (arith, size)) a))
 
   -- All are there
-  pub range_walked : (d known first f : ℕ) (v : Range) (out o : Out) (steps steps₂ : List ℕ) → n ≡ d → (z : Area) → r ≡ Some z → known ≤ n → f ≡ max known (min first n) → v ≡ w →
-      ◌≡◌ {A = Writing} (o, steps₂) (emit (out, steps) (recs starts (steps_of v a known f))) →
-      (ranged o false, area, steps₂) ≡ walked_in starts (range_in starts heads parents a d) a known first out area₀ steps
-  range_walked d known first f v out o steps steps₂ e z done le fe ve written =
-      let x : Writing = emit (out, steps) (recs starts (steps_of w a known first)) in
-      let same : ◌≡◌ {A = Writing} (o, steps₂) x =
-      written ∙ ap (λ (l : List Step). emit (out, steps) (recs starts l)) (ap (λ (u : Range). steps_of u a known f) ve ∙ steps-same known first f le fe) in
-      ap₂ (λ (y : Writing) (l : List ℕ). (ranged y.0 false, l, y.1)) same (sym rows_are) ∙
-      (sym (walked-steps starts w a known first out area₀ steps (all_fit z done)) ∙ ap (λ (k : ℕ). walked_in starts (range_in starts heads parents a k) a known first out area₀ steps) e)
+  pub range_walked : (d known first f : ℕ) (v : Range) (x y : Writing) → n ≡ d → (z : Area) → r ≡ Some z → known ≤ n → f ≡ max known (min first n) → v ≡ w →
+      y ≡ emit x (recs starts (steps_of v a known f)) → (y, area) ≡ walked_in starts (range_in starts heads parents a d) a known first x area₀
+  range_walked d known first f v x y e z done le fe ve written =
+      let same : y ≡ emit x (recs starts (steps_of w a known first)) =
+      written ∙ ap (λ (l : List Step). emit x (recs starts l)) (ap (λ (u : Range). steps_of u a known f) ve ∙ steps-same known first f le fe) in
+      ap₂ {C = State} (λ (y : Writing) (l : List ℕ). (y, l)) same (sym rows_are) ∙
+      (sym (walked-steps starts w a known first x area₀ (all_fit z done)) ∙ ap (λ (k : ℕ). walked_in starts (range_in starts heads parents a k) a known first x area₀) e)

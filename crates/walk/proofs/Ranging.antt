@@ -14,12 +14,12 @@ use Rattle.model.specs.Steps.{Step, opened, apply, steps_of, words, moved_in}
 use Rattle.model.specs.Walk.{rows_into, rows_too_long}
 use Rattle.model.specs.Replay.{Replayed, replay_range, replay_ranges}
 use Rattle.moves.specs.declared.writing.Kind.TheVariants.{Open}
-use Rattle.moves.specs.Emit.{Writing, step_of, emit, emit_one, applies}
+use Rattle.moves.specs.Emit.{Writing, going, step_of, emit, emit_one, applies}
 use Rattle.moves.specs.Moves.{recs}
-use Rattle.moves.proofs.Closing.{going}
+use Rattle.moves.proofs.Closing.{told}
 use Rattle.moves.proofs.Written.{emit_then, open_is, applies_are}
-use Rattle.walk.specs.Walked.{State, ranged, outcome_of, opening, open_of, replay_on, replay_all}
-use Rattle.walk.proofs.Answering.{written-parts, walked-rows, walked-steps, outcome_rows, outcome_list}
+use Rattle.walk.specs.Walked.{State, unwritten, rows_refused, if_done, opening, open_of, replay_on, replay_all}
+use Rattle.walk.proofs.Answering.{written-parts, walked-rows, walked-steps}
 use Rattle.std.specs.Prelude.{Ok, Err}
 use Rattle.model.specs.Refusals.{Outcome}
 
@@ -62,55 +62,34 @@ module _ (g : Graph) (c : HistoryRange) (cs : List HistoryRange) (room : ℕ) (r
       (ap (form false false) d ∙ (unfold form in refl))
 
 module _ (st : List ℕ) (range : ℕ → ℕ → Range) where
-  -- A range by what was refused before and whether Open finds room
-  on_form_lem : Bool → Bool → Bool → State → HistoryRange → State
-  on_form_lem t u v s c = elim t [
-    | true ↦ s
-    | false ↦ elim u [
-      | true ↦ s
-      | false ↦
-          let x : Writing = open_of (s.0.out, s.2) c in
-          elim v [ true ↦ (ranged x.0 false, s.1, x.1) | false ↦ opening st range x s.1 c ]
-    ]
-  ]
+  -- A range by what was refused before and what came of its Open
+  on_form : Outcome → Outcome → State → HistoryRange → State
+  on_form o p s c = if_done o (if_done p (opening st range (open_of s.0 c) s.1 c) (open_of s.0 c, s.1)) s
 
-  on_form : (s : State) (c : HistoryRange) (t u v : Bool) → s.0.rows_too_long ≡ t → s.0.out.short ≡ u → (open_of (s.0.out, s.2) c).0.short ≡ v →
-      replay_on st range s c ≡ on_form_lem t u v s c
-  on_form s c t u v p q r = is ∙ λ i. on_form_lem (p i) (q i) (r i) s c
+  by_form : (s : State) (c : HistoryRange) (o p : Outcome) → s.0.0.outcome ≡ o → (open_of s.0 c).0.outcome ≡ p → replay_on st range s c ≡ on_form o p s c
+  by_form s c o p e q = is ∙ λ i. on_form (e i) (q i) s c
     where
-      is : replay_on st range s c ≡ on_form_lem (s.0.rows_too_long) s.0.out.short (open_of (s.0.out, s.2) c).0.short s c
-      is = unfold replay_on on_form_lem in refl
+      is : replay_on st range s c ≡ on_form s.0.0.outcome (open_of s.0 c).0.outcome s c
+      is = unfold replay_on on_form in refl
 
   -- Where something was refused nothing more is done
-  pub on_rows : (s : State) (c : HistoryRange) → (s.0.rows_too_long ≡ true) → replay_on st range s c ≡ s
-  on_rows s c n = on_form s c true _ _ n refl refl ∙ (unfold on_form_lem in refl)
+  pub on_refused : (s : State) (c : HistoryRange) (r : Refusal) → s.0.0.outcome ≡ Err r → replay_on st range s c ≡ s
+  on_refused s c r e = by_form s c (Err r) _ e refl ∙ (unfold on_form in refl)
 
-  pub on_short : (s : State) (c : HistoryRange) → s.0.rows_too_long ≡ false → s.0.out.short ≡ true → replay_on st range s c ≡ s
-  on_short s c e n = on_form s c false true _ e n refl ∙ (unfold on_form_lem in refl)
-
-  pub stays-rows : (s : State) (cs : List HistoryRange) → (s.0.rows_too_long ≡ true) → replay_all st range s cs ≡ s
+  pub stays_refused : (s : State) (cs : List HistoryRange) (r : Refusal) → s.0.0.outcome ≡ Err r → replay_all st range s cs ≡ s
   unfolding replay_all
-  stays-rows s [] n = refl
-  stays-rows s (c ∷ cs) n = ap (λ (x : State). replay_all st range x cs) (on_rows s c n) ∙ stays-rows s cs n
-
-  pub stays-short : (s : State) (cs : List HistoryRange) → s.0.rows_too_long ≡ false → s.0.out.short ≡ true → replay_all st range s cs ≡ s
-  unfolding replay_all
-  stays-short s [] e n = refl
-  stays-short s (c ∷ cs) e n = ap (λ (x : State). replay_all st range x cs) (on_short s c e n) ∙ stays-short s cs e n
+  stays_refused s [] r e = refl
+  stays_refused s (c ∷ cs) r e = ap (λ (x : State). replay_all st range x cs) (on_refused s c r e) ∙ stays_refused s cs r e
 
   -- Open found no room, and it found room
-  pub on_full : (s : State) (c : HistoryRange) → s.0.rows_too_long ≡ false → s.0.out.short ≡ false → (open_of (s.0.out, s.2) c).0.short ≡ true →
-      replay_on st range s c ≡ (ranged (open_of (s.0.out, s.2) c).0 false, s.1, (open_of (s.0.out, s.2) c).1)
-  on_full s c e f n =
-      on_form s c false false true e f n ∙ (unfold on_form_lem in refl)
+  pub on_full : (s : State) (c : HistoryRange) (r : Refusal) → s.0.0.outcome ≡ Ok tt → (open_of s.0 c).0.outcome ≡ Err r → replay_on st range s c ≡ (open_of s.0 c, s.1)
+  on_full s c r e n = by_form s c (Ok tt) (Err r) e n ∙ (unfold on_form in refl)
 
-  pub on_open : (s : State) (c : HistoryRange) → s.0.rows_too_long ≡ false → s.0.out.short ≡ false → (open_of (s.0.out, s.2) c).0.short ≡ false →
-      replay_on st range s c ≡ opening st range (open_of (s.0.out, s.2) c) s.1 c
-  on_open s c e f n =
-      on_form s c false false false e f n ∙ (unfold on_form_lem in refl)
+  pub on_open : (s : State) (c : HistoryRange) → s.0.0.outcome ≡ Ok tt → (open_of s.0 c).0.outcome ≡ Ok tt → replay_on st range s c ≡ opening st range (open_of s.0 c) s.1 c
+  on_open s c e n = by_form s c (Ok tt) (Ok tt) e n ∙ (unfold on_form in refl)
 
 abbrev state_of : Writing → List ℕ → State
-state_of x rows = (ranged x.0 false, rows, x.1)
+state_of x rows = (x, rows)
 
 linear_opening : (st : List ℕ) (range : ℕ → ℕ → Range) (x : Writing) (rows : List ℕ) (a b : ℕ) → opening st range x rows (linear a b) ≡ state_of (emit x (applies a (b - a))) rows
 unfolding opening
@@ -141,25 +120,22 @@ module _ (g : Graph) (ws : List ℕ) where
   wrote done = emit (going 0 0, ws) (recs st done)
 
   abbrev state_at : List Step → List ℕ → State
-  state_at done rows = (ranged (wrote done).0 false, rows, (wrote done).1)
+  state_at done rows = (wrote done, rows)
 
   wrote_on : (done ss : List Step) → emit (wrote done) (recs st ss) ≡ wrote (done ++ ss)
   unfolding wrote
   wrote_on done ss = emit_then st (going 0 0, ws) done ss
 
   wrote-is : (done : List Step) → ((wrote done).1 ≡ over (words (take room done)) ws) × ((wrote done).0.count ≡ length (take room done)) ×
-      ((wrote done).0.moved ≡ moved_in g (take room done)) × ((wrote done).0.short ≡ ltb room (length done))
+      ((wrote done).0.moved ≡ moved_in g (take room done)) × ((wrote done).0.outcome ≡ told (ltb room (length done)))
   unfolding wrote
   wrote-is done = written-parts g done ws
 
-  wrote-short : (done : List Step) → (wrote done).0.short ≡ ltb room (length done)
-  wrote-short done = (wrote-is done).3
+  fits : (done : List Step) → length done ≤ room → (wrote done).0.outcome ≡ Ok tt
+  fits done le = (wrote-is done).3 ∙ ap told (le-ltb room (length done) le)
 
-  fits : (done : List Step) → length done ≤ room → (wrote done).0.short ≡ false
-  fits done le = wrote-short done ∙ le-ltb room (length done) le
-
-  full : (done : List Step) → room < length done → (wrote done).0.short ≡ true
-  full done lt = wrote-short done ∙ lt-ltb room (length done) lt
+  full : (done : List Step) → room < length done → (wrote done).0.outcome ≡ Err ListTooShort
+  full done lt = (wrote-is done).3 ∙ ap told (lt-ltb room (length done) lt)
 
   open_on : (done : List Step) (c : HistoryRange) (a b : ℕ) (x : Writing) → x ≡ wrote done → open_of x c ≡ emit_one x (step_of Open a b 0) → open_of x c ≡ wrote (done ++ opened a b ∷ [])
   open_on done c a b x e q = q ∙ (ap (λ (y : Writing). emit_one y (step_of Open a b 0)) e ∙ (open_is st (wrote done) a b ∙ wrote_on done (opened a b ∷ [])))
@@ -167,10 +143,10 @@ module _ (g : Graph) (ws : List ℕ) where
   -- What a replay from there on comes to
   pub record Ends (done : List Step) (r : Replayed) (t : State) : Type 0 where
     pub rows : t.1 ≡ r.2
-    pub steps : t.2 ≡ over (words (done ++ r.1)) ws
-    pub count : t.0.out.count ≡ length (done ++ r.1)
-    pub moved : t.0.out.moved ≡ moved_in g (done ++ r.1)
-    pub outcome : outcome_of t.0 ≡ r.0
+    pub steps : t.0.1 ≡ over (words (done ++ r.1)) ws
+    pub count : t.0.0.count ≡ length (done ++ r.1)
+    pub moved : t.0.0.moved ≡ moved_in g (done ++ r.1)
+    pub outcome : t.0.0.outcome ≡ r.0
 
   -- of steps all of which the list had to take, rows in order
   ends_with : (done ss : List Step) (rows : List ℕ) (o : Outcome) → length done ≤ room → cond (ltb room (length (done ++ ss))) (Err ListTooShort) (Ok tt) ≡ o →
@@ -183,12 +159,12 @@ module _ (g : Graph) (ws : List ℕ) where
         steps = q.0 ∙ ap (λ (l : List Step). over (words l) ws) t;
         count = q.1 ∙ ap length t;
         moved = q.2 ∙ ap (moved_in g) t;
-        outcome = outcome_list (wrote (done ++ ss)).0 (ltb room (length (done ++ ss))) (wrote-short (done ++ ss)) ∙ e;
+        outcome = q.3 ∙ e;
       }
 
   -- rows were too long after Open
   ends-rows : (done : List Step) (a b : ℕ) (rows : List ℕ) → length done < room →
-      Ends done (Err RowsTooLong, opened a b ∷ [], rows) (ranged (wrote (done ++ opened a b ∷ [])).0 true, rows, (wrote (done ++ opened a b ∷ [])).1)
+      Ends done (Err RowsTooLong, opened a b ∷ [], rows) (rows_refused (wrote (done ++ opened a b ∷ [])), rows)
   ends-rows done a b rows lt =
       let size : length (done ++ opened a b ∷ []) ≤ room = omega (arith, length-append done (opened a b ∷ [])) in
       let q = wrote-is (done ++ opened a b ∷ []) in
@@ -198,7 +174,7 @@ module _ (g : Graph) (ws : List ℕ) where
         steps = q.0 ∙ ap (λ (l : List Step). over (words l) ws) t;
         count = q.1 ∙ ap length t;
         moved = q.2 ∙ ap (moved_in g) t;
-        outcome = outcome_rows (wrote (done ++ opened a b ∷ [])).0;
+        outcome = refl;
       }
 
   -- with steps that stand before them counted in
@@ -234,7 +210,7 @@ module _ (g : Graph) (ws : List ℕ) where
             ranges_cut g c cs (room - length done) rows left (omega (arith, ap length first)) ∙
             ap (λ (x : Replayed). (Err ListTooShort, take (room - length done) x.1, x.2)) is in
             subst (λ (x : Replayed). Ends done x (replay_all st (range_of g) (state_at done rows) (c ∷ cs))) (sym r)
-            (subst (Ends done (Err ListTooShort, take (room - length done) ss, rows')) (sym (there ∙ stays-short st (range_of g) (state_at (done ++ ss) rows') cs refl (full (done ++ ss) short)))
+            (subst (Ends done (Err ListTooShort, take (room - length done) ss, rows')) (sym (there ∙ stays_refused st (range_of g) (state_at (done ++ ss) rows') cs ListTooShort (full (done ++ ss) short)))
             (ends_with done ss rows' (Err ListTooShort) (omega arith) (ap (λ t. cond t (Err ListTooShort) (Ok tt)) (lt-ltb room (length (done ++ ss)) short))))
         go (inr le) =
             let fit : length (done ++ ss) ≤ room = omega (arith, length-append done ss) in
@@ -250,7 +226,7 @@ module _ (g : Graph) (ws : List ℕ) where
 
   -- The range's Open, from `done`
   open_at : (done : List Step) (c : HistoryRange) (a b : ℕ) → open_of (wrote done) c ≡ emit_one (wrote done) (step_of Open a b 0) →
-      (rows : List ℕ) → open_of ((state_at done rows).0.out, (state_at done rows).2) c ≡ wrote (done ++ opened a b ∷ [])
+      (rows : List ℕ) → open_of (state_at done rows).0 c ≡ wrote (done ++ opened a b ∷ [])
   open_at done c a b q rows = open_on done c a b (wrote done) refl q
 
   -- Open found no room
@@ -261,16 +237,16 @@ module _ (g : Graph) (ws : List ℕ) where
       let long : room < length (done ++ opened a b ∷ []) = omega (arith, length-append done (opened a b ∷ [])) in
       let o = open_at done c a b q rows in
       let z : room - length done ≡ 0 = omega arith in
-      let on : replay_on st (range_of g) (state_at done rows) c ≡ (ranged x.0 false, rows, x.1) =
-      on_full st (range_of g) (state_at done rows) c refl (fits done (omega arith)) (ap (λ (y : Writing). y.0.short) o ∙ full (done ++ opened a b ∷ []) long) ∙
-      ap (λ (y : Writing). (ranged y.0 false, rows, y.1)) o in
-      let there : replay_all st (range_of g) (state_at done rows) (c ∷ cs) ≡ (ranged x.0 false, rows, x.1) =
-      all-next (state_at done rows) c cs ∙ (ap (λ (y : State). replay_all st (range_of g) y cs) on ∙ stays-short st (range_of g) (ranged x.0 false, rows, x.1) cs refl (full (done ++ opened a b ∷ []) long)) in
+      let on : replay_on st (range_of g) (state_at done rows) c ≡ (x, rows) =
+      on_full st (range_of g) (state_at done rows) c ListTooShort (fits done (omega arith)) (ap (λ (y : Writing). y.0.outcome) o ∙ full (done ++ opened a b ∷ []) long) ∙
+      ap (λ (y : Writing). state_of y rows) o in
+      let there : replay_all st (range_of g) (state_at done rows) (c ∷ cs) ≡ (x, rows) =
+      all-next (state_at done rows) c cs ∙ (ap (λ (y : State). replay_all st (range_of g) y cs) on ∙ stays_refused st (range_of g) (x, rows) cs ListTooShort (full (done ++ opened a b ∷ []) long)) in
       let r : replay_ranges g (c ∷ cs) (room - length done) rows ≡ (Err ListTooShort, [], rows) = ranges_full g c cs (room - length done) rows z in
       let none : take (room - length done) (opened a b ∷ []) ≡ [] = rw z in
       subst (λ (y : Replayed). Ends done y (replay_all st (range_of g) (state_at done rows) (c ∷ cs))) (sym r)
       (subst (Ends done (Err ListTooShort, [], rows)) (sym there)
-      (subst (λ (l : List Step). Ends done (Err ListTooShort, l, rows) (ranged x.0 false, rows, x.1)) none
+      (subst (λ (l : List Step). Ends done (Err ListTooShort, l, rows) (x, rows)) none
       (ends_with done (opened a b ∷ []) rows (Err ListTooShort) (omega arith) (ap (λ t. cond t (Err ListTooShort) (Ok tt)) (lt-ltb room (length (done ++ opened a b ∷ [])) long)))))
     where
       all-next : (s : State) (c : HistoryRange) (cs : List HistoryRange) → replay_all st (range_of g) s (c ∷ cs) ≡ replay_all st (range_of g) (replay_on st (range_of g) s c) cs
@@ -282,7 +258,7 @@ module _ (g : Graph) (ws : List ℕ) where
   opened_on done c a b rows q lt =
       let size : length (done ++ opened a b ∷ []) ≤ room = omega (arith, length-append done (opened a b ∷ [])) in
       let o = open_at done c a b q rows in
-      on_open st (range_of g) (state_at done rows) c refl (fits done (omega arith)) (ap (λ (y : Writing). y.0.short) o ∙ fits (done ++ opened a b ∷ []) size) ∙
+      on_open st (range_of g) (state_at done rows) c (fits done (omega arith)) (ap (λ (y : Writing). y.0.outcome) o ∙ fits (done ++ opened a b ∷ []) size) ∙
       ap (λ (y : Writing). opening st (range_of g) y rows c) o
 
   wrote_after : (done : List Step) (s : Step) (ss : List Step) → emit (wrote (done ++ s ∷ [])) (recs st ss) ≡ wrote (done ++ s ∷ ss)
@@ -299,14 +275,14 @@ module _ (g : Graph) (ws : List ℕ) where
       replay_on st (range_of g) (state_at done rows) (concurrent a b) ≡ state_at (done ++ opened a b ∷ steps_of (range_of g a b) a 0 0) (rows_into (range_of g a b) rows)
   walked_on done a b rows lt e =
       opened_on done (concurrent a b) a b rows (unfold open_of in refl) lt ∙ (unfold opening in
-      (walked-steps st (range_of g a b) a 0 0 (wrote (done ++ opened a b ∷ [])).0 rows (wrote (done ++ opened a b ∷ [])).1 e ∙
-      ap (λ (x : Writing). (ranged x.0 false, rows_into (range_of g a b) rows, x.1)) (wrote_after done (opened a b) (steps_of (range_of g a b) a 0 0))))
+      (walked-steps st (range_of g a b) a 0 0 (wrote (done ++ opened a b ∷ [])) rows e ∙
+      ap (λ (x : Writing). state_of x (rows_into (range_of g a b) rows)) (wrote_after done (opened a b) (steps_of (range_of g a b) a 0 0))))
 
   rows_on : (done : List Step) (a b : ℕ) (rows : List ℕ) → length done < room → rows_too_long (range_of g a b) rows ≡ true →
-      replay_on st (range_of g) (state_at done rows) (concurrent a b) ≡ (ranged (wrote (done ++ opened a b ∷ [])).0 true, rows_into (range_of g a b) rows, (wrote (done ++ opened a b ∷ [])).1)
+      replay_on st (range_of g) (state_at done rows) (concurrent a b) ≡ (rows_refused (wrote (done ++ opened a b ∷ [])), rows_into (range_of g a b) rows)
   rows_on done a b rows lt e =
       opened_on done (concurrent a b) a b rows (unfold open_of in refl) lt ∙ (unfold opening in
-      (walked-rows st (range_of g a b) a 0 0 (wrote (done ++ opened a b ∷ [])).0 rows (wrote (done ++ opened a b ∷ [])).1 e))
+      (walked-rows st (range_of g a b) a 0 0 (wrote (done ++ opened a b ∷ [])) rows e))
 
   -- The definition of a concurrent range
   concurrent_is : (a b : ℕ) (rows : List ℕ) (t : Bool) → rows_too_long (range_of g a b) rows ≡ t →
@@ -332,9 +308,9 @@ module _ (g : Graph) (ws : List ℕ) where
       Ends done (replay_ranges g (concurrent a b ∷ cs) (room - length done) rows) (replay_all st (range_of g) (state_at done rows) (concurrent a b ∷ cs))
   range_rows done a b cs rows lt e =
       let x : Writing = wrote (done ++ opened a b ∷ []) in
-      let t : State = (ranged x.0 true, rows_into (range_of g a b) rows, x.1) in
+      let t : State = (rows_refused x, rows_into (range_of g a b) rows) in
       let there : replay_all st (range_of g) (state_at done rows) (concurrent a b ∷ cs) ≡ t =
-      all-next (concurrent a b) ∙ (ap (λ (y : State). replay_all st (range_of g) y cs) (rows_on done a b rows lt e) ∙ stays-rows st (range_of g) t cs refl) in
+      all-next (concurrent a b) ∙ (ap (λ (y : State). replay_all st (range_of g) y cs) (rows_on done a b rows lt e) ∙ stays_refused st (range_of g) t cs RowsTooLong refl) in
       let is = concurrent_is a b rows true e in
       let size : length (replay_range g (concurrent a b) rows).1 ≡ 1 = ap (λ (y : Replayed). length y.1) is in
       let r : replay_ranges g (concurrent a b ∷ cs) (room - length done) rows ≡ (Err RowsTooLong, opened a b ∷ [], rows_into (range_of g a b) rows) =
@@ -390,9 +366,9 @@ module _ (g : Graph) (ws : List ℕ) where
 
   -- A whole replay
   pub replay_ends : (cs : List HistoryRange) (rows : List ℕ) →
-      Ends [] (replay_ranges g cs room rows) (replay_all st (range_of g) (ranged (going 0 0) false, rows, ws) cs)
+      Ends [] (replay_ranges g cs room rows) (replay_all st (range_of g) (unwritten ws, rows) cs)
   replay_ends cs rows =
       let z : room - 0 ≡ room = omega arith in
-      let s : state_at [] rows ≡ (ranged (going 0 0) false, rows, ws) = unfold wrote emit in refl in
+      let s : state_at [] rows ≡ (unwritten ws, rows) = unfold wrote emit in refl in
       subst (λ (x : State). Ends [] (replay_ranges g cs room rows) (replay_all st (range_of g) x cs)) s
       (subst (λ (k : ℕ). Ends [] (replay_ranges g cs k rows) (replay_all st (range_of g) (state_at [] rows) cs)) z (ranges_end cs [] rows (omega arith)))

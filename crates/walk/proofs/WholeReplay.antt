@@ -1,7 +1,6 @@
 -- A full replay by a held record's arrays and the records of its cut is the definitions' full replay. Assumes nothing.
 use Rattle.std.proofs.Common.{◌≡◌, refl, sym, ap, ◌∙◌, Bool, true, false, List, [], ◌∷◌, ℕ, ◌-◌, ◌/◌, ◌≤◌, arith, length}
 use Rattle.model.specs.declared.record.CausalGraph.{CausalGraph}
-use Rattle.model.specs.declared.answers.Walked.{Walked}
 use Rattle.model.specs.declared.answers.Refusal.TheVariants.{Broken}
 use Rattle.model.specs.Graph.{runs}
 use Rattle.model.specs.Record.{view}
@@ -15,14 +14,13 @@ use Rattle.model.proofs.Results.{replay_is}
 use Rattle.model.proofs.RoomsReplay.{Laid, cut_laid}
 use Rattle.graph.proofs.Views.{runs-view}
 use Rattle.moves.specs.Emit.{Writing}
-use Rattle.walk.specs.declared.walking.Ranged.{Ranged}
-use Rattle.walk.specs.Walked.{State, ranged, unwritten, walked_in, walked_of, result_of, opening, open_of, replay_on, replay_all}
+use Rattle.walk.specs.Walked.{State, unwritten, walked_in, result_of, if_done, opening, open_of, replay_on, replay_all}
 use Rattle.walk.specs.Ranges.{range_at}
 use Rattle.walk.proofs.Arrays.{starts-same, range_view}
 use Rattle.walk.proofs.Answering.{result_eq}
 use Rattle.walk.proofs.Ranging.{replay_ends}
 use Rattle.walk.proofs.CutRead.{laid_le}
-use Rattle.walk.proofs.WholeWalk.{walked_same, answer_of}
+use Rattle.walk.proofs.WholeWalk.{walked_same}
 use Rattle.std.specs.Prelude.{Err}
 
 -- A range that is opened alike is replayed alike
@@ -30,14 +28,8 @@ on_same : (st st' : List ℕ) (range range' : ℕ → ℕ → Range) (s : State)
     ((x : Writing) (rows : List ℕ) → opening st range x rows c ≡ opening st' range' x rows c) → replay_on st range s c ≡ replay_on st' range' s c
 unfolding replay_on
 on_same st st' range range' s c h =
-    let x : Writing = open_of (s.0.out, s.2) c in
-    ap (λ (t : State). elim s.0.rows_too_long as (λ _. State) [
-      | true ↦ s
-      | false ↦ elim s.0.out.short as (λ _. State) [
-        | true ↦ s
-        | false ↦ elim x.0.short as (λ _. State) [ true ↦ (ranged x.0 false, s.1, x.1) | false ↦ t ]
-      ]
-    ]) (h x s.1)
+    let x : Writing = open_of s.0 c in
+    ap (λ (t : State). if_done s.0.0.outcome (if_done x.0.outcome t (x, s.1)) s) (h x s.1)
 
 module _ (g : CausalGraph) (held : Held g) where
   abbrev by_arrays : ℕ → ℕ → Range
@@ -54,8 +46,8 @@ module _ (g : CausalGraph) (held : Held g) where
       opening g.starts by_arrays x rows (concurrent a b) ≡ opening st (range_of (view g)) x rows (concurrent a b)
   unfolding opening range_at
   walk_same a b le few x rows =
-      ap (λ (w : Range). walked_in g.starts w a 0 0 x.0 rows x.1) (range_view g held a b le few (b - a) refl) ∙
-      walked_same g.starts st (starts-same g held) (range_of (view g) a b) a 0 0 x.0 rows x.1
+      ap (λ (w : Range). walked_in g.starts w a 0 0 x rows) (range_view g held a b le few (b - a) refl) ∙
+      walked_same g.starts st (starts-same g held) (range_of (view g) a b) a 0 0 x rows
 
   all_same : (cs : List HistoryRange) (lo : ℕ) (s : State) → Laid lo cs (runs (view g)) → replay_all g.starts by_arrays s cs ≡ replay_all st (range_of (view g)) s cs
   unfolding replay_all
@@ -70,17 +62,14 @@ module _ (g : CausalGraph) (held : Held g) where
       all_same cs b (replay_on st (range_of (view g)) s (concurrent a b)) h.2
 
   -- Full replay of a held record
-  pub replay_whole : (rows steps : List ℕ) (cs : List HistoryRange) → cs ≡ cut_from (view g) 0 → (r : Ranged) (rows' steps' : List ℕ) →
-      (r, rows', steps') ≡ replay_all g.starts by_arrays (ranged unwritten false, rows, steps) cs → (w : Walked) → w ≡ walked_of r →
-      (w, rows', steps') ≡ replay_of g rows steps
-  replay_whole rows steps cs q r rows' steps' e w p =
-      answer_of r rows' steps' w p t
-      (e ∙ (ap (replay_all g.starts by_arrays (ranged unwritten false, rows, steps)) q ∙
-      all_same (cut_from (view g) 0) 0 (ranged unwritten false, rows, steps) (cut_laid (view g) 0))) ∙
+  pub replay_whole : (rows steps : List ℕ) (cs : List HistoryRange) → cs ≡ cut_from (view g) 0 → (s : State) →
+      s ≡ replay_all g.starts by_arrays (unwritten steps, rows) cs → result_of s ≡ replay_of g rows steps
+  replay_whole rows steps cs q s e =
+      ap result_of (e ∙ (ap (replay_all g.starts by_arrays (unwritten steps, rows)) q ∙ all_same (cut_from (view g) 0) 0 (unwritten steps, rows) (cut_laid (view g) 0))) ∙
       (result-is ∙ sym (replay_is g rows steps (not-broken g held)))
     where
       t : State
-      t = replay_all st (range_of (view g)) (ranged unwritten false, rows, steps) (cut_from (view g) 0)
+      t = replay_all st (range_of (view g)) (unwritten steps, rows) (cut_from (view g) 0)
 
       x : Replayed
       x = replay_ranges (view g) (cut_from (view g) 0) (length steps / 3) rows
@@ -88,7 +77,7 @@ module _ (g : CausalGraph) (held : Held g) where
       result-is : result_of t ≡ wrote (view g) x.0 x.1 x.2 steps
       result-is =
           let ends = replay_ends (view g) steps (cut_from (view g) 0) rows in
-          unfold result_of walked_of wrote in (result_eq ends.count ends.moved ends.outcome ends.rows ends.steps)
+          unfold wrote in (result_eq ends.count ends.moved ends.outcome ends.rows ends.steps)
 
 -- A broken graph is refused
 pub replay_broken : (g : CausalGraph) (rows steps : List ℕ) → broken g ≡ true →

@@ -1,10 +1,8 @@
 -- A walk by a held record's arrays is the definitions' walk; each way out of `walk`. Assumes nothing.
-use Rattle.std.proofs.Common.{◌≡◌, refl, sym, ap, ap₂, ◌∙◌, Bool, true, false, ◌||◌, List, [], ◌∷◌, ℕ, ◌-◌, ◌≤◌, arith, get_or, ltb, ltb-false}
+use Rattle.std.proofs.Common.{◌≡◌, refl, sym, ap, ◌∙◌, true, false, ◌||◌, List, [], ◌∷◌, ℕ, ◌-◌, ◌≤◌, arith, get_or, ltb, ltb-false}
 use Rattle.lists.proofs.Truth.{or-first, or-last}
 use Rattle.model.specs.declared.record.CausalGraph.{CausalGraph}
-use Rattle.model.specs.declared.answers.Walked.{Walked}
 use Rattle.model.specs.declared.answers.Refusal.{Refusal}
-use Rattle.model.specs.declared.answers.Refusal.TheVariants.{RowsTooLong, ListTooShort}
 use Rattle.model.specs.Graph.{runs}
 use Rattle.model.specs.Record.{view, Sized}
 use Rattle.model.specs.Broken.{broken, Held}
@@ -15,62 +13,33 @@ use Rattle.model.proofs.Stored.{held_of}
 use Rattle.model.proofs.Tests.{passed}
 use Rattle.model.proofs.Results.{walk_done-is}
 use Rattle.graph.proofs.Views.{runs-view}
-use Rattle.moves.specs.declared.writing.Out.{Out}
-use Rattle.moves.specs.Emit.{Rec, emit}
+use Rattle.moves.specs.Emit.{Rec, Writing, emit}
 use Rattle.moves.proofs.Written.{recs-same}
-use Rattle.walk.specs.declared.walking.Ranged.{Ranged}
 use Rattle.walk.specs.Ranges.{range_at}
-use Rattle.walk.specs.Walked.{State, ranged, unwritten, walked_in, outcome_of, walked_of, result_of}
+use Rattle.walk.specs.Walked.{State, unwritten, rows_refused, walked_in, result_of}
 use Rattle.walk.proofs.Arrays.{starts-same, range_view}
 use Rattle.walk.proofs.Answering.{walk_result}
 use Rattle.std.specs.Prelude.{Ok, Err}
 use Rattle.model.specs.Refusals.{Outcome}
 
 -- Runs that start alike are walked alike
-pub walked_same : (st st' : List ℕ) → ((i : ℕ) → get_or st i 0 ≡ get_or st' i 0) → (w : Range) (a known first : ℕ) (out : Out) (rows steps : List ℕ) →
-    walked_in st w a known first out rows steps ≡ walked_in st' w a known first out rows steps
+pub walked_same : (st st' : List ℕ) → ((i : ℕ) → get_or st i 0 ≡ get_or st' i 0) → (w : Range) (a known first : ℕ) (x : Writing) (rows : List ℕ) →
+    walked_in st w a known first x rows ≡ walked_in st' w a known first x rows
 unfolding walked_in
-walked_same st st' h w a known first out rows steps =
+walked_same st st' h w a known first x rows =
     ap (λ (l : List Rec). elim (rows_too_long w rows) as (λ _. State) [
-      | true ↦ (ranged out true, rows_into w rows, steps)
-      | false ↦ (ranged (emit (out, steps) l).0 false, rows_into w rows, (emit (out, steps) l).1)
+      | true ↦ (rows_refused x, rows_into w rows)
+      | false ↦ (emit x l, rows_into w rows)
     ]) (recs-same st st' h (steps_of w a known first))
 
--- The answer by what was refused
-told_form : Out → Bool → Bool → Walked
-told_form o t u = record { count = o.count; moved = o.moved; outcome = elim t [ true ↦ Err RowsTooLong | false ↦ elim u [ true ↦ Err ListTooShort | false ↦ (Ok tt) ] ] }
-
-told : (r : Ranged) (t u : Bool) → r.rows_too_long ≡ t → r.out.short ≡ u → told_form r.out t u ≡ walked_of r
-told r t u p q = unfold walked_of outcome_of told_form in (ap₂ (λ (t u : Bool). told_form r.out t u) (sym p) (sym q))
-
-pub told-rows : (r : Ranged) → r.rows_too_long ≡ true → record { count = r.out.count; moved = r.out.moved; outcome = Err RowsTooLong } ≡ walked_of r
-unfolding told_form
-told-rows r e = told r true r.out.short e refl
-
-pub told-short : (r : Ranged) → r.rows_too_long ≡ false → r.out.short ≡ true → record { count = r.out.count; moved = r.out.moved; outcome = Err ListTooShort } ≡ walked_of r
-unfolding told_form
-told-short r e n = told r false true e n
-
-pub told-done : (r : Ranged) → r.rows_too_long ≡ false → r.out.short ≡ false → record { count = r.out.count; moved = r.out.moved; outcome = Ok tt } ≡ walked_of r
-unfolding told_form
-told-done r e f = told r false false e f
-
--- The answer and what is left in the lists, by what is written
-pub answer_of : (r : Ranged) (rows steps : List ℕ) (w : Walked) → w ≡ walked_of r → (s : State) → (r, rows, steps) ≡ s → ◌≡◌ {A = WalkResult} (w, rows, steps) (result_of s)
-answer_of r rows steps w q s e = ap (λ (x : Walked). (x, rows, steps)) q ∙ (is ∙ ap result_of e)
-  where
-    is : ◌≡◌ {A = WalkResult} (walked_of r, rows, steps) (result_of (r, rows, steps))
-    is = unfold result_of in refl
-
 module _ (g : CausalGraph) (a b known first : ℕ) (rows steps : List ℕ) where
-  pub walk_whole : Held g → a ≤ b → b ≤ g.run_count → (r : Ranged) (rows' steps' : List ℕ) →
-      (r, rows', steps') ≡ walked_in g.starts (range_at g a b) a known first unwritten rows steps →
-      (w : Walked) → w ≡ walked_of r → (w, rows', steps') ≡ walk_range (view g) a b known first rows steps
+  pub walk_whole : Held g → a ≤ b → b ≤ g.run_count → (s : State) → s ≡ walked_in g.starts (range_at g a b) a known first (unwritten steps) rows →
+      result_of s ≡ walk_range (view g) a b known first rows steps
   unfolding range_at
-  walk_whole held le few r rows' steps' e w q =
-      answer_of r rows' steps' w q (walked_in (view g).starts (range_of (view g) a b) a known first unwritten rows steps)
-      (e ∙ (ap (λ (x : Range). walked_in g.starts x a known first unwritten rows steps) (range_view g held a b le few (b - a) refl) ∙
-      walked_same g.starts (view g).starts (starts-same g held) (range_of (view g) a b) a known first unwritten rows steps)) ∙
+  walk_whole held le few s e =
+      ap result_of
+      (e ∙ (ap (λ (x : Range). walked_in g.starts x a known first (unwritten steps) rows) (range_view g held a b le few (b - a) refl) ∙
+      walked_same g.starts (view g).starts (starts-same g held) (range_of (view g) a b) a known first (unwritten steps) rows)) ∙
       walk_result (view g) a b known first rows steps
 
   -- Refused before anything is written

@@ -1,20 +1,29 @@
 -- The ranges of a cut as records of three words: kind (0 Linear, else Concurrent), first run, end run (exclusive). Assumes nothing.
-use Rattle.std.specs.Prelude.{cond, List, [], ◌∷◌, ℕ, zero, suc, ◌+◌, ◌*◌, ◌≤◌, ◌<◌, get_or, eqb}
+use Rattle.std.specs.Prelude.{cond, List, map, ℕ, ◌≤◌, ◌<◌, length, get_or, eqb}
+use Rattle.model.specs.History.{at}
 use Rattle.model.specs.Cut.{HistoryRange, linear, concurrent}
 use Rattle.model.specs.declared.record.CausalGraph.{CausalGraph}
+use Rattle.walk.specs.declared.replaying.RangeKind.{RangeKind}
+use Rattle.walk.specs.declared.replaying.RangeKind.TheVariants.{Linear, Concurrent}
 use Rattle.walk.specs.Ranges.{ArraysOf}
 
--- A range by its kind and its runs
-unfoldable pub range_by : ℕ → ℕ → ℕ → HistoryRange
-range_by kind a b = cond (eqb kind 0) (linear a b) (concurrent a b)
+-- The kind that a word stands for
+unfoldable pub kind_of : ℕ → RangeKind
+kind_of word = cond (eqb word 0) Linear Concurrent
 
--- n records from the i-th on
-unfoldable pub ranges_in : List ℕ → ℕ → ℕ → List HistoryRange
-ranges_in cut i zero = []
-ranges_in cut i (suc n) = range_by (get_or cut (3 * i) 0) (get_or cut (3 * i + 1) 0) (get_or cut (3 * i + 2) 0) ∷ ranges_in cut (i + 1) n
+-- A range by its kind and its runs, and by a record
+unfoldable pub range_by : RangeKind → ℕ → ℕ → HistoryRange
+range_by Linear a b = linear a b
+range_by Concurrent a b = concurrent a b
 
--- n ranges of a graph's runs, each after the one before it
-pub record Tiled (g : CausalGraph) (cut : List ℕ) (n : ℕ) : Type 0 where
-  pub order : (i : ℕ) → i < n → get_or cut (3 * i + 1) 0 ≤ get_or cut (3 * i + 2) 0
-  pub arrays : (i : ℕ) → i < n → ArraysOf g (get_or cut (3 * i + 2) 0)
-  pub next : (i : ℕ) → i + 1 < n → get_or cut (3 * i + 2) 0 ≤ get_or cut (3 * (i + 1) + 1) 0
+unfoldable pub range_in : List ℕ → HistoryRange
+range_in r = range_by (kind_of (get_or r 0 0)) (get_or r 1 0) (get_or r 2 0)
+
+-- Some records
+unfoldable pub ranges_in : List (List ℕ) → List HistoryRange
+ranges_in rs = map range_in rs
+
+-- Each is a range of a graph's runs
+pub record Tiled (g : CausalGraph) (rs : List (List ℕ)) : Type 0 where
+  pub order : (i : ℕ) → i < length rs → get_or (at rs i) 1 0 ≤ get_or (at rs i) 2 0
+  pub arrays : (i : ℕ) → i < length rs → ArraysOf g (get_or (at rs i) 2 0)

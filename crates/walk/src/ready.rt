@@ -1,9 +1,10 @@
 // What runs wait for, and the ready list: a visit takes one from each child, and those at none are ready.
 ghost use Rattle.std.specs.Prelude.{◌≡◌, ◌&&◌, ◌-◌, ◌<◌, ◌≤◌, ◌^◌, length, get_or, leb, ltb, eqb};
-ghost use Rattle.lists.specs.Lists.{bit, count, from};
+ghost use Rattle.lists.specs.Lists.{bit, count};
 ghost use Rattle.model.specs.Limits.{max_runs};
-ghost use Rattle.walk.specs.Given.{children_for};
-ghost use Rattle.walk.specs.Readiness.{none_waits, start_of, start_waits, wake_of, wake_all, woken_of, left_after, taken_out};
+ghost use Rattle.model.specs.History.{at};
+ghost use Rattle.walk.specs.Given.{children_for, parents_for};
+ghost use Rattle.walk.specs.Readiness.{none_waits, start_of, start_waits, wake_of, woken_of, left_after, taken_out};
 
 use crate::given::Given;
 use model::MAX_RUNS;
@@ -19,11 +20,11 @@ fn count_unknown(parents: &[u32], known: u32) -> u32
 }
 
 // 1 for a run that waits until the runs before `first` are visited.
-fn held_back(r: u32, known: u32, first: u32) -> u32
-    ensures value { result ≡ bit (ltb known first && leb first r) }
+fn held_back(given: &Given, r: u32) -> u32
+    ensures value { result ≡ bit (ltb given.now.known given.now.first && leb given.now.first r) }
     ensures upper_bound { result ≤ 1 }
 {
-    u32::from(known < first && first <= r)
+    u32::from(given.known < given.first && given.first <= r)
 }
 
 // What each of a range's runs waits for, and the ready runs, of which there are `count`.
@@ -62,18 +63,19 @@ impl Waits {
     }
 
     // What run r waits for at the start; at none, it is ready unless it is known.
-    fn start_run(&mut self, r: u32, parents: &[u32], known: u32, first: u32)
-        requires run { r < length self.old.1 }
+    fn start_run(&mut self, given: &Given, r: u32)
+        requires run { r < given.now.runs }
+        requires long { length self.old.1 ≡ given.now.runs }
         requires room { self.old.0 < length self.old.2 }
-        requires few { length parents.now ≤ 2 ^ 31 }
-        ensures { self.new ≡ start_of known first self.old r parents.now }
+        ensures { self.new ≡ start_of given.now.known given.now.first self.old r (at (parents_for given.now) r) }
     {
-        let w = count_unknown(parents, known) + held_back(r, known, first);
+        let parents = given.parents(r as usize);
+        let w = count_unknown(parents, given.known) + held_back(given, r);
         self.waiting[r as usize] = w;
         if w != 0 {
             return;
         }
-        if r < known {
+        if r < given.known {
             return;
         }
         self.ready[self.count] = r;
@@ -86,7 +88,7 @@ impl Waits {
         ensures { self.new ≡ start_waits given.now }
     {
         for r in 0..given.runs {
-            self.start_run(r as u32, given.parents(r), given.known, given.first);
+            self.start_run(given, r as u32);
         }
     }
 
@@ -113,24 +115,6 @@ impl Waits {
         self.count += 1;
     }
 
-    // All of a run's children, in turn.
-    fn wake_all(&mut self, children: &[u32])
-        ensures { self.new ≡ wake_all self.old children.now }
-    {
-        for child in children {
-            self.wake(*child);
-        }
-    }
-
-    // The runs from a up to e, in turn.
-    fn wake_range(&mut self, a: u32, e: u32)
-        ensures { self.new ≡ wake_all self.old (from a (e - a)) }
-    {
-        for x in a..e {
-            self.wake(x);
-        }
-    }
-
     // After a visit of `run`, with `left` of the first left before it: its children, and, where it is the last of the first,
     // all runs from `first` on. How many of the first are left then.
     pub(crate) fn wake_visit(&mut self, given: &Given, run: u32, left: usize) -> usize
@@ -138,7 +122,9 @@ impl Waits {
         ensures ready_after { self.new ≡ woken_of self.old (children_for given.now run) run given.now.known given.now.first given.now.runs left }
         ensures left_value { result ≡ left_after run given.now.known given.now.first left }
     {
-        self.wake_all(given.children(run as usize));
+        for child in given.children(run as usize) {
+            self.wake(*child);
+        }
         if run < given.known {
             return left;
         }
@@ -148,15 +134,10 @@ impl Waits {
         if 1 < left {
             return left - 1;
         }
-        self.wake_range(given.first, given.runs as u32);
+        for later in given.first..given.runs as u32 {
+            self.wake(later);
+        }
         0
-    }
-
-    // Whether no run is ready.
-    pub(crate) fn is_empty(&self) -> bool
-        ensures { result ≡ eqb self.now.0 0 }
-    {
-        self.count == 0
     }
 
     // Takes the run at `at` out of the ready ones.

@@ -1,89 +1,95 @@
 // Full replay: the ranges of the cut, one after another.
-ghost use Rattle.std.specs.Prelude.{◌≡◌, ◌+◌, ◌-◌, ◌*◌, ◌<◌, ◌≤◌, ◌^◌, false, length};
+ghost use Rattle.std.specs.Prelude.{◌≡◌, ◌≤◌};
 ghost use Rattle.model.specs.Replay.{replay_of};
+ghost use Rattle.moves.specs.Emit.{so_far, written, same_list};
 ghost use Rattle.walk.specs.Ranges.{ArraysOf, range_at};
-ghost use Rattle.walk.specs.Walked.{ranged, unwritten, replay_on, replay_all};
+ghost use Rattle.walk.specs.Walked.{replay_on, replay_all};
 ghost use Rattle.walk.specs.CutRecords.{range_by, ranges_in, Tiled};
 
 use crate::areas::Areas;
 use crate::walking;
-use crate::walking::Ranged;
+use crate::walking::Bounds;
 use graph::held::HeldGraph;
-use model::{CausalGraph, EventRunIndex, MAX_RUNS, Walked};
-use moves::writing;
-use moves::writing::{Kind, Out};
-use tables::words::item;
+use model::{CausalGraph, EventRunIndex, MAX_RUNS, Refusal, Walked};
+use moves::writing::{Kind, Steps};
 
-// One range of the cut: Open, then its runs in order (kind 0) or its walk. Nothing where something was refused before.
+// A range of the cut is applied in order, or walked.
+#[derive(Clone, Copy)]
+enum RangeKind {
+    Linear,
+    Concurrent,
+}
+
+// By the word that stands for it in a cut: 0 Linear, any other Concurrent.
+impl From<u32> for RangeKind {
+    ghost use Rattle.std.specs.Prelude.{◌≡◌};
+    ghost use Rattle.walk.specs.CutRecords.{kind_of};
+
+    ghost from_gives = { λ word kind. kind ≡ kind_of word };
+
+    #[tactic(auto, unfolding(crate::specs::CutRecords::kind_of))]
+    fn from(word: u32) -> RangeKind {
+        match word {
+            0 => RangeKind::Linear,
+            _ => RangeKind::Concurrent,
+        }
+    }
+}
+
+// One range of the cut: Open, then its runs in order or its walk.
 fn replay_next(
-    r: Ranged,
-    kind: u32,
+    kind: RangeKind,
     a: EventRunIndex,
     b: EventRunIndex,
     graph: &CausalGraph,
     rows: &mut [u32],
-    steps: &mut [u32],
+    steps: &mut Steps,
     areas: &mut Areas,
-) -> Ranged
+) -> Result<(), Refusal>
     requires arrays { ArraysOf graph.now b.0 }
     requires order { a.0 ≤ b.0 }
-    requires moved_bound { r.out.moved ≤ a.0 * 2 ^ 52 }
-    ensures steps_after { (result, rows.new, steps.new) ≡ replay_on graph.now.starts (range_at graph.now) (r, rows.old, steps.old) (range_by kind a.0 b.0) }
-    ensures moved_bound { result.out.moved ≤ b.0 * 2 ^ 52 }
+    ensures same_list { same_list steps.new steps.old }
+    ensures steps_after { (written result steps.new, rows.new) ≡ replay_on graph.now.starts (range_at graph.now) (so_far steps.old, rows.old) (range_by kind a.0 b.0) }
 {
-    if r.rows_too_long {
-        return r;
+    steps.put_step(Kind::Open, a.0, b.0, 0)?;
+    match kind {
+        RangeKind::Linear => steps.put_applies(a.0, b.0),
+        RangeKind::Concurrent => {
+            let bounds = Bounds {
+                from: a,
+                end: b,
+                known: 0,
+                first: 0,
+            };
+            walking::walk_range(bounds, graph, rows, steps, areas)
+        }
     }
-    if r.out.short {
-        return r;
-    }
-    let out = writing::put_step(steps, r.out, Kind::Open, a.0, b.0, 0);
-    if out.short {
-        return Ranged {
-            out,
-            rows_too_long: false,
-        };
-    }
-    if kind == 0 {
-        return Ranged {
-            out: writing::put_applies(steps, out, a.0, b.0),
-            rows_too_long: false,
-        };
-    }
-    walking::walk_range(out, a, b, 0, 0, graph, rows, steps, areas)
 }
 
-// The first n ranges of a cut: three words each, in a list whose count stands beside it, as 01's call answers it.
+// The ranges of a cut, one after another.
 fn replay_all(
-    n: usize,
-    cut: &[u32],
+    ranges: &[[u32; 3]],
     graph: &CausalGraph,
     rows: &mut [u32],
-    steps: &mut [u32],
-) -> Ranged
-    requires tiled { Tiled graph.now cut.now n }
-    requires n_in_bounds { 3 * n ≤ length cut.now }
-    ensures { (result, rows.new, steps.new) ≡ replay_all graph.now.starts (range_at graph.now)
-        (ranged unwritten false, rows.old, steps.old) (ranges_in cut.now 0 n) }
+    steps: &mut Steps,
+) -> Result<(), Refusal>
+    requires { Tiled graph.now ranges.now }
+    ensures same_list { same_list steps.new steps.old }
+    ensures steps_after { (written result steps.new, rows.new) ≡ replay_all graph.now.starts (range_at graph.now) (so_far steps.old, rows.old) (ranges_in ranges.now) }
 {
     let mut areas = Areas::new();
-    let out = Out {
-        count: 0,
-        moved: 0,
-        short: false,
-    };
-    let mut r = Ranged {
-        out,
-        rows_too_long: false,
-    };
-    for i in 0..n {
-        let at = 3 * i;
-        let kind = item(cut, at, 0);
-        let a = EventRunIndex(item(cut, at + 1, 0));
-        let b = EventRunIndex(item(cut, at + 2, 0));
-        r = replay_next(r, kind, a, b, graph, rows, steps, &mut areas);
+    for [word, a, b] in ranges {
+        replay_next(
+            RangeKind::from(*word),
+            EventRunIndex(*a),
+            EventRunIndex(*b),
+            graph,
+            rows,
+            steps,
+            &mut areas,
+        )?;
     }
-    r
+    Ok(())
 }
 
 // Full replay of a graph that is known not to be broken.
@@ -93,7 +99,10 @@ pub fn replay_held(g: &HeldGraph, rows: &mut [u32], steps: &mut [u32]) -> Walked
     // Three words for each range, of which there are at most as many as runs.
     let mut cut = [0; 3 * MAX_RUNS];
     let w = graph::cut::cut_held(g, EventRunIndex(0), &mut cut);
-    walking::walked(replay_all(w.count, &cut, &g.graph, rows, steps))
+    let (ranges, _) = cut[..3 * w.count].as_chunks();
+    let mut written = Steps::over(steps);
+    let outcome = replay_all(ranges, &g.graph, rows, &mut written);
+    written.walked(outcome)
 }
 
 // Full replay: rows of each range into `rows`, all steps into `steps`.
@@ -102,10 +111,6 @@ pub fn replay(g: CausalGraph, rows: &mut [u32], steps: &mut [u32]) -> Walked
 {
     match HeldGraph::of(g) {
         Ok(held) => replay_held(&held, rows, steps),
-        Err(r) => Walked {
-            count: 0,
-            moved: 0,
-            outcome: Err(r),
-        },
+        Err(r) => Steps::over(steps).walked(Err(r)),
     }
 }

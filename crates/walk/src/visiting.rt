@@ -1,28 +1,27 @@
 // The visits of a range's runs.
-ghost use Rattle.std.specs.Prelude.{◌≡◌, ◌+◌, ◌*◌, ◌<◌, ◌≤◌, ◌^◌, None, min, length, get_or};
+ghost use Rattle.std.specs.Prelude.{◌≡◌, ◌<◌, get_or, IfOk};
 ghost use Rattle.tables.specs.Reached.{arrived, Holds};
-ghost use Rattle.moves.specs.Emit.{emit};
+ghost use Rattle.moves.specs.Emit.{so_far, written, same_list, emit};
 ghost use Rattle.moves.specs.Moves.{visit_of, recs};
-ghost use Rattle.model.specs.Limits.{max_weighed};
 ghost use Rattle.model.specs.Steps.{steps_of};
 ghost use Rattle.walk.specs.Given.{chains_in, places_in, begins_in, members_in, row_for, range_for};
 ghost use Rattle.walk.specs.Readiness.{none_waits};
-ghost use Rattle.walk.specs.Choose.{index_of, only_c, cost_c, weight_c, scan_c, AllIn};
-ghost use Rattle.walk.specs.Turns.{AllInside, Turned, Fit, Begun};
+ghost use Rattle.walk.specs.Choose.{index_of};
+ghost use Rattle.walk.specs.Turns.{best_in, visited, Turned, Fit, Begun};
 
 use crate::choice;
 use crate::given::Given;
 use crate::ready::Waits;
-use model::MAX_RUNS;
+use model::{MAX_RUNS, Refusal};
 use moves::moving;
-use moves::writing::Out;
+use moves::moving::Chains;
+use moves::spans::Runs;
+use moves::writing::Steps;
 use tables::versions;
 
-// How far a walk is: what is written, the version, what runs wait for and which are ready, how many of the first are left, and the
-// last run visited.
+// How far a walk is: the version, what runs wait for and which are ready, how many of the first are left, and the last run visited.
 #[derive(Drop)]
 pub(crate) struct Progress {
-    pub(crate) out: Out,
     pub(crate) version: [u32; MAX_RUNS],
     pub(crate) waits: Waits,
     pub(crate) left: usize,
@@ -33,8 +32,7 @@ impl Progress {
     // The walk begins. What it stands on is made before, since a list by value would be copied.
     fn begin(&mut self, given: &Given)
         requires { self.old.waits ≡ none_waits given.now.runs }
-        ensures begun { Begun given.now self.new }
-        ensures out { self.new.out ≡ self.old.out }
+        ensures { Begun given.now self.new }
     {
         versions::start_version(
             &mut self.version,
@@ -48,93 +46,79 @@ impl Progress {
         self.last = None;
     }
 
-    // Where the best of the ready runs stands.
-    fn choose(&self, given: &Given) -> usize
-        requires room { self.now.waits.0 ≤ length self.now.waits.2 }
-        requires ready { AllIn self.now.waits.2 self.now.waits.0 given.now.runs }
-        ensures { result ≡ index_of (scan_c (only_c given.now self.now.last) (cost_c given.now self.now.version) (weight_c given.now) self.now.waits.2
-            self.now.waits.0 0 (min max_weighed self.now.waits.0) None) }
+    // The best of the ready runs, at this place of the ready list, is visited.
+    fn visit_next(&mut self, given: &Given, at: usize, steps: &mut Steps) -> Result<(), Refusal>
+        requires at { at ≡ index_of (best_in given.now self.old) }
+        requires fit { Fit given.now self.old }
+        ensures same_list { same_list steps.new steps.old }
+        ensures steps_after { written result steps.new ≡ emit (so_far steps.old) (visited given.now self.old) }
+        ensures turned { IfOk result (λ _. Turned given.now self.old self.new) }
     {
-        match choice::nearest(given, &self.version, &self.waits, self.last) {
-            Some(best) => best.at,
-            None => 0,
-        }
-    }
-
-    // The best of the ready runs is visited.
-    fn visit_next(&mut self, given: &Given, steps: &mut [u32])
-        requires { Fit given.now (self.old, steps.old) }
-        ensures { Turned given.now (self.old, steps.old) (self.new, steps.new) }
-    {
-        let at = self.choose(given);
         let run = self.waits.remove(at);
-        self.out = visit(given, self.out, run, steps, &mut self.version);
+        visit(given, run, &mut self.version, steps)?;
         self.left = self.waits.wake_visit(given, run, self.left);
         self.last = Some(run);
+        Ok(())
     }
 
     // All visits of a walk that begins: at most one of each run, since no run is visited twice.
-    fn visit_all(&mut self, given: &Given, steps: &mut [u32])
-        requires begun { Begun given.now self.old }
-        requires moved_bound { self.old.out.moved + (given.now.runs + 1) * 2 ^ 52 < 2 ^ 63 }
-        ensures steps_after { (self.new.out, steps.new) ≡ emit (self.old.out, steps.old)
+    fn visit_all(&mut self, given: &Given, steps: &mut Steps) -> Result<(), Refusal>
+        requires { Begun given.now self.old }
+        ensures same_list { same_list steps.new steps.old }
+        ensures steps_after { written result steps.new ≡ emit (so_far steps.old)
             (recs given.now.starts (steps_of (range_for given.now) given.now.base given.now.known given.now.first)) }
-        ensures moved_bound { self.new.out.moved ≤ self.old.out.moved + given.now.runs * 2 ^ 52 }
     {
         for _ in 0..given.runs {
-            if self.waits.is_empty() {
-                break;
-            }
-            self.visit_next(given, steps);
+            let Some(best) = choice::nearest(given, &self.version, &self.waits, self.last) else {
+                return Ok(());
+            };
+            self.visit_next(given, best.at, steps)?;
         }
+        Ok(())
     }
 }
 
-// The steps of a run's visit, and the version after it.
-fn visit(given: &Given, out: Out, run: u32, steps: &mut [u32], current: &mut [u32]) -> Out
-    requires run { run < given.now.runs }
-    requires room { given.now.chains ≤ length current.old }
-    requires inside { AllInside given.now current.old }
-    requires moved_bound { out.moved + 2 ^ 52 < 2 ^ 63 }
-    ensures steps_after { (result, steps.new) ≡ emit (out, steps.old)
+// The steps of a run's visit, and the version after it, if they find room.
+fn visit(
+    given: &Given,
+    run: u32,
+    current: &mut [u32; MAX_RUNS],
+    steps: &mut Steps,
+) -> Result<(), Refusal>
+    requires { run < given.now.runs }
+    ensures same_list { same_list steps.new steps.old }
+    ensures steps_after { written result steps.new ≡ emit (so_far steps.old)
         (visit_of given.now.starts given.now.base (members_in given.now) (begins_in given.now) current.old (row_for given.now run) given.now.chains run) }
-    ensures version { Holds (arrived (row_for given.now run) (get_or (chains_in given.now) run 0) (get_or (places_in given.now) run 0)) given.now.chains current.new }
-    ensures length { length current.new ≡ length current.old }
-    ensures moved_bound { result.moved ≤ out.moved + 2 ^ 52 }
+    ensures version { IfOk result (λ _. Holds (arrived (row_for given.now run) (get_or (chains_in given.now) run 0) (get_or (places_in given.now) run 0)) given.now.chains current.new) }
 {
     let r = run as usize;
     let row = given.row(r);
-    let out = moving::put_visit(
-        steps,
-        out,
-        given.starts,
-        given.base.0,
-        given.members(),
-        given.begins(),
-        current,
-        row,
-        given.chains,
-        run,
-    );
+    let runs = Runs {
+        starts: given.starts,
+        base: given.base.0,
+    };
+    let chains = Chains {
+        members: given.members(),
+        begins: given.begins(),
+        count: given.chains,
+    };
+    moving::put_visit(steps, runs, chains, current, row, run)?;
     versions::arrive(current, row, given.chains, given.chain(r), given.place(r));
-    out
+    Ok(())
 }
 
 // The walk of a range, after the steps written before.
-pub(crate) fn visits(given: &Given, out: Out, steps: &mut [u32]) -> Out
-    requires { out.moved + (given.now.runs + 1) * 2 ^ 52 < 2 ^ 63 }
-    ensures steps_after { (result, steps.new) ≡ emit (out, steps.old)
+pub(crate) fn visits(given: &Given, steps: &mut Steps) -> Result<(), Refusal>
+    ensures same_list { same_list steps.new steps.old }
+    ensures steps_after { written result steps.new ≡ emit (so_far steps.old)
         (recs given.now.starts (steps_of (range_for given.now) given.now.base given.now.known given.now.first)) }
-    ensures moved_bound { result.moved ≤ out.moved + given.now.runs * 2 ^ 52 }
 {
     let mut walk = Progress {
-        out,
         version: [0; MAX_RUNS],
         waits: Waits::none(given.runs),
         left: 0,
         last: None,
     };
     walk.begin(given);
-    walk.visit_all(given, steps);
-    walk.out
+    walk.visit_all(given, steps)
 }

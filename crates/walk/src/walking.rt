@@ -1,9 +1,10 @@
 // `walk` over a range of runs.
-ghost use Rattle.std.specs.Prelude.{◌≡◌, ◌+◌, ◌-◌, ◌*◌, ◌<◌, ◌≤◌, ◌^◌, false, max, min};
+ghost use Rattle.std.specs.Prelude.{◌≡◌, ◌-◌, ◌≤◌, max, min};
 ghost use Rattle.model.specs.Record.{view};
 ghost use Rattle.model.specs.Walk.{walk_of, walk_range};
 ghost use Rattle.walk.specs.Ranges.{ArraysOf, range_at};
-ghost use Rattle.walk.specs.Walked.{unwritten, walked_in, walked_of};
+ghost use Rattle.moves.specs.Emit.{so_far, written, same_list};
+ghost use Rattle.walk.specs.Walked.{walked_in};
 
 use crate::areas::Areas;
 use crate::given::Given;
@@ -11,44 +12,44 @@ use crate::visiting;
 use graph::held::HeldGraph;
 use graph::ranges;
 use model::{CausalGraph, EventRunIndex, Refusal, Walked};
-use moves::writing::Out;
+use moves::writing::Steps;
 use tables::rows::Area;
 use tables::tabling;
 
-// What a range came to: what is written, and whether its rows were too long.
+// A walk's range, from one run up to another, how many of its runs are known, and how many come first.
 #[derive(Clone, Copy)]
-pub(crate) struct Ranged {
-    pub(crate) out: Out,
-    pub(crate) rows_too_long: bool,
+pub(crate) struct Bounds {
+    pub(crate) from: EventRunIndex,
+    pub(crate) end: EventRunIndex,
+    pub(crate) known: u32,
+    pub(crate) first: u32,
+    ghost inside: { (from.0 ≤ end.0) × (known ≤ end.0 - from.0) },
 }
 
-// `first` as far as the range goes, and at least `known`.
-fn clamped(known: u32, first: u32, runs: u32) -> u32
-    ensures { result ≡ max known (min first runs) }
-{
-    known.max(first.min(runs))
+impl Bounds {
+    // `first` as far as the range goes, and at least `known`.
+    fn clamped(self) -> u32
+        ensures { result ≡ max self.known (min self.first (self.end.0 - self.from.0)) }
+    {
+        let runs = self.end.0 - self.from.0;
+        self.known.max(self.first.min(runs))
+    }
 }
 
-// The range a..b: its rows, and its steps after those written before.
+// A range walked: its rows, and its steps after those written before.
 pub(crate) fn walk_range(
-    out: Out,
-    a: EventRunIndex,
-    b: EventRunIndex,
-    known: u32,
-    first: u32,
+    bounds: Bounds,
     graph: &CausalGraph,
     rows: &mut [u32],
-    steps: &mut [u32],
+    steps: &mut Steps,
     areas: &mut Areas,
-) -> Ranged
-    requires arrays { ArraysOf graph.now b.0 }
-    requires inside { (a.0 ≤ b.0) × (known ≤ b.0 - a.0) }
-    requires moved_bound { out.moved ≤ a.0 * 2 ^ 52 }
-    ensures steps_after { (result, rows.new, steps.new) ≡ walked_in graph.now.starts (range_at graph.now a.0 b.0) a.0 known first out rows.old steps.old }
-    ensures moved_bound { result.out.moved ≤ b.0 * 2 ^ 52 }
+) -> Result<(), Refusal>
+    requires { ArraysOf graph.now bounds.end.0 }
+    ensures same_list { same_list steps.new steps.old }
+    ensures steps_after { (written result steps.new, rows.new) ≡ walked_in graph.now.starts (range_at graph.now bounds.from.0 bounds.end.0) bounds.from.0 bounds.known bounds.first (so_far steps.old) rows.old }
 {
-    let runs = b.0 - a.0;
-    let n = runs as usize;
+    let a = bounds.from;
+    let n = (bounds.end.0 - a.0) as usize;
     let Some(area) = tabling::lay(
         &graph.parent_starts,
         &graph.parents,
@@ -59,10 +60,7 @@ pub(crate) fn walk_range(
         &mut areas.tables,
         &mut areas.scratch,
     ) else {
-        return Ranged {
-            out,
-            rows_too_long: true,
-        };
+        return Err(Refusal::RowsTooLong);
     };
     let x = a.0 as usize;
     let y = x + n + 1;
@@ -74,54 +72,21 @@ pub(crate) fn walk_range(
         base: a,
         runs: n,
         chains: area.chains,
-        known,
-        first: clamped(known, first, runs),
+        known: bounds.known,
+        first: bounds.clamped(),
     };
-    let out = visiting::visits(&given, out, steps);
-    Ranged {
-        out,
-        rows_too_long: false,
-    }
-}
-
-// The answer.
-pub(crate) fn walked(r: Ranged) -> Walked
-    ensures { result ≡ walked_of r }
-{
-    let outcome = if r.rows_too_long {
-        Err(Refusal::RowsTooLong)
-    } else if r.out.short {
-        Err(Refusal::ListTooShort)
-    } else {
-        Ok(())
-    };
-    Walked {
-        count: r.out.count,
-        moved: r.out.moved,
-        outcome,
-    }
+    visiting::visits(&given, steps)
 }
 
 // `walk` on a graph that is known not to be broken and a range inside it.
-fn walk_held(
-    g: &HeldGraph,
-    a: EventRunIndex,
-    b: EventRunIndex,
-    known: u32,
-    first: u32,
-    rows: &mut [u32],
-    steps: &mut [u32],
-) -> Walked
-    requires { (a.0 ≤ b.0) × (b.0 ≤ g.now.graph.run_count) × (known ≤ b.0 - a.0) }
-    ensures { (result, rows.new, steps.new) ≡ walk_range (view g.now.graph) a.0 b.0 known first rows.old steps.old }
+fn walk_held(g: &HeldGraph, bounds: Bounds, rows: &mut [u32], steps: &mut [u32]) -> Walked
+    requires { bounds.end.0 ≤ g.now.graph.run_count }
+    ensures { (result, rows.new, steps.new) ≡ walk_range (view g.now.graph) bounds.from.0 bounds.end.0 bounds.known bounds.first rows.old steps.old }
 {
-    let out = Out {
-        count: 0,
-        moved: 0,
-        short: false,
-    };
+    let mut written = Steps::over(steps);
     let mut areas = Areas::new();
-    walked(walk_range(out, a, b, known, first, &g.graph, rows, steps, &mut areas))
+    let outcome = walk_range(bounds, &g.graph, rows, &mut written, &mut areas);
+    written.walked(outcome)
 }
 
 // The walk over the runs from `first_run` up to `end_run`: rows into `rows`, steps into `steps`.
@@ -137,11 +102,15 @@ pub fn walk(
     ensures { (result, rows.new, steps.new) ≡ walk_of g first_run.0 end_run.0 known first rows.old steps.old }
 {
     match ranges::range_outcome(g, first_run, end_run, known) {
-        Ok(held) => walk_held(&held, first_run, end_run, known, first, rows, steps),
-        Err(r) => Walked {
-            count: 0,
-            moved: 0,
-            outcome: Err(r),
-        },
+        Ok(held) => {
+            let bounds = Bounds {
+                from: first_run,
+                end: end_run,
+                known,
+                first,
+            };
+            walk_held(&held, bounds, rows, steps)
+        }
+        Err(r) => Steps::over(steps).walked(Err(r)),
     }
 }

@@ -1,20 +1,25 @@
--- `moves::moving::put_moves` meets its contract: the moves of all chains, in order. Assumes nothing.
-use Rattle.std.proofs.Common.{◌-◌, ◌+◌, sym, ap, ◌∙◌, arith}
-use Rattle.moves.specs.Emit.{Writing, emit}
-use Rattle.moves.specs.Moves.{moves_from}
+-- `moves::moving::put_moves`: a chain more, one whose moves find no room, and none.
+use Rattle.std.proofs.Common.{sym, ◌∙◌}
+use Rattle.std.proofs.lemmas.Result.{err_from_is_err_and}
+use Rattle.moves.specs.Emit.{so_far}
+use Rattle.moves.proofs.Emitting.{ends_refused, goes_on}
 use Rattle.moves.proofs.ByChain.{moves_next, moves-none}
 use Rattle.moves.proofs.moving.put_moves.Goals as goal
 
+pub returns-in_err-put_chain-clause-steps_after : goal.returns-in_err-put_chain-clause-steps_after
+returns-in_err-put_chain-clause-steps_after c =
+    let l = c.loop-c in
+    let p = err_from_is_err_and c.from_residual.result c.from_residual.ensures.1 in
+    rw (p.1, p.2) (ends_refused _ (moves_next (so_far l.steps) _ _ _ _ _ _ _ l.c c.args.chains.count c.loop-c-test.true ∙ l.invariant.left) c.in_err-put_chain.ensures.steps_after)
+
 pub loop-c-preserved : goal.loop-c-preserved
 loop-c-preserved c =
-    let a = c.args in
     let l = c.loop-c in
-    let put = c.put_chain-o.ensures in
+    let put = c.in_ok-put_chain.ensures in
     record {
-      small = omega arith;
-      going_on = ap (λ (w : Writing). emit w (moves_from a.runs.starts.now a.kind a.runs.base a.chains.members.now a.chains.begins.now a.from.now a.to.now (l.c + 1) (a.n - (l.c + 1)))) put.steps_after ∙
-          moves_next (l.o, l.steps) a.runs.starts.now a.kind a.runs.base a.chains.members.now a.chains.begins.now a.from.now a.to.now l.c a.n c.loop-c-test.true ∙ l.invariant.going_on;
+      same_list = put.same_list ∙ l.invariant.same_list;
+      left = goes_on _ (moves_next (so_far l.steps) _ _ _ _ _ _ _ l.c c.args.chains.count c.loop-c-test.true ∙ l.invariant.left) put.steps_after;
     }
 
 pub returns-clause-steps_after : goal.returns-clause-steps_after
-returns-clause-steps_after c = sym (moves-none _ _ _ _ _ _ _ _ _ _ c.loop-c-test.false) ∙ c.loop-c.invariant.going_on
+returns-clause-steps_after c = sym (moves-none _ _ _ _ _ _ _ _ _ _ c.loop-c-test.false) ∙ c.loop-c.invariant.left

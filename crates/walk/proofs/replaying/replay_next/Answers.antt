@@ -1,21 +1,21 @@
--- `walk::replaying::replay_next`: each way out is one law.
-use Rattle.walk.proofs.ReplayWays.{next-rows, next-short, next_full, next_linear, next_walk}
+-- `walk::replaying::replay_next`: Open finds no room, or the range is applied in order or walked.
+use Rattle.std.proofs.lemmas.Result.{err_from_is_err_and}
+use Rattle.walk.specs.Ranges.{range_at}
+use Rattle.walk.proofs.ReplayWays.{next_full, next_linear, next_walk}
 use Rattle.walk.proofs.replaying.replay_next.Goals as goal
 
-pub returns-then-r-clause-steps_after : goal.returns-then-r-clause-steps_after
-returns-then-r-clause-steps_after c = let a = c.args in next-rows a.graph.now a.rows.now a.steps.now a.r a.kind a.a.0 a.b.0 c.if-r.true
+pub returns-in_err-put_step-clause-steps_after : goal.returns-in_err-put_step-clause-steps_after
+returns-in_err-put_step-clause-steps_after c =
+    let a = c.args in
+    let p = err_from_is_err_and c.from_residual.result c.from_residual.ensures.1 in
+    rw (p.1, p.2) (next_full a.graph.now.starts (range_at a.graph.now) _ _ _ a.rows.now a.kind a.a.0 a.b.0 c.in_err-put_step.ensures.steps_after)
 
-pub returns-then-r-2-clause-steps_after : goal.returns-then-r-2-clause-steps_after
-returns-then-r-2-clause-steps_after c = let a = c.args in next-short a.graph.now a.rows.now a.steps.now a.r a.kind a.a.0 a.b.0 c.if-r.false c.if-r-2.true
+pub returns-in-Linear-clause-steps_after : goal.returns-in-Linear-clause-steps_after
+returns-in-Linear-clause-steps_after c =
+    let a = c.args in
+    rw c.in-Linear.is (next_linear a.graph.now.starts (range_at a.graph.now) _ _ _ a.rows.now a.a.0 a.b.0 c.in_ok-put_step.ensures.steps_after c.put_applies.ensures.steps_after)
 
-pub returns-then-out-clause-steps_after : goal.returns-then-out-clause-steps_after
-returns-then-out-clause-steps_after c = let a = c.args in
-    next_full a.graph.now a.rows.now a.steps.now a.r a.kind a.a.0 a.b.0 c.if-r.false c.if-r-2.false c.put_step-out.result _ c.put_step-out.ensures.steps_after c.if-out.true
-
-pub returns-then-kind-eq0-clause-steps_after : goal.returns-then-kind-eq0-clause-steps_after
-returns-then-kind-eq0-clause-steps_after c = let a = c.args in
-    next_linear a.graph.now a.rows.now a.steps.now a.r a.kind a.a.0 a.b.0 c.if-r.false c.if-r-2.false c.put_step-out.result _ c.put_step-out.ensures.steps_after c.if-out.false c.if-kind-eq0.true _ _ c.put_applies.ensures.steps_after
-
-pub returns-clause-steps_after : goal.returns-clause-steps_after
-returns-clause-steps_after c = let a = c.args in
-    next_walk a.graph.now a.rows.now a.steps.now a.r a.kind a.a.0 a.b.0 c.if-r.false c.if-r-2.false c.put_step-out.result _ c.put_step-out.ensures.steps_after c.if-out.false c.if-kind-eq0.false _ _ _ c.walk_range.ensures.steps_after
+pub returns-in-Concurrent-clause-steps_after : goal.returns-in-Concurrent-clause-steps_after
+returns-in-Concurrent-clause-steps_after c =
+    let a = c.args in
+    rw c.in-Concurrent.is (next_walk a.graph.now.starts (range_at a.graph.now) _ _ _ a.rows.now a.a.0 a.b.0 c.in_ok-put_step.ensures.steps_after c.walk_range.ensures.steps_after)

@@ -3,7 +3,7 @@ use Rattle.std.proofs.Common.{ℕ, ◌+◌, sym, ap, ◌∙◌, subst, length, d
 use Rattle.std.proofs.lemmas.List.{length-replicate}
 use Rattle.model.specs.History.{at}
 use Rattle.walk.specs.Given.{Given, parents_for, Prepared}
-use Rattle.walk.specs.Readiness.{Wakes, start_of, start_all, start_waits}
+use Rattle.walk.specs.Readiness.{Wakes, start_all, start_waits}
 use Rattle.walk.proofs.Looping.{size}
 use Rattle.walk.proofs.Starting.{start-next, start_end, start_keep, start_few}
 use Rattle.walk.proofs.ready.Waits.start_all.Goals as goal
@@ -24,10 +24,8 @@ unfolding at
 loop-r-preserved c = let l = c.loop-r in
     let g = c.args.given.now in
     let P = subst Prepared c.given.view_is c.given.invariant in
-    let known = ap (λ (g : Given). g.known) c.given.view_is in
-    let first = ap (λ (g : Given). g.first) c.given.view_is in
     let runs = ap (λ (g : Given). g.runs) c.given.view_is in
-    let turn = c.start_run.ensures ∙ (λ i. start_of (known i) (first i) l.self l.r (c.parents.ensures.value i)) in
+    let turn = c.start_run.ensures in
     let k = start_keep g.known g.first l.self l.r (at (parents_for g) l.r) in
     record {
       few = omega (arith, ap (λ (s : Wakes). s.0) turn, start_few g.known g.first l.self l.r (at (parents_for g) l.r), l.invariant.few);

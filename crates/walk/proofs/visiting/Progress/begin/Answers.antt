@@ -18,14 +18,13 @@ start_version-requires c =
       },
     )
 
-pub returns-clause-begun : goal.returns-clause-begun
+pub returns : goal.returns
 unfolding chains_in places_in
-returns-clause-begun c =
+returns c =
     let chains = ap (λ (g : Given). g.chains) c.given.view_is in
     let known = ap (λ (g : Given). g.known) c.given.view_is in
     record {
       version = λ k lt. c.start_version.ensures.0 k (omega (arith, lt, chains)) ∙ (λ i. started (c.table.ensures.value i) (c.table-2.ensures.value i) (known i) k);
-      room = omega (arith, chains, few-chains _ c.given.invariant, c.start_version.ensures.1);
       waits = c.start_all.ensures;
       left = ap (λ (g : Given). g.first - g.known) c.given.view_is;
       last = refl;

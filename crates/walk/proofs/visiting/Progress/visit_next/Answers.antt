@@ -1,28 +1,33 @@
--- `walk::visiting::Progress::visit_next`: the choice, the visit and what it wakes are one turn.
-use Rattle.std.proofs.Common.{refl, ap, ◌∙◌, arith}
+-- `walk::visiting::Progress::visit_next`: the run chosen, its visit and what it wakes are one turn.
+use Rattle.std.proofs.Common.{refl, ap, ◌∙◌}
+use Rattle.std.proofs.lemmas.Result.{err_from_is_err_and}
+use Rattle.moves.specs.Emit.{so_far, emit}
 use Rattle.walk.specs.Given.{children_for}
 use Rattle.walk.specs.Readiness.{Wakes, woken_of}
-use Rattle.walk.specs.Turns.{best_in}
-use Rattle.walk.proofs.Stepping.{run-low, turned}
+use Rattle.walk.proofs.Stepping.{visited_is, run-low, turned}
 use Rattle.walk.proofs.visiting.Progress.visit_next.Goals as goal
 
-pub remove-run-requires-clause-at : goal.remove-run-requires-clause-at
-unfolding best_in
-remove-run-requires-clause-at c = omega (arith, c.choose-at.ensures, c.requires.below)
-
-pub visit-self-requires-clause-run : goal.visit-self-requires-clause-run
-unfolding best_in
-visit-self-requires-clause-run c = run-low c.args.given.now (c.args.self.now, c.args.steps.now) c.requires c.choose-at.result c.remove-run.result c.choose-at.ensures c.remove-run.ensures.run
+pub visit-requires : goal.visit-requires
+visit-requires c = run-low c.args.given.now c.args.self.now c.requires.fit c.args.at c.remove-run.result c.requires.at c.remove-run.ensures.run
 
 pub wake_visit-self-requires : goal.wake_visit-self-requires
-unfolding best_in
-wake_visit-self-requires c = run-low c.args.given.now (c.args.self.now, c.args.steps.now) c.requires c.choose-at.result c.remove-run.result c.choose-at.ensures c.remove-run.ensures.run
+wake_visit-self-requires c = run-low c.args.given.now c.args.self.now c.requires.fit c.args.at c.remove-run.result c.requires.at c.remove-run.ensures.run
 
-pub returns : goal.returns
-unfolding best_in
-returns c = let v = c.visit-self.ensures in
+pub returns-in_err-visit-clause-steps_after : goal.returns-in_err-visit-clause-steps_after
+returns-in_err-visit-clause-steps_after c =
+    let a = c.args in
+    let p = err_from_is_err_and c.from_residual.result c.from_residual.ensures.1 in
+    rw (p.1, p.2) (c.in_err-visit.ensures.steps_after ∙ ap (emit (so_far a.steps.now)) (visited_is a.given.now a.self.now c.requires.fit a.at c.remove-run.result c.requires.at c.remove-run.ensures.run))
+
+pub returns-clause-steps_after : goal.returns-clause-steps_after
+returns-clause-steps_after c =
+    let a = c.args in
+    c.in_ok-visit.ensures.steps_after ∙ ap (emit (so_far a.steps.now)) (visited_is a.given.now a.self.now c.requires.fit a.at c.remove-run.result c.requires.at c.remove-run.ensures.run)
+
+pub returns-clause-turned : goal.returns-clause-turned
+returns-clause-turned c =
+    let a = c.args in
+    let g = a.given.now in
     let w = c.wake_visit-self.ensures in
-    let g = c.args.given.now in
-    let run = c.remove-run.result in
-    turned c.args.given.now (c.args.self.now, c.args.steps.now) c.requires c.choose-at.result c.remove-run.result c.choose-at.ensures c.remove-run.ensures.run
-    v.steps_after v.version v.length v.moved_bound (w.ready_after ∙ ap (λ (s : Wakes). woken_of s (children_for g run) run g.known g.first g.runs c.args.self.now.left) c.remove-run.ensures.rest) w.left_value refl
+    turned g a.self.now c.requires.fit a.at c.remove-run.result c.requires.at c.remove-run.ensures.run c.in_ok-visit.ensures.version
+    (w.ready_after ∙ ap (λ (s : Wakes). woken_of s (children_for g c.remove-run.result) c.remove-run.result g.known g.first g.runs a.self.now.left) c.remove-run.ensures.rest) w.left_value refl
