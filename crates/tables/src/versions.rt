@@ -14,7 +14,7 @@ pub fn start_version<'a>(
     known: usize,
 )
     requires { (chains ≤ length current.old) × Standing chain.now place.now chains known }
-    ensures { Holds (started chain.now place.now known) chains current.new × (length current.new ≡ length current.old) }
+    ensures { Holds (started chain.now place.now known) chains current.new }
 {
     current[..chains].fill(0);
     for r in 0..known {
@@ -26,7 +26,7 @@ pub fn start_version<'a>(
 // The first n words become the row's, and 0 past its end.
 fn copy_row(current: &mut [u32], row: &[u32], n: usize)
     requires { n ≤ length current.old }
-    ensures { Holds (λ c. get_or row.now c 0) n current.new × (length current.new ≡ length current.old) }
+    ensures { Holds (λ c. get_or row.now c 0) n current.new }
 {
     let m = row.len().min(n);
     current[..n].fill(0);
@@ -36,7 +36,7 @@ fn copy_row(current: &mut [u32], row: &[u32], n: usize)
 // The version after a visit: the run's history, by its row, and the run, by its chain and place.
 pub fn arrive(current: &mut [u32], row: &[u32], n: usize, chain: usize, place: u32)
     requires { (n ≤ length current.old) × (chain < n) × (place < max_runs) }
-    ensures { Holds (arrived row.now chain place) n current.new × (length current.new ≡ length current.old) }
+    ensures { Holds (arrived row.now chain place) n current.new }
 {
     copy_row(current, row, n);
     current[chain] = place + 1;
