@@ -95,10 +95,10 @@ module _ (pss : List (List ℕ)) (st : Chains) (area area₀ : List ℕ) (L : La
         pos-at b I.begins x xl ∙ ap₂ ◌+◌ (ap base (member-chain H n c i il) ∙ sym (begins_at b I.begins c (omega arith))) (member-place H n c i il) in
         ap (λ (j : ℕ). get_or m j 0) (sym e) ∙ I.members x xl
 
-    chains-listed : length pss ≤ length m → Listed C b m
-    chains-listed le = record {
+    chains-listed : Listed C b m
+    chains-listed = record {
       member = member-at;
-      fits = λ c l. omega (arith, begins_fit c l);
+      fits = λ c l. omega (arith, begins_fit c l, I.members_long);
       small = λ i. omega (arith, I.members_small i);
       low = I.begins_small;
     }
@@ -133,9 +133,9 @@ module _ (pss : List (List ℕ)) (a : Area) (tables : ChainTables) (area area₀
 
   module _ (starts b m e : List ℕ) (I : IndexOf starts (length pss) a.chains (take w tables.lens) (take w tables.chains) (take w tables.places) b m e) where
     -- what it leaves: the members
-    pub laid_listed : length pss ≤ length m → Listed chains b m
+    pub laid_listed : Listed chains b m
     unfolding chains_of
-    laid_listed le = chains-listed pss (chains_of a w tables) area area₀ L few starts b m e I le
+    laid_listed = chains-listed pss (chains_of a w tables) area area₀ L few starts b m e I
 
     -- the sums, in an area that is bounded
     pub laid_summed : Bounded (2 ^ 41) e → Sums chains (size_in starts) b e

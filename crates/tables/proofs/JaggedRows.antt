@@ -93,3 +93,7 @@ module _ (heads items : List ℕ) (n : ℕ) (sound : Sound heads items n) (rows 
 
   pub rows-fit : length (concat rows) ≤ length items
   rows-fit = omega (arith, ap (λ (l : List (List ℕ)). length (concat l)) rows_are, items-fit heads items n sound)
+
+  -- and what holds of the rows holds of the groups
+  pub as_groups : (P : List (List ℕ) → ℕ → Type 0) → P rows (length rows) → P (grouped heads items n) n
+  as_groups P h = subst (λ (k : ℕ). P (grouped heads items n) k) rows_size (subst (λ (l : List (List ℕ)). P l (length rows)) rows_are h)

@@ -76,10 +76,10 @@ impl<'a> Sums<'a> {
 
 // The events of each run's history, by the runs' rows.
 pub fn sizes_of(sizes: &mut [u64], sums: Sums, rows: &Jagged)
-    requires { length sizes.old ≤ length rows.now }
-    ensures { Sized sums.entry.before.now sums.entry.begins.now rows.now sums.entry.chains (length sizes.old) sizes.new }
+    requires { length rows.now ≤ length sizes.old }
+    ensures { Sized sums.entry.before.now sums.entry.begins.now rows.now sums.entry.chains (length rows.now) sizes.new }
 {
-    for (r, size) in sizes.iter_mut().enumerate() {
-        *size = sums.events_of(rows.row(r));
+    for r in 0..rows.len() {
+        sizes[r] = sums.events_of(rows.row(r));
     }
 }

@@ -52,7 +52,8 @@ impl Groups {
     // The groups of n runs.
     pub fn rows(&self, n: usize) -> Jagged<'_>
         requires { Lies self.now.starts self.now.items n }
-        ensures { result ≡ rows_in self.now.starts self.now.items n }
+        ensures rows { result ≡ rows_in self.now.starts self.now.items n }
+        ensures few { length self.now.items ≤ max_entries }
     {
         Jagged::new(&self.starts, &self.items, n)
     }

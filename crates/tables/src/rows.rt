@@ -2,7 +2,7 @@
 ghost use Rattle.std.specs.Prelude.{◌≡◌, ◌+◌, ◌<◌, ◌≤◌, ◌^◌, max, length, get_or, take, eqb, MatchOption};
 ghost use Rattle.std.specs.List.{position, zip};
 ghost use Rattle.model.specs.Limits.{max_runs, max_starts};
-ghost use Rattle.tables.specs.Jagged.{Below};
+ghost use Rattle.tables.specs.Jagged.{rows_in, Lies, Below};
 ghost use Rattle.tables.specs.Lay.{join_of, raised, join_parent, join_all, Fine, FineAll, Safe, place_in, lay_of};
 ghost use Rattle.tables.specs.Laid.{chains_of, LaidOut};
 
@@ -86,6 +86,14 @@ impl ChainTables {
             places: [0; MAX_STARTS],
             lens: [0; MAX_STARTS],
         }
+    }
+
+    // The rows of n runs, in the row area.
+    pub fn rows<'a>(&'a self, area: &'a [u32], n: usize) -> Jagged<'a>
+        requires { Lies self.now.row_starts area.now n }
+        ensures { result ≡ rows_in self.now.row_starts area.now n }
+    {
+        Jagged::new(&self.row_starts, area, n)
     }
 
     // Run r put on chain k, its row ending at `used`.

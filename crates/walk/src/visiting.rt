@@ -36,10 +36,10 @@ impl Progress {
         ensures begun { Begun given.now self.new }
         ensures out { self.new.out ≡ self.old.out }
     {
+        let areas = given.areas;
         versions::start_version(
             &mut self.version,
-            given.table(1),
-            given.table(2),
+            &areas.chains,
             given.chains,
             given.known as usize,
         );

@@ -7,5 +7,5 @@ pub loop-r-preserved : goal.loop-r-preserved
 loop-r-preserved c =
     let a = c.args in
     let l = c.loop-r in
-    let within : l.r < length l.sizes = omega arith in
+    let within : l.r < length l.sizes = omega (arith, c.requires, c.len-r-end.ensures.value) in
     sized_next a.sums.before.now a.sums.begins.now a.rows.now l.sizes a.sums.chains l.r _ within l.invariant cc

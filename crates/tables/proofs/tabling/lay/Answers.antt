@@ -23,10 +23,10 @@ pub rows-own-requires : goal.rows-own-requires
 rows-own-requires c = lies_of _ _ c.args.n c.gather.ensures.sound
 
 pub lay-requires-clause-below : goal.lay-requires-clause-below
-lay-requires-clause-below c = rows-below _ _ c.args.n c.gather.ensures.sound c.rows-own.result c.rows-own.ensures
+lay-requires-clause-below c = rows-below _ _ c.args.n c.gather.ensures.sound c.rows-own.result c.rows-own.ensures.rows
 
 pub lay-requires-clause-row : goal.lay-requires-clause-row
-lay-requires-clause-row c = omega (arith, rows_size _ _ c.args.n c.gather.ensures.sound c.rows-own.result c.rows-own.ensures)
+lay-requires-clause-row c = omega (arith, rows_size _ _ c.args.n c.gather.ensures.sound c.rows-own.result c.rows-own.ensures.rows)
 
 pub returns : goal.returns
 returns c =
@@ -34,10 +34,10 @@ returns c =
     let s = c.gather.ensures.sound in
     let same : grouped c.gather.new.self.starts c.gather.new.self.items a.n ≡ shares a.heads.now a.parents.now a.a a.n =
     c.gather.ensures.grouped ∙ shares_same a.heads.now a.parents.now c.new-all.result a.a a.n (a.a + a.n) c.new-all.ensures (omega arith) in
-    let own : c.rows-own.result ≡ shares a.heads.now a.parents.now a.a a.n = rows_are _ _ a.n s c.rows-own.result c.rows-own.ensures ∙ same in
+    let own : c.rows-own.result ≡ shares a.heads.now a.parents.now a.a a.n = rows_are _ _ a.n s c.rows-own.result c.rows-own.ensures.rows ∙ same in
     let out = subst (λ (l : List (List ℕ)). LaidOut l (length l) a.area.now c.lay.result c.lay.new.rows c.lay.new.tables) own c.lay.ensures in
     record { range_laid = record {
-      out = subst (λ (k : ℕ). LaidOut (shares a.heads.now a.parents.now a.a a.n) k a.area.now c.lay.result c.lay.new.rows c.lay.new.tables) (sym (ap length own) ∙ rows_size _ _ a.n s c.rows-own.result c.rows-own.ensures) out;
+      out = subst (λ (k : ℕ). LaidOut (shares a.heads.now a.parents.now a.a a.n) k a.area.now c.lay.result c.lay.new.rows c.lay.new.tables) (sym (ap length own) ∙ rows_size _ _ a.n s c.rows-own.result c.rows-own.ensures.rows) out;
       groups_are = same;
       sound = s;
     } }

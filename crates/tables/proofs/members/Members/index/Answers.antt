@@ -26,6 +26,7 @@ returns c =
       begins = c.begins_of.ensures.0;
       begins_small = c.begins_of.ensures.1;
       members = λ m lt. get_or-take (a.n + 1) members _ 0 (omega (arith, spread.inside m lt)) ∙ (rw same at c.members_of.ensures.0) m lt;
+      members_long = omega (arith, length-take-le (a.n + 1) members (omega (arith, c.members_of.auto.members, c.requires.few)));
       members_small = bounded_cut a.n 511 members c.members_of.ensures.1;
       before = c.sums_of.ensures.0;
       before_small = c.sums_of.ensures.1;
