@@ -8,8 +8,11 @@ use Rattle.lists.specs.Areas.{over, part, group_starts}
 use Rattle.lists.proofs.Counts.{length_snoc}
 use Rattle.lists.proofs.Pads.{length_over}
 use Rattle.lists.proofs.Groups.{concat-append, length_group_starts, length_part}
-use Rattle.tables.specs.Gather.{Gathered, groups_in, put_parent, put_parents, end_group, put_group}
-use Rattle.tables.specs.Laid.{Sound, shares}
+use Rattle.model.specs.History.{at}
+use Rattle.tables.specs.Jagged.{rows_in}
+use Rattle.tables.specs.Gather.{Gathered, put_parent, put_parents}
+use Rattle.tables.specs.Laid.{shares, shares_of}
+use Rattle.tables.proofs.JaggedRows.{row_part, rows_more, rows-most}
 
 -- Those of a run's parents that lie in the range
 abbrev pub inside : ℕ → List ℕ → List ℕ
@@ -53,11 +56,7 @@ puts_count a s (p ∷ ps) =
     let h = puts_count a (put_parent a s p) ps in
     (omega (arith, h.0, q.0), omega (arith, h.1, q.1))
 
--- A word written after a list, and after the words of an area
-set-right : (xs ys : List ℕ) (k v : ℕ) → set (xs ++ ys) (length xs + k) v ≡ xs ++ set ys k v
-set-right [] ys k v = ap (λ (j : ℕ). set ys j v) (zero-add k)
-set-right (x ∷ xs) ys k v = ap (λ (j : ℕ). set (x ∷ (xs ++ ys)) j v) (suc-add (length xs) k) ∙ ap (λ (l : List ℕ). x ∷ l) (set-right xs ys k v)
-
+-- A word written after the words of an area
 over_add : (l area : List ℕ) (v : ℕ) → length l < length area → set (over l area) (length l) v ≡ over (l ++ v ∷ []) area
 unfolding over
 over_add l area v h =
@@ -65,31 +64,30 @@ over_add l area v h =
     (set-append_seam l (get_or area (length l) 0) (drop (suc (length l)) area) v ∙
     (sym (append_snoc l v (drop (suc (length l)) area)) ∙ ap (λ (k : ℕ). l ++ v ∷ [] ++ drop k area) (sym (length_snoc l v))))
 
--- Items in their area, after m starts
-abbrev held : ℕ → List ℕ → List ℕ → List ℕ → Gathered
-held m ss l area = (m + length l, ss ++ over l area)
+-- Items in their area: where the next one goes, and the area
+abbrev pub held : List ℕ → List ℕ → Gathered
+held l area = (length l, over l area)
 
-put-held : (a m : ℕ) (ss l area : List ℕ) (p : ℕ) → length ss ≡ m → length l < length area → put_parent a (held m ss l area) p ≡ held m ss (cond (leb a p) (l ++ (p - a) ∷ []) l) area
+put-held : (a : ℕ) (l area : List ℕ) (p : ℕ) → length l < length area → put_parent a (held l area) p ≡ held (cond (leb a p) (l ++ (p - a) ∷ []) l) area
 unfolding put_parent
-put-held a m ss l area p e room = go (leb a p)
+put-held a l area p room = go (leb a p)
   where
-    go : (t : Bool) → cond t (m + length l + 1, set (ss ++ over l area) (m + length l) (p - a)) (held m ss l area) ≡ held m ss (cond t (l ++ (p - a) ∷ []) l) area
+    go : (t : Bool) → cond t (length l + 1, set (over l area) (length l) (p - a)) (held l area) ≡ held (cond t (l ++ (p - a) ∷ []) l) area
     go true =
-        let q : m + length l + 1 ≡ m + length (l ++ (p - a) ∷ []) = omega (arith, length_snoc l (p - a)) in
-        ap₂ (λ (x : ℕ) (y : List ℕ). (x, y)) q
-        (ap (λ (k : ℕ). set (ss ++ over l area) (k + length l) (p - a)) (sym e) ∙ (set-right ss (over l area) (length l) (p - a) ∙ ap (λ (y : List ℕ). ss ++ y) (over_add l area (p - a) room)))
+        let q : length l + 1 ≡ length (l ++ (p - a) ∷ []) = omega (arith, length_snoc l (p - a)) in
+        ap₂ (λ (x : ℕ) (y : List ℕ). (x, y)) q (over_add l area (p - a) room)
     go false = refl
 
-puts_held : (a m : ℕ) (ss l area ps : List ℕ) → length ss ≡ m → length l + length ps ≤ length area → put_parents a (held m ss l area) ps ≡ held m ss (l ++ inside a ps) area
+puts_held : (a : ℕ) (l area ps : List ℕ) → length l + length ps ≤ length area → put_parents a (held l area) ps ≡ held (l ++ inside a ps) area
 unfolding put_parents filter
-puts_held a m ss l area [] e room = ap (λ (x : List ℕ). held m ss x area) (sym (append-nil l))
-puts_held a m ss l area (p ∷ ps) e room =
-    ap (λ (s : Gathered). put_parents a s ps) (put-held a m ss l area p e (omega arith)) ∙
-    go (leb a p) (puts_held a m ss (l ++ (p - a) ∷ []) area ps e (omega (arith, length_snoc l (p - a)))) (puts_held a m ss l area ps e (omega arith))
+puts_held a l area [] room = ap (λ (x : List ℕ). held x area) (sym (append-nil l))
+puts_held a l area (p ∷ ps) room =
+    ap (λ (s : Gathered). put_parents a s ps) (put-held a l area p (omega arith)) ∙
+    go (leb a p) (puts_held a (l ++ (p - a) ∷ []) area ps (omega (arith, length_snoc l (p - a)))) (puts_held a l area ps (omega arith))
   where
-    go : (t : Bool) → put_parents a (held m ss (l ++ (p - a) ∷ []) area) ps ≡ held m ss (l ++ (p - a) ∷ [] ++ inside a ps) area → put_parents a (held m ss l area) ps ≡ held m ss (l ++ inside a ps) area →
-        put_parents a (held m ss (cond t (l ++ (p - a) ∷ []) l) area) ps ≡ held m ss (l ++ map (λ p. p - a) (cond t (p ∷ filter (λ p. leb a p) ps) (filter (λ p. leb a p) ps))) area
-    go true x y = x ∙ ap (λ (z : List ℕ). held m ss z area) (append_assoc l ((p - a) ∷ []) (inside a ps))
+    go : (t : Bool) → put_parents a (held (l ++ (p - a) ∷ []) area) ps ≡ held (l ++ (p - a) ∷ [] ++ inside a ps) area → put_parents a (held l area) ps ≡ held (l ++ inside a ps) area →
+        put_parents a (held (cond t (l ++ (p - a) ∷ []) l) area) ps ≡ held (l ++ map (λ p. p - a) (cond t (p ∷ filter (λ p. leb a p) ps) (filter (λ p. leb a p) ps))) area
+    go true x y = x ∙ ap (λ (z : List ℕ). held z area) (append_assoc l ((p - a) ∷ []) (inside a ps))
     go false x y = y
 
 -- The starts of groups with one more at the end
@@ -113,33 +111,9 @@ starts-next pss x area h =
     ap (λ (l : List ℕ). over l area) (sym (starts_snoc 0 pss x ∙ ap (λ (k : ℕ). group_starts 0 pss ++ k ∷ []) (zero-add (length (concat pss ++ x))))))
 
 -- One group more
-module _ (a n : ℕ) (area : List ℕ) (pss : List (List ℕ)) (ps : List ℕ) (few : length pss < n) (room : n + 1 + length (concat pss) + length ps ≤ length area) where
-  abbrev gathered_items : List ℕ
-  gathered_items = concat pss ++ inside a ps
-
-  abbrev ss : List ℕ
-  ss = over (group_starts 0 pss) (take (n + 1) area)
-
-  room₂ : length (take (n + 1) area) ≡ n + 1
-  room₂ = length-take-le (n + 1) area (omega arith)
-
-  long : length ss ≡ n + 1
-  long = length_over (group_starts 0 pss) (take (n + 1) area) (omega (arith, length_group_starts 0 pss, room₂)) ∙ room₂
-
-  ended : end_group n (length pss) (held (n + 1) ss gathered_items (drop (n + 1) area)) ≡ held (n + 1) (over (group_starts 0 (pss ++ inside a ps ∷ [])) (take (n + 1) area)) gathered_items (drop (n + 1) area)
-  ended =
-      let rest : List ℕ = over gathered_items (drop (n + 1) area) in
-      let v : n + 1 + length gathered_items - (n + 1) ≡ length gathered_items = omega arith in
-      ap (λ (l : List ℕ). (n + 1 + length gathered_items, l))
-      (ap (λ (x : ℕ). set (ss ++ rest) (length pss + 1) x) v ∙
-      (set-append_left ss rest (length pss + 1) (length gathered_items) (omega (arith, long)) ∙
-      ap (λ (l : List ℕ). l ++ rest) (starts-next pss (inside a ps) (take (n + 1) area) (omega (arith, room₂)))))
-
-  group_added : put_group a n (length pss) (groups_in n pss area) ps ≡ groups_in n (pss ++ inside a ps ∷ []) area
-  unfolding put_group groups_in
-  group_added =
-      ap (end_group n (length pss)) (puts_held a (n + 1) ss (concat pss) (drop (n + 1) area) ps long (omega (arith, length-drop (n + 1) area))) ∙
-      (ended ∙ ap (λ (l : List ℕ). held (n + 1) (over (group_starts 0 (pss ++ inside a ps ∷ [])) (take (n + 1) area)) l (drop (n + 1) area)) (sym (concat_snoc pss (inside a ps))))
+group_added : (a : ℕ) (pss : List (List ℕ)) (ps area : List ℕ) → length (concat pss) + length ps ≤ length area →
+    put_parents a (held (concat pss) area) ps ≡ held (concat (pss ++ inside a ps ∷ [])) area
+group_added a pss ps area room = puts_held a (concat pss) area ps room ∙ ap (λ (l : List ℕ). held l area) (sym (concat_snoc pss (inside a ps)))
 
 -- As many groups as runs
 pub shares-length : (starts items : List ℕ) (a n : ℕ) → length (shares starts items a n) ≡ n
@@ -151,49 +125,60 @@ shares-next : (starts items : List ℕ) (a n : ℕ) → shares starts items a (s
 unfolding shares
 shares-next starts items a n = refl
 
--- Where the next item goes
-pub next_at : (n : ℕ) (pss : List (List ℕ)) (area : List ℕ) → (groups_in n pss area).0 ≡ n + 1 + length (concat pss)
-unfolding groups_in
-next_at n pss area = refl
+-- the same by all runs' parents
+pub shares-count : (all : List (List ℕ)) (a n : ℕ) → length (shares_of all a n) ≡ n
+unfolding shares_of
+shares-count all a zero = refl
+shares-count all a (suc n) = length_snoc (shares_of all a n) (inside a (at all (a + n))) ∙ ap suc (shares-count all a n)
 
-put_group_count : (a n j : ℕ) (s : Gathered) (ps : List ℕ) → (put_group a n j s ps).0 ≤ s.0 + length ps
-unfolding put_group
-put_group_count a n j s ps = (puts_count a s ps).1
+share_more : (all : List (List ℕ)) (a n : ℕ) → shares_of all a (suc n) ≡ shares_of all a n ++ inside a (at all (a + n)) ∷ []
+unfolding shares_of
+share_more all a n = refl
 
--- A turn of the loop over the runs: the groups so far, and that their items are no more than those of the graph
-module _ (heads parents : List ℕ) (a n : ℕ) (sound : Sound heads parents (a + n)) (area : List ℕ) (room : n + 1 + length parents ≤ length area) (j : ℕ) (lt : j < n) where
-  abbrev pub own : List ℕ
-  own = part (get_or heads (a + j) 0) (get_or heads (a + j + 1) 0) parents
+pub shares_same : (starts items : List ℕ) (all : List (List ℕ)) (a n m : ℕ) → all ≡ rows_in starts items m → a + n ≤ m → shares_of all a n ≡ shares starts items a n
+unfolding shares_of shares
+shares_same starts items all a zero m made le = refl
+shares_same starts items all a (suc n) m made le =
+    ap₂ (λ (l : List (List ℕ)) (ps : List ℕ). l ++ inside a ps ∷ []) (shares_same starts items all a n m made (omega arith))
+    (ap (λ (l : List (List ℕ)). at l (a + n)) made ∙ row_part starts items m (a + n) (omega arith))
 
-  own-long : get_or heads (a + j) 0 + length own ≡ get_or heads (a + j + 1) 0
-  own-long = length_part (get_or heads (a + j) 0) (get_or heads (a + j + 1) 0) parents (sound.inside (a + j) (omega arith)).0 (sound.inside (a + j) (omega arith)).1
-
-  pub turn_gather : (s : Gathered) → s ≡ groups_in n (shares heads parents a j) area → s.0 ≤ n + 1 + get_or heads (a + j) 0 →
-      (n < s.0) ×
-      (s.0 + length own ≤ length area) ×
-      (s.0 + length own ≤ n + 1 + get_or heads (a + j + 1) 0) ×
-      (put_group a n j s own ≡ groups_in n (shares heads parents a (j + 1)) area) ×
-      ((put_group a n j s own).0 ≤ n + 1 + get_or heads (a + (j + 1)) 0) ×
-      ((put_group a n j s own).0 ≤ length area)
-  turn_gather s e few =
-      let in-parents : get_or heads (a + j + 1) 0 ≤ length parents = (sound.inside (a + j) (omega arith)).1 in
-      let at-is : s.0 ≡ n + 1 + length (concat (shares heads parents a j)) = ap (λ (g : Gathered). g.0) e ∙ next_at n (shares heads parents a j) area in
-      let size : length (shares heads parents a j) ≡ j = shares-length heads parents a j in
-      let up : get_or heads (a + j + 1) 0 ≡ get_or heads (a + (j + 1)) 0 = ap (λ (k : ℕ). get_or heads k 0) (assoc a j) in
-      let more : (put_group a n j s own).0 ≤ s.0 + length own = put_group_count a n j s own in
-      let next : put_group a n j s own ≡ groups_in n (shares heads parents a (j + 1)) area =
-      ap (λ (g : Gathered). put_group a n j g own) e ∙
-      (ap (λ (k : ℕ). put_group a n k (groups_in n (shares heads parents a j) area) own) (sym size) ∙
-      (group_added a n area (shares heads parents a j) own (omega arith) (omega (arith, own-long)) ∙
-      ap (λ (l : List (List ℕ)). groups_in n l area) (sym (ap (shares heads parents a) (add-one j) ∙ shares-next heads parents a j)))) in
-      (omega arith, omega (arith, own-long), omega (arith, own-long), next, omega (arith, own-long), omega (arith, own-long))
-    where
-      assoc : (a j : ℕ) → a + j + 1 ≡ a + (j + 1)
-      assoc a j = omega arith
+-- The groups of j runs from run a on, made in areas that held s₀ and i₀, and where the next item goes
+pub record Gathers (all : List (List ℕ)) (a j : ℕ) (s₀ i₀ : List ℕ) (next : ℕ) (ss is : List ℕ) : Type 0 where
+  pub starts : ss ≡ over (group_starts 0 (shares_of all a j)) s₀
+  pub items : ◌≡◌ {A = Gathered} (next, is) (held (concat (shares_of all a j)) i₀)
+  pub low : next ≤ length (concat (take (a + j) all))
 
 -- No groups yet
-pub gather_none : (starts items : List ℕ) (a n : ℕ) (area : List ℕ) → n + 1 ≤ length area →
-    ◌≡◌ {A = Gathered} (n + 1, set area 0 0) (groups_in n (shares starts items a 0) (set area 0 0))
-unfolding shares groups_in concat group_starts over
-gather_none starts items a n [] h = absurd (omega arith)
-gather_none starts items a n (x ∷ xs) h = ap₂ (λ (k : ℕ) (l : List ℕ). (k, l)) (sym (add-zero (n + 1))) (rw (add-one n) (ap (λ (l : List ℕ). 0 ∷ l) (sym (take-append-drop n xs))))
+pub gathers_none : (all : List (List ℕ)) (a : ℕ) (s i : List ℕ) → 0 < length s → Gathers all a 0 (set s 0 0) i 0 (set s 0 0) i
+unfolding shares_of concat group_starts over
+gathers_none all a [] i h = absurd (omega arith)
+gathers_none all a (x ∷ xs) i h = record { starts = refl; items = refl; low = omega arith }
+
+-- A turn of the loop over the runs
+module _ (all : List (List ℕ)) (a j : ℕ) (lt : a + j < length all) (s₀ i₀ : List ℕ) (next : ℕ) (starts items : List ℕ) (G : Gathers all a j s₀ i₀ next starts items)
+    (fits : length (concat all) ≤ length i₀) (long : j + 1 < length s₀) where
+  abbrev ps : List ℕ
+  ps = at all (a + j)
+
+  -- there is room for the run's parents
+  pub turn_room : next + length ps ≤ length (concat all)
+  turn_room = omega (arith, G.low, rows_more all (a + j) lt, rows-most all (a + j + 1))
+
+  pub gathers_next : (next' : ℕ) (starts' items' : List ℕ) → ◌≡◌ {A = Gathered} (next', items') (put_parents a (next, items) ps) → starts' ≡ set starts (j + 1) next' →
+      Gathers all a (j + 1) s₀ i₀ next' starts' items'
+  gathers_next next' starts' items' put ended =
+      let pss : List (List ℕ) = shares_of all a j in
+      let size : length pss ≡ j = shares-count all a j in
+      let here : next ≡ length (concat pss) = ap (λ (s : Gathered). s.0) G.items in
+      let more : shares_of all a (j + 1) ≡ pss ++ inside a ps ∷ [] = ap (shares_of all a) (add-one j) ∙ share_more all a j in
+      let made : ◌≡◌ {A = Gathered} (next', items') (held (concat (pss ++ inside a ps ∷ [])) i₀) =
+      put ∙ (ap (λ (s : Gathered). put_parents a s ps) G.items ∙ group_added a pss ps i₀ (omega (arith, turn_room))) in
+      let end : next' ≡ length (concat pss ++ inside a ps) = ap (λ (s : Gathered). s.0) made ∙ ap length (concat_snoc pss (inside a ps)) in
+      let count : next' ≤ next + length ps = omega (arith, ap (λ (s : Gathered). s.0) put, (puts_count a (next, items) ps).1) in
+      let up : a + j + 1 ≡ a + (j + 1) = omega arith in
+      record {
+        starts = ended ∙ (ap₂ (λ (l : List ℕ) (k : ℕ). set l (k + 1) next') G.starts (sym size) ∙ (ap (λ (v : ℕ). set (over (group_starts 0 pss) s₀) (length pss + 1) v) end ∙
+            (starts-next pss (inside a ps) s₀ (omega (arith, size)) ∙ ap (λ (l : List (List ℕ)). over (group_starts 0 l) s₀) (sym more))));
+        items = made ∙ ap (λ (l : List (List ℕ)). held (concat l) i₀) (sym more);
+        low = omega (arith, count, G.low, rows_more all (a + j) lt, ap (λ (k : ℕ). length (concat (take k all))) up);
+      }

@@ -4,18 +4,18 @@ use lib.ListN.{get_or-eq_default}
 use Rattle.lists.specs.Lists.{sum, upto}
 use Rattle.lists.proofs.Truth.{lt_or_le, eq_or-not}
 use Rattle.model.specs.History.{at, histories}
-use Rattle.tables.specs.Lanes.{lane}
 use Rattle.tables.specs.Laid.{chs, chain_of, place_of, Chains, chains_of, Laid}
 use Rattle.tables.specs.Tables.{Listed, Sums, size_in}
 use Rattle.tables.specs.Indexed.{sum_below, Summed, Bounded, BoundedTo, pos, Indexable, IndexOf}
 use Rattle.tables.specs.declared.rows.Area.{Area}
+use Rattle.tables.specs.declared.rows.ChainTables.{ChainTables}
 use Rattle.tables.proofs.Chaining.{chs-few, chain-short, chain_under, place_at, member-chain}
 use Rattle.tables.proofs.Standing.{member-place, chain_in}
 use Rattle.tables.proofs.Summing.{sum_list, sum_up, sum_eq, ones_from, sum_ones, stretch_sum}
 use Rattle.tables.proofs.Differing.{chain-sum}
 
 -- What is bounded up to a place is so there cut
-bounded_cut : (n b : ℕ) (l : List ℕ) → BoundedTo n b l → Bounded b (take (n + 1) l)
+pub bounded_cut : (n b : ℕ) (l : List ℕ) → BoundedTo n b l → Bounded b (take (n + 1) l)
 bounded_cut n b l h k = go (lt_or_le k (n + 1))
   where
     go : (k < n + 1) ⊎ (n + 1 ≤ k) → get_or (take (n + 1) l) k 0 ≤ b
@@ -95,10 +95,10 @@ module _ (pss : List (List ℕ)) (st : Chains) (area area₀ : List ℕ) (L : La
         pos-at b I.begins x xl ∙ ap₂ ◌+◌ (ap base (member-chain H n c i il) ∙ sym (begins_at b I.begins c (omega arith))) (member-place H n c i il) in
         ap (λ (j : ℕ). get_or m j 0) (sym e) ∙ I.members x xl
 
-    chains-listed : length pss ≤ length m → Listed C b m
-    chains-listed le = record {
+    chains-listed : Listed C b m
+    chains-listed = record {
       member = member-at;
-      fits = λ c l. omega (arith, begins_fit c l);
+      fits = λ c l. omega (arith, begins_fit c l, I.members_long);
       small = λ i. omega (arith, I.members_small i);
       low = I.begins_small;
     }
@@ -118,8 +118,8 @@ module _ (pss : List (List ℕ)) (st : Chains) (area area₀ : List ℕ) (L : La
       small = bounded_cut n (2 ^ 41) e I.before_small;
     }
 
--- The same of the tables in their area
-module _ (pss : List (List ℕ)) (a : Area) (tables area area₀ : List ℕ) (L : Laid pss (length pss) (chains_of a (length pss + 1) tables) area area₀) (few : length pss ≤ 512) where
+-- The same of the tables' first words
+module _ (pss : List (List ℕ)) (a : Area) (tables : ChainTables) (area area₀ : List ℕ) (L : Laid pss (length pss) (chains_of a (length pss + 1) tables) area area₀) (few : length pss ≤ 512) where
   abbrev w : ℕ
   w = length pss + 1
 
@@ -127,15 +127,15 @@ module _ (pss : List (List ℕ)) (a : Area) (tables area area₀ : List ℕ) (L 
   chains = chs (histories pss) (length pss)
 
   -- what `index` needs
-  pub laid_indexable : Indexable (length pss) a.chains (lane 3 w tables) (lane 1 w tables) (lane 2 w tables)
+  pub laid_indexable : Indexable (length pss) a.chains (take w tables.lens) (take w tables.chains) (take w tables.places)
   unfolding chains_of
   laid_indexable = chains_indexable pss (chains_of a w tables) area area₀ L few
 
-  module _ (starts b m e : List ℕ) (I : IndexOf starts (length pss) a.chains (lane 3 w tables) (lane 1 w tables) (lane 2 w tables) b m e) where
+  module _ (starts b m e : List ℕ) (I : IndexOf starts (length pss) a.chains (take w tables.lens) (take w tables.chains) (take w tables.places) b m e) where
     -- what it leaves: the members
-    pub laid_listed : length pss ≤ length m → Listed chains b m
+    pub laid_listed : Listed chains b m
     unfolding chains_of
-    laid_listed le = chains-listed pss (chains_of a w tables) area area₀ L few starts b m e I le
+    laid_listed = chains-listed pss (chains_of a w tables) area area₀ L few starts b m e I
 
     -- the sums, in an area that is bounded
     pub laid_summed : Bounded (2 ^ 41) e → Sums chains (size_in starts) b e

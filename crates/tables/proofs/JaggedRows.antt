@@ -1,5 +1,5 @@
 -- Rows of words that lie one after another: how many there are, and each of them. Assumes nothing.
-use Rattle.std.proofs.Common.{◌≡◌, List, [], ◌∷◌, ℕ, zero, suc, ◌+◌, ◌-◌, ◌≤◌, ◌<◌, length, get_or, take, drop, sym, ap, ap₂, ◌∙◌, subst, arith, length-append}
+use Rattle.std.proofs.Common.{add-one, ◌≡◌, List, [], ◌∷◌, ℕ, zero, suc, ◌+◌, ◌-◌, ◌≤◌, ◌<◌, length, get_or, take, drop, sym, ap, ap₂, ◌∙◌, subst, arith, length-append}
 use Rattle.std.proofs.lemmas.List.FromFn.{length-map-range_with_len, get_or-map-range_with_len}
 use Rattle.std.proofs.lemmas.List.{ext_get_or, take_more}
 use Rattle.std.proofs.Math.Seq.{take_all}
@@ -69,6 +69,17 @@ items-most starts items n sound =
         let e : suc r ≡ r + 1 = omega arith in
         rw e (omega (arith, up r (omega arith), rows_more (grouped starts items n) r (omega (arith, size)), group_long starts items n r sound (omega arith)))
 
+nothing-long : (l : List (List ℕ)) → length l ≡ 0 → length (concat l) ≡ 0
+unfolding concat
+nothing-long [] e = omega arith
+nothing-long (x ∷ xs) e = absurd (omega arith)
+
+-- nor more than there are
+pub items-fit : (starts items : List ℕ) (n : ℕ) → Sound starts items n → length (concat (grouped starts items n)) ≤ length items
+items-fit starts items zero sound = omega (arith, nothing-long (grouped starts items 0) (groups-size starts items 0 sound.long))
+items-fit starts items (suc k) sound =
+    omega (arith, items-most starts items (suc k) sound, (sound.inside k (omega arith)).1, ap (λ (i : ℕ). get_or starts i 0) (add-one k))
+
 -- What rows are that are made of a range's parents
 module _ (heads items : List ℕ) (n : ℕ) (sound : Sound heads items n) (rows : List (List ℕ)) (made : rows ≡ rows_in heads items n) where
   pub rows_are : rows ≡ grouped heads items n
@@ -80,15 +91,9 @@ module _ (heads items : List ℕ) (n : ℕ) (sound : Sound heads items n) (rows 
   pub rows-below : Below rows
   rows-below = subst Below (sym rows_are) sound.below
 
-  pub rows-few : length (concat rows) ≤ get_or heads n 0
-  rows-few = omega (arith, ap (λ (l : List (List ℕ)). length (concat l)) rows_are, items-most heads items n sound)
+  pub rows-fit : length (concat rows) ≤ length items
+  rows-fit = omega (arith, ap (λ (l : List (List ℕ)). length (concat l)) rows_are, items-fit heads items n sound)
 
-  pub row_of_parents : (r : ℕ) → r < n → at rows r ≡ part (get_or heads r 0) (get_or heads (r + 1) 0) items
-  row_of_parents r lt = ap (λ (l : List (List ℕ)). at l r) made ∙ row_part heads items n r lt
-
-  -- and what holds of the one holds of the other
+  -- and what holds of the rows holds of the groups
   pub as_groups : (P : List (List ℕ) → ℕ → Type 0) → P rows (length rows) → P (grouped heads items n) n
   as_groups P h = subst (λ (k : ℕ). P (grouped heads items n) k) rows_size (subst (λ (l : List (List ℕ)). P l (length rows)) rows_are h)
-
-  pub as_rows : (P : List (List ℕ) → ℕ → Type 0) → P (grouped heads items n) n → P rows (length rows)
-  as_rows P h = subst (λ (k : ℕ). P rows k) (sym rows_size) (subst (λ (l : List (List ℕ)). P l n) (sym rows_are) h)

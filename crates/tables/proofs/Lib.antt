@@ -2,8 +2,6 @@
 -- Lists in one area
 pub mod JaggedRows
 pub mod Laning
-pub mod Scratch
-pub mod InPlace
 -- Chains and rows of a range
 pub mod Prefixes
 pub mod Chaining
@@ -14,7 +12,7 @@ pub mod Pasting
 pub mod Placing
 pub mod Fitted
 pub mod Outcome
-pub mod FirstLanes
+pub mod FirstWords
 pub mod LaidRun
 pub mod RowsIn
 -- The parents of a range
@@ -27,7 +25,6 @@ pub mod Summing
 pub mod ClosedSets
 pub mod Differing
 pub mod Indexing
-pub mod Storing
 pub mod Gapping
 pub mod Distances
 pub mod Reaching

@@ -13,10 +13,9 @@ use Rattle.model.specs.Graph.{Graph}
 use Rattle.model.specs.History.{at}
 use Rattle.model.specs.Range.{parents_in}
 use Rattle.model.proofs.Histories.{Below}
-use Rattle.tables.specs.Gather.{Gathered, groups_in}
-use Rattle.tables.specs.Laid.{grouped, shares, heads_in, items_in, Sound}
-use Rattle.tables.proofs.Placing.{grouped-at}
-use Rattle.tables.proofs.Gathering.{inside, shares-length, next_at}
+use Rattle.tables.specs.Gather.{Gathered}
+use Rattle.tables.specs.Laid.{grouped, shares, shares_of, Sound}
+use Rattle.tables.proofs.Gathering.{inside, shares-length, shares-count, Gathers}
 
 -- One run more of a range
 parents-next : (g : Graph) (a r : ℕ) → a ≤ r → r < length g.parents → parents_in g a (suc r) ≡ parents_in g a r ++ inside a (at g.parents r) ∷ []
@@ -59,34 +58,48 @@ shares_at starts items a (suc n) r lt = go (eq_or-not r n) (λ q. shares_at star
     go (inl e) rec = ap (λ (k : ℕ). get_or (shares starts items a n ++ share n ∷ []) k []) (e ∙ sym size) ∙ (get_or-append_seam (shares starts items a n) (share n) [] [] ∙ ap share (sym e))
     go (inr ne) rec = get_or-append (shares starts items a n) (share n ∷ []) [] r (omega (arith, size)) ∙ rec (omega arith)
 
--- there are no more
-past : (starts items : List ℕ) (a n r : ℕ) → n ≤ r → at (shares starts items a n) r ≡ []
+-- A share, by all runs' parents, and that there are no more
+share-is : (all : List (List ℕ)) (a n r : ℕ) → r < n → at (shares_of all a n) r ≡ inside a (at all (a + r))
+unfolding shares_of at
+share-is all a zero r lt = absurd (omega arith)
+share-is all a (suc n) r lt = go (eq_or-not r n) (λ q. share-is all a n r q)
+  where
+    share : ℕ → List ℕ
+    share k = inside a (get_or all (a + k) [])
+
+    size : length (shares_of all a n) ≡ n
+    size = shares-count all a n
+
+    go : (r ≡ n) ⊎ (r ≡ n → ⊥) → (r < n → get_or (shares_of all a n) r [] ≡ share r) → get_or (shares_of all a n ++ share n ∷ []) r [] ≡ share r
+    go (inl e) rec = ap (λ (k : ℕ). get_or (shares_of all a n ++ share n ∷ []) k []) (e ∙ sym size) ∙ (get_or-append_seam (shares_of all a n) (share n) [] [] ∙ ap share (sym e))
+    go (inr ne) rec = get_or-append (shares_of all a n) (share n ∷ []) [] r (omega (arith, size)) ∙ rec (omega arith)
+
+past : (all : List (List ℕ)) (a n r : ℕ) → n ≤ r → at (shares_of all a n) r ≡ []
 unfolding at
-past starts items a n r le = get_or-eq_default (shares starts items a n) [] (omega (arith, shares-length starts items a n))
+past all a n r le = get_or-eq_default (shares_of all a n) [] (omega (arith, shares-count all a n))
 
 nothing_in : (p : ℕ) (l : List ℕ) → l ≡ [] → mem p l ≡ false
 unfolding mem
 nothing_in p l e = ap (mem p) e
 
 -- Every parent of a share is below its run
-pub shares-below : (heads parents : List ℕ) (a n : ℕ) → Sound heads parents (a + n) → Below (shares heads parents a n)
-shares-below heads parents a n sound r p m = go (lt_or_le r n)
+shares-below : (all : List (List ℕ)) (a n : ℕ) → Below all → Below (shares_of all a n)
+shares-below all a n below r p m = go (lt_or_le r n)
   where
     run : List ℕ
-    run = part (get_or heads (a + r) 0) (get_or heads (a + r + 1) 0) parents
+    run = at all (a + r)
 
     low : r < n → (x : ℕ) × (mem x (filter (λ q. leb a q) run) ≡ true) × (p ≡ x - a) → p < r
     low lt t =
         let f = mem-filter (λ q. leb a q) t.0 run t.1 in
-        let k : mem t.0 (at (grouped heads parents (a + n)) (a + r)) ≡ true = ap (mem t.0) (grouped-at heads parents (a + n) (a + r) sound.long (omega arith)) ∙ f.0 in
-        omega (arith, sound.below (a + r) t.0 k, t.2, leb-true a t.0 f.1)
+        omega (arith, below (a + r) t.0 f.0, t.2, leb-true a t.0 f.1)
 
     go : (r < n) ⊎ (n ≤ r) → p < r
-    go (inl lt) = low lt (map-mem (λ q. q - a) p (filter (λ q. leb a q) run) (sym (ap (mem p) (shares_at heads parents a n r lt)) ∙ m))
+    go (inl lt) = low lt (map-mem (λ q. q - a) p (filter (λ q. leb a q) run) (sym (ap (mem p) (share-is all a n r lt)) ∙ m))
     go (inr le) = false_true (sym (none le) ∙ m)
       where
-        none : n ≤ r → mem p (at (shares heads parents a n) r) ≡ false
-        none le = nothing_in p (at (shares heads parents a n) r) (past heads parents a n r le)
+        none : n ≤ r → mem p (at (shares_of all a n) r) ≡ false
+        none le = nothing_in p (at (shares_of all a n) r) (past all a n r le)
 
 -- Groups come back from their areas
 groups-same : (ss items rest : List ℕ) → climbs (length items) ss ≡ true → groups ss (items ++ rest) ≡ groups ss items
@@ -100,61 +113,51 @@ groups-same (s ∷ t ∷ ts) items rest h =
     part_same : climbs (length items) (t ∷ ts) ≡ true → part s t (items ++ rest) ≡ part s t items
     part_same q = sym (part-take s t (length items) (items ++ rest) (climbs-low (length items) t ts q)) ∙ ap (part s t) (take-append_seam items rest)
 
--- What n groups leave in the area
-module _ (n : ℕ) (pss : List (List ℕ)) (area : List ℕ) (size : length pss ≡ n) (room : n + 1 + length (concat pss) ≤ length area) where
+-- What n groups leave in their areas
+module _ (n : ℕ) (pss : List (List ℕ)) (s₀ i₀ : List ℕ) (size : length pss ≡ n) where
+  abbrev ss : List ℕ
+  ss = over (group_starts 0 pss) s₀
+
+  abbrev is : List ℕ
+  is = over (concat pss) i₀
+
   starts_long : length (group_starts 0 pss) ≡ n + 1
   starts_long = omega (arith, length_group_starts 0 pss)
 
-  starts-whole : over (group_starts 0 pss) (take (n + 1) area) ≡ group_starts 0 pss
-  unfolding over
-  starts-whole =
-      ap (λ (l : List ℕ). group_starts 0 pss ++ l) (drop_of_length-le (take (n + 1) area) {i = length (group_starts 0 pss)} (omega (arith, starts_long, length-take-le (n + 1) area (omega arith)))) ∙
-      append-nil (group_starts 0 pss)
-
-  heads_back : heads_in n (groups_in n pss area).1 ≡ group_starts 0 pss
-  unfolding heads_in groups_in
-  heads_back =
-      ap (λ (l : List ℕ). take (n + 1) (l ++ over (concat pss) (drop (n + 1) area))) starts-whole ∙
-      take_at (group_starts 0 pss) (over (concat pss) (drop (n + 1) area)) (n + 1) starts_long
-
-  items_back : items_in n (groups_in n pss area).1 ≡ concat pss ++ drop (length (concat pss)) (drop (n + 1) area)
-  unfolding items_in groups_in over
-  items_back =
-      ap (λ (l : List ℕ). drop (n + 1) (l ++ over (concat pss) (drop (n + 1) area))) starts-whole ∙
-      drop_at (group_starts 0 pss) (over (concat pss) (drop (n + 1) area)) (n + 1) starts_long
-
   -- the groups come back
-  pub grouped_back : grouped (heads_in n (groups_in n pss area).1) (items_in n (groups_in n pss area).1) n ≡ pss
-  unfolding grouped
+  grouped_back : grouped ss is n ≡ pss
+  unfolding grouped over
   grouped_back =
-      let rest : List ℕ = drop (length (concat pss)) (drop (n + 1) area) in
-      ap₂ (λ (x y : List ℕ). groups (take (n + 1) x) y) heads_back items_back ∙
-      (ap (λ (x : List ℕ). groups x (concat pss ++ rest)) (take_all (n + 1) (group_starts 0 pss) (omega (arith, starts_long))) ∙
-      (groups-same (group_starts 0 pss) (concat pss) rest (climbs-whole pss) ∙ groups-concat pss))
+      let rest : List ℕ = drop (length (concat pss)) i₀ in
+      ap (λ (x : List ℕ). groups x (concat pss ++ rest)) (take_at (group_starts 0 pss) (drop (length (group_starts 0 pss)) s₀) (n + 1) starts_long) ∙
+      (groups-same (group_starts 0 pss) (concat pss) rest (climbs-whole pss) ∙ groups-concat pss)
+
+  here : (r : ℕ) → r ≤ n → get_or ss r 0 ≡ get_or (group_starts 0 pss) r 0
+  unfolding over
+  here r le = get_or-append (group_starts 0 pss) (drop (length (group_starts 0 pss)) s₀) 0 r (omega (arith, starts_long))
+
+  places : (r : ℕ) → r < n → (get_or ss r 0 ≤ get_or ss (r + 1) 0) × (get_or ss (r + 1) 0 ≤ length is)
+  unfolding over
+  places r lt =
+      let t = climbs-at (length (concat pss)) (group_starts 0 pss) (climbs-whole pss) r (omega (arith, starts_long)) in
+      let y : get_or ss (r + 1) 0 ≡ get_or (group_starts 0 pss) (suc r) 0 = here (r + 1) (omega arith) ∙ ap (λ (k : ℕ). get_or (group_starts 0 pss) k 0) (add-one r) in
+      (omega (arith, t.0, here r (omega arith), y), omega (arith, t.1, y, length-append (concat pss) (drop (length (concat pss)) i₀)))
 
   -- and are sound
-  pub groups-sound : n ≤ 512 → Below pss → Sound (heads_in n (groups_in n pss area).1) (items_in n (groups_in n pss area).1) n
+  groups-sound : n ≤ 512 → Below pss → Sound ss is n
   groups-sound few low = record {
     few = few;
-    long = omega (arith, ap length heads_back, starts_long);
+    long = unfold over in (omega (arith, starts_long, length-append (group_starts 0 pss) (drop (length (group_starts 0 pss)) s₀)));
     inside = places;
     below = subst Below (sym grouped_back) low;
   }
-    where
-      places : (r : ℕ) → r < n → (get_or (heads_in n (groups_in n pss area).1) r 0 ≤ get_or (heads_in n (groups_in n pss area).1) (r + 1) 0) × (get_or (heads_in n (groups_in n pss area).1) (r + 1) 0 ≤ length (items_in n (groups_in n pss area).1))
-      places r lt =
-          let t = climbs-at (length (concat pss)) (group_starts 0 pss) (climbs-whole pss) r (omega (arith, starts_long)) in
-          let x : get_or (heads_in n (groups_in n pss area).1) r 0 ≡ get_or (group_starts 0 pss) r 0 = ap (λ (l : List ℕ). get_or l r 0) heads_back in
-          let y : get_or (heads_in n (groups_in n pss area).1) (r + 1) 0 ≡ get_or (group_starts 0 pss) (suc r) 0 = ap (λ (l : List ℕ). get_or l (r + 1) 0) heads_back ∙ ap (λ (k : ℕ). get_or (group_starts 0 pss) k 0) (add-one r) in
-          (omega (arith, t.0, x, y), omega (arith, t.1, y, ap length items_back, length-append (concat pss) (drop (length (concat pss)) (drop (n + 1) area))))
 
 -- What is gathered for a range
-pub gathered : (heads parents : List ℕ) (a n j : ℕ) → j ≡ n → Sound heads parents (a + n) → (area : List ℕ) (s : Gathered) → s ≡ groups_in n (shares heads parents a j) area → s.0 ≤ length area →
-    (grouped (heads_in n s.1) (items_in n s.1) n ≡ shares heads parents a n) × Sound (heads_in n s.1) (items_in n s.1) n
-gathered heads parents a n j end sound area s was room =
-    let e : s ≡ groups_in n (shares heads parents a n) area = was ∙ ap (λ (k : ℕ). groups_in n (shares heads parents a k) area) end in
-    let pss : List (List ℕ) = shares heads parents a n in
-    let size : length pss ≡ n = shares-length heads parents a n in
-    let fits : n + 1 + length (concat pss) ≤ length area = omega (arith, ap (λ (g : Gathered). g.0) e, next_at n pss area) in
-    subst (λ (g : Gathered). (grouped (heads_in n g.1) (items_in n g.1) n ≡ pss) × Sound (heads_in n g.1) (items_in n g.1) n) (sym e)
-    (grouped_back n pss area size fits, groups-sound n pss area size fits (omega (arith, sound.few)) (shares-below heads parents a n sound))
+pub gathered : (all : List (List ℕ)) (a n j : ℕ) → j ≡ n → n ≤ 512 → Below all → (s₀ i₀ : List ℕ) (next : ℕ) (starts items : List ℕ) → Gathers all a j s₀ i₀ next starts items →
+    (grouped starts items n ≡ shares_of all a n) × Sound starts items n
+gathered all a n j end few below s₀ i₀ next starts items G =
+    let pss : List (List ℕ) = shares_of all a n in
+    let size : length pss ≡ n = shares-count all a n in
+    let x : starts ≡ over (group_starts 0 pss) s₀ = G.starts ∙ ap (λ (k : ℕ). over (group_starts 0 (shares_of all a k)) s₀) end in
+    let y : items ≡ over (concat pss) i₀ = ap (λ (g : Gathered). g.1) G.items ∙ ap (λ (k : ℕ). over (concat (shares_of all a k)) i₀) end in
+    rw (x, y) (grouped_back n pss s₀ i₀ size, groups-sound n pss s₀ i₀ size few (shares-below all a n below))

@@ -1,7 +1,10 @@
 -- Turns of the loops that make a run's row, and of a run that is laid. Assumes nothing.
 use Rattle.std.proofs.Common.{◌≡◌, refl, sym, ap, ap₂, ◌∙◌, true, false, List, [], ◌∷◌, ◌++◌, ℕ, zero, suc, ◌+◌, ◌-◌, ◌≤◌, ◌<◌, max, add-one, arith, length, get_or, take, drop, set}
 use Rattle.std.proofs.Common.{drop_of_length-le, take-append-drop, drop-cons, take-suc-set, drop-set-lt, ltb, lt-ltb, le-ltb, eq-eqb, ne_eqb}
-use Rattle.std.specs.Prelude.{Some, None}
+use Rattle.std.proofs.Common.{Bool, cond, eqb, get_or-take, length-take-le}
+use Rattle.std.specs.Prelude.{Option, Some, None, unwrap_or}
+use Rattle.std.specs.List.{position, position_from, zip}
+use Rattle.std.proofs.lemmas.Iterator.Adapters.{position_from-zero}
 use lib.Seq.{paste, append_snoc}
 use Rattle.model.specs.Range.{row}
 use Rattle.tables.specs.Laid.{Chains}
@@ -58,20 +61,50 @@ pub join_all-none : (area starts chain place row ps : List ℕ) (i : ℕ) → le
 unfolding join_all
 join_all-none area starts chain place row ps i h = rw (drop_of_length-le ps h)
 
--- The search for a chain, from c on
-pub spot-next : (row lens : List ℕ) (c n : ℕ) → c < n → (get_or row c 0 ≡ get_or lens c 0 → ⊥) → spot_from row lens (c + 1) (n - (c + 1)) ≡ spot_from row lens c (n - c)
+-- The search for a chain, from c on, by the places that are compared
+spot_zip : (xs ys row lens : List ℕ) (c k : ℕ) → ((i : ℕ) → i < k → get_or xs i 0 ≡ get_or row (c + i) 0) → ((i : ℕ) → i < k → get_or ys i 0 ≡ get_or lens (c + i) 0) →
+    length xs ≡ k → length ys ≡ k → unwrap_or (position_from (λ p. eqb p.0 p.1) c (zip xs ys)) (c + k) ≡ spot_from row lens c k
 unfolding spot_from
-spot-next row lens c n h ne = let e : n - c ≡ suc (n - (c + 1)) = omega arith in rw (e, ne_eqb (get_or row c 0) (get_or lens c 0) ne)
+spot_zip [] ys row lens c zero f g p q = omega arith
+spot_zip (x ∷ xs) ys row lens c zero f g p q = absurd (omega arith)
+spot_zip [] ys row lens c (suc k) f g p q = absurd (omega arith)
+spot_zip (x ∷ xs) [] row lens c (suc k) f g p q = absurd (omega arith)
+spot_zip (x ∷ xs) (y ∷ ys) row lens c (suc k) f g p q =
+    rw (sym (f 0 (omega arith) ∙ at-c row), sym (g 0 (omega arith) ∙ at-c lens))
+    (go (eqb x y) (spot_zip xs ys row lens (c + 1) k (λ i lt. f (suc i) (omega arith) ∙ shift row i) (λ i lt. g (suc i) (omega arith) ∙ shift lens i) (omega arith) (omega arith)))
+  where
+    at-c : (l : List ℕ) → get_or l (c + 0) 0 ≡ get_or l c 0
+    at-c l = ap (λ (j : ℕ). get_or l j 0) (omega arith)
 
--- it is found
-pub spot_found : (row lens : List ℕ) (c n : ℕ) → c < n → get_or row c 0 ≡ get_or lens c 0 → spot_from row lens c (n - c) ≡ c
-unfolding spot_from
-spot_found row lens c n h e = let q : n - c ≡ suc (n - (c + 1)) = omega arith in rw (q, eq-eqb (get_or row c 0) (get_or lens c 0) e)
+    shift : (l : List ℕ) (i : ℕ) → get_or l (c + suc i) 0 ≡ get_or l (c + 1 + i) 0
+    shift l i = ap (λ (j : ℕ). get_or l j 0) (omega arith)
 
--- there is none
-pub spot-none : (row lens : List ℕ) (c n : ℕ) → c ≡ n → spot_from row lens c (n - c) ≡ n
+    go : (t : Bool) → unwrap_or (position_from (λ p. eqb p.0 p.1) (c + 1) (zip xs ys)) (c + 1 + k) ≡ spot_from row lens (c + 1) k →
+        unwrap_or (cond t (Some c) (position_from (λ p. eqb p.0 p.1) (c + 1) (zip xs ys))) (c + suc k) ≡ cond t c (spot_from row lens (c + 1) k)
+    go true e = refl
+    go false e = ap (unwrap_or (position_from (λ p. eqb p.0 p.1) (c + 1) (zip xs ys))) (omega arith) ∙ e
+
+spot_most : (row lens : List ℕ) (c k : ℕ) → spot_from row lens c k ≤ c + k
 unfolding spot_from
-spot-none row lens c n h = let e : n - c ≡ 0 = omega arith in rw e h
+spot_most row lens c zero = omega arith
+spot_most row lens c (suc k) = go (eqb (get_or row c 0) (get_or lens c 0)) (spot_most row lens (c + 1) k)
+  where
+    go : (t : Bool) → spot_from row lens (c + 1) k ≤ c + 1 + k → cond t c (spot_from row lens (c + 1) k) ≤ c + suc k
+    go true h = omega arith
+    go false h = omega arith
+
+-- so from the first on
+pub spot_found : (row lens : List ℕ) (n k : ℕ) (o : Option ℕ) → n ≤ length row → n ≤ length lens → o ≡ position (λ p. eqb p.0 p.1) (zip (take n row) (take n lens)) → k ≡ unwrap_or o n →
+    (k ≡ spot_from row lens 0 n) × (k ≤ n)
+spot_found row lens n k o p q e f = (found, omega (arith, found, spot_most row lens 0 n))
+  where
+    found : k ≡ spot_from row lens 0 n
+    found =
+        f ∙ ap (λ (x : Option ℕ). unwrap_or x n) (e ∙ position_from-zero (λ p. eqb p.0 p.1) (zip (take n row) (take n lens))) ∙
+        (ap (unwrap_or (position_from (λ p. eqb p.0 p.1) 0 (zip (take n row) (take n lens)))) (omega arith) ∙
+        spot_zip (take n row) (take n lens) row lens 0 n
+        (λ i lt. get_or-take n row i 0 lt ∙ ap (λ (j : ℕ). get_or row j 0) (omega arith)) (λ i lt. get_or-take n lens i 0 lt ∙ ap (λ (j : ℕ). get_or lens j 0) (omega arith))
+        (length-take-le n row p) (length-take-le n lens q))
 
 -- A run that does not fit, and one that does
 pub lay_stop : (w : Laying) (r : ℕ) (ps row : List ℕ) (k width : ℕ) → row ≡ row_of w ps → k ≡ spot_from row w.0.lens 0 w.0.count → width ≡ max w.0.count (k + 1) →

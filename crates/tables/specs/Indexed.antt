@@ -1,5 +1,5 @@
 -- What the code that lists chains' members and sums their events finds and leaves. Assumes nothing.
-use Rattle.std.specs.Prelude.{◌≡◌, List, ℕ, zero, suc, ◌+◌, ◌≤◌, ◌<◌, ◌^◌, get_or}
+use Rattle.std.specs.Prelude.{◌≡◌, List, ℕ, zero, suc, ◌+◌, ◌≤◌, ◌<◌, ◌^◌, length, get_or}
 use Rattle.model.specs.Limits.{max_runs}
 use Rattle.tables.specs.Tables.{size_in}
 
@@ -45,6 +45,7 @@ pub record IndexOf (starts : List ℕ) (n chains : ℕ) (lens chain place b m e 
   pub begins : Summed (λ i. get_or lens i 0) chains b
   pub begins_small : Bounded (2 ^ 18) b
   pub members : Placed (pos b chain place) n m
+  pub members_long : n ≤ length m
   pub members_small : Bounded 511 m
   pub before : Summed (λ i. size_in starts (get_or m i 0)) n e
   pub before_small : BoundedTo n (2 ^ 41) e

@@ -5,8 +5,9 @@ use Rattle.lists.specs.Areas.{over, fitting, groups, part}
 use Rattle.model.specs.Limits.{max_runs}
 use Rattle.model.specs.History.{at, histories}
 use Rattle.model.specs.Range.{join, row, rows_from}
-use Rattle.tables.specs.Lanes.{lane}
 use Rattle.tables.specs.declared.rows.Area.{Area}
+use Rattle.tables.specs.declared.rows.ChainTables.{ChainTables}
+use Rattle.tables.specs.declared.groups.Groups.{Groups}
 
 -- The first chain whose runs are all in h, or the number of chains
 unfoldable pub spot : List ℕ → List (List ℕ) → ℕ
@@ -50,12 +51,10 @@ shares starts items a zero = []
 shares starts items a (suc n) =
     shares starts items a n ++ map (λ p. p - a) (filter (λ p. leb a p) (part (get_or starts (a + n) 0) (get_or starts (a + n + 1) 0) items)) ∷ []
 
--- A range's groups in one area: n + 1 starts, then the items
-unfoldable pub heads_in : ℕ → List ℕ → List ℕ
-heads_in n area = take (n + 1) area
-
-unfoldable pub items_in : ℕ → List ℕ → List ℕ
-items_in n area = drop (n + 1) area
+-- the same, by all runs' parents
+unfoldable pub shares_of : List (List ℕ) → ℕ → ℕ → List (List ℕ)
+shares_of all a zero = []
+shares_of all a (suc n) = shares_of all a n ++ map (λ p. p - a) (filter (λ p. leb a p) (at all (a + n))) ∷ []
 
 -- The chains so far as tables: where each run's row starts, each run's chain and place, each chain's length; how many chains there are,
 -- and how much of the row area is used
@@ -67,13 +66,13 @@ pub record Chains : Type 0 where
   pub count : ℕ
   pub used : ℕ
 
--- so they stand in the first four lists of w words
-unfoldable pub chains_of : Area → ℕ → List ℕ → Chains
+-- so the first w words of each table say
+unfoldable pub chains_of : Area → ℕ → ChainTables → Chains
 chains_of a w tables = record {
-  starts = lane 0 w tables;
-  chain = lane 1 w tables;
-  place = lane 2 w tables;
-  lens = lane 3 w tables;
+  starts = take w tables.row_starts;
+  chain = take w tables.chains;
+  place = take w tables.places;
+  lens = take w tables.lens;
   count = a.chains;
   used = a.used;
 }
@@ -91,13 +90,13 @@ pub record Laid (pss : List (List ℕ)) (r : ℕ) (st : Chains) (area area₀ : 
   pub written : area ≡ over (flat (histories pss) r) area₀
 
 -- What laying the rows of n runs gives, whose groups of parents are pss: the rows that fit, and the tables where all do
-pub record LaidOut (pss : List (List ℕ)) (n : ℕ) (area₀ : List ℕ) (r : Option Area) (area tables : List ℕ) : Type 0 where
+pub record LaidOut (pss : List (List ℕ)) (n : ℕ) (area₀ : List ℕ) (r : Option Area) (area : List ℕ) (tables : ChainTables) : Type 0 where
   pub area_is : area ≡ over (concat (fitting (length area₀) (rows_from 0 [] (histories pss)))) area₀
   pub told : MatchOption r (length area₀ < length (concat (rows_from 0 [] (histories pss))))
       (λ a. (length (concat (rows_from 0 [] (histories pss))) ≤ length area₀) × Laid pss n (chains_of a (n + 1) tables) area area₀)
 
 -- What a range's parents and rows leave: the parents are pss
-pub record RangeLaid (pss : List (List ℕ)) (n : ℕ) (area₀ : List ℕ) (r : Option Area) (area groups tables : List ℕ) : Type 0 where
+pub record RangeLaid (pss : List (List ℕ)) (n : ℕ) (area₀ : List ℕ) (r : Option Area) (area : List ℕ) (groups : Groups) (tables : ChainTables) : Type 0 where
   pub out : LaidOut pss n area₀ r area tables
-  pub groups_are : grouped (heads_in n groups) (items_in n groups) n ≡ pss
-  pub sound : Sound (heads_in n groups) (items_in n groups) n
+  pub groups_are : grouped groups.starts groups.items n ≡ pss
+  pub sound : Sound groups.starts groups.items n

@@ -4,6 +4,7 @@ use Rattle.std.proofs.Math.Seq.{paste}
 use Rattle.lists.specs.Areas.{part}
 use Rattle.model.specs.Limits.{max_runs, max_starts}
 use Rattle.tables.specs.Laid.{Chains}
+use Rattle.tables.specs.declared.rows.ChainTables.{ChainTables}
 
 -- Elementwise the larger; past the end of the second, the first's own
 unfoldable pub join_of : List ℕ → List ℕ → List ℕ
@@ -56,10 +57,14 @@ placed_of s r k used width = record {
   used = used;
 }
 
--- the same in the tables' own area, of lists of w words
-unfoldable pub place_in : List ℕ → ℕ → ℕ → ℕ → ℕ → List ℕ
-place_in tables w r k used =
-    set (set (set (set tables (r + 1) used) (w + r) k) (2 * w + r) (get_or tables (3 * w + k) 0)) (3 * w + k) (get_or tables (3 * w + k) 0 + 1)
+-- the same in the tables
+unfoldable pub place_in : ChainTables → ℕ → ℕ → ℕ → ChainTables
+place_in t r k used = record {
+  row_starts = set t.row_starts (r + 1) used;
+  chains = set t.chains r k;
+  places = set t.places r (get_or t.lens k 0);
+  lens = set t.lens k (get_or t.lens k 0 + 1);
+}
 
 -- The tables and the row area
 abbrev pub Laying : Type 0

@@ -1,6 +1,7 @@
 -- The events of one version, a distance counted up to a limit, and the sizes of the runs' histories. Assumes nothing.
 use Rattle.std.specs.Prelude.{◌≡◌, ◌⊎◌, List, ℕ, zero, suc, ◌+◌, ◌-◌, ◌≤◌, ◌<◌, length, get_or}
 use Rattle.lists.specs.Areas.{part}
+use Rattle.model.specs.History.{at}
 
 -- A list of numbers at most b
 abbrev pub Bounded : ℕ → List ℕ → Type 0
@@ -23,10 +24,6 @@ events_from b s row c (suc k) = share_at b s row c + events_from b s row (c + 1)
 abbrev pub row_in : List ℕ → List ℕ → ℕ → List ℕ
 row_in starts rows r = part (get_or starts r 0) (get_or starts (r + 1) 0) rows
 
--- The rows of n runs lie in the area
-abbrev pub Inside : List ℕ → List ℕ → ℕ → Type 0
-Inside starts rows n = (r : ℕ) → r < n → (get_or starts r 0 ≤ get_or starts (r + 1) 0) × (get_or starts (r + 1) 0 ≤ length rows)
-
--- The events of each of n runs' histories
-abbrev pub Sized : List ℕ → List ℕ → List ℕ → List ℕ → ℕ → ℕ → List ℕ → Type 0
-Sized before begins starts rows chains n sizes = (r : ℕ) → r < n → get_or sizes r 0 ≡ events_from before begins (row_in starts rows r) 0 chains
+-- The events of each of n runs' histories, by their rows
+abbrev pub Sized : List ℕ → List ℕ → List (List ℕ) → ℕ → ℕ → List ℕ → Type 0
+Sized before begins rows chains n sizes = (r : ℕ) → r < n → get_or sizes r 0 ≡ events_from before begins (at rows r) 0 chains

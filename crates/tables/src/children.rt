@@ -3,7 +3,6 @@ ghost use Rattle.std.specs.Prelude.{◌≡◌, ℕ, ◌+◌, ◌-◌, ◌<◌, �
 ghost use Rattle.model.specs.Limits.{max_runs, max_starts};
 ghost use Rattle.lists.specs.Lists.{concat};
 ghost use Rattle.tables.specs.Jagged.{Below};
-ghost use Rattle.tables.specs.Laid.{grouped, Sound};
 ghost use Rattle.tables.specs.Indexed.{Summed};
 ghost use Rattle.tables.specs.Counted.{tally, Counted, Countable, Placeable, Kids, put_all};
 
@@ -42,8 +41,7 @@ fn sum_up(starts: &mut [u32])
     requires few { length starts.old ≤ max_starts }
     requires first { get_or starts.old 0 0 ≡ 0 }
     requires small { (k : ℕ) → get_or starts.old k 0 ≤ 2 ^ 20 }
-    ensures summed { Summed (λ i. get_or starts.old (i + 1) 0) (length starts.old - 1) starts.new }
-    ensures len_unchanged { length starts.new ≡ length starts.old }
+    ensures { Summed (λ i. get_or starts.old (i + 1) 0) (length starts.old - 1) starts.new }
 {
     let mut sum = 0;
     for s in starts.iter_mut() {
@@ -53,12 +51,14 @@ fn sum_up(starts: &mut [u32])
 }
 
 // Where each run's children begin.
-pub fn starts_of<'a>(starts: &mut [u32], heads: &'a [u32], items: &'a [u32], n: usize)
-    requires { Sound heads.now items.now n × (length starts.old ≡ n + 1) × (get_or heads.now n 0 ≤ 2 ^ 20) }
-    ensures { Summed (λ r. tally (grouped heads.now items.now n) r n) n starts.new × (length starts.new ≡ length starts.old) }
+pub fn starts_of(starts: &mut [u32], parents: &Jagged)
+    requires short { length starts.old ≤ max_starts }
+    requires sized { length starts.old ≡ length parents.now + 1 }
+    requires below { Below parents.now }
+    requires few { length (concat parents.now) ≤ 2 ^ 20 }
+    ensures { Summed (λ r. tally parents.now r (length parents.now)) (length parents.now) starts.new }
 {
-    let parents = Jagged::new(heads, items, n);
-    count_all(starts, &parents);
+    count_all(starts, parents);
     sum_up(starts);
 }
 
@@ -77,7 +77,7 @@ fn put_child(children: &mut [u32], next: &mut [u32], ps: &[u32], r: usize)
 }
 
 // Each run's children, in run order; `next` begins as where they start.
-fn place_all(children: &mut [u32], next: &mut [u32], parents: &Jagged)
+pub fn children_of(children: &mut [u32], next: &mut [u32], parents: &Jagged)
     requires sized { length next.old ≡ length parents.now + 1 }
     requires below { Below parents.now }
     requires room { length (concat parents.now) ≤ length children.old }
@@ -88,21 +88,4 @@ fn place_all(children: &mut [u32], next: &mut [u32], parents: &Jagged)
     for r in 0..parents.len() {
         put_child(children, next, parents.row(r), r);
     }
-}
-
-// So of n runs whose parents begin at `heads` in `items`.
-pub fn children_of<'a>(
-    children: &mut [u32],
-    next: &mut [u32],
-    heads: &'a [u32],
-    items: &'a [u32],
-    n: usize,
-)
-    requires sound { Sound heads.now items.now n × (length next.old ≡ n + 1) × (get_or heads.now n 0 ≤ length children.old) × (length children.old ≤ 2 ^ 20) }
-    requires summed { Summed (λ r. tally (grouped heads.now items.now n) r n) n next.old }
-    ensures kids { Kids (grouped heads.now items.now n) n children.new }
-    ensures children_len_unchanged { (length children.new ≡ length children.old) × (length next.new ≡ length next.old) }
-{
-    let parents = Jagged::new(heads, items, n);
-    place_all(children, next, &parents);
 }

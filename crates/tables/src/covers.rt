@@ -5,7 +5,7 @@ ghost use Rattle.model.specs.Limits.{cover_bits, max_runs};
 ghost use Rattle.model.specs.Cover.{per_bit, either};
 ghost use Rattle.tables.specs.Covers.{word_bits, cover_words, bits_in, cover_at, range_bits, join_of, offset, Inside, Covered, Weighable, Weighted};
 
-use crate::jagged::Jagged;
+use crate::groups::Groups;
 use crate::words::item;
 use model::COVER_BITS;
 
@@ -95,19 +95,18 @@ fn weigh_run(covers: &mut [CoverWord], low: usize, high: usize, r: usize, childr
 }
 
 // The weights of n runs, the last first.
-pub fn weights_of<'a>(
+pub fn weights_of(
     weights: &mut [u32],
     covers: &mut [CoverWord],
     starts: &[u32],
-    begins: &'a [u32],
-    children: &'a [u32],
+    children: &Groups,
     n: usize,
 )
-    requires { (n ≤ length weights.old) × (n * cover_words ≤ length covers.old) × Weighable starts.now begins.now children.now n }
-    ensures { Weighted starts.now begins.now children.now n weights.new }
+    requires { (n ≤ length weights.old) × (n * cover_words ≤ length covers.old) × Weighable starts.now children.now.starts children.now.items n }
+    ensures { Weighted starts.now children.now.starts children.now.items n weights.new }
 {
     let per = per_bit(offset_of(starts, n));
-    let kids = Jagged::new(begins, children, n);
+    let kids = children.rows(n);
     for r in (0..n).rev() {
         let low = offset_of(starts, r) / per;
         let high = offset_of(starts, r + 1).div_ceil(per);

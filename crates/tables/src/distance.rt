@@ -2,8 +2,9 @@
 ghost use Rattle.std.specs.Prelude.{◌≡◌, ◌+◌, ◌-◌, ◌≤◌, ◌^◌, length, get_or};
 ghost use Rattle.model.specs.Limits.{max_runs};
 ghost use Rattle.tables.specs.Gaps.{gap_at, gaps_from};
-ghost use Rattle.tables.specs.Sizes.{Bounded, Within, share_at, events_from, Inside, Sized};
+ghost use Rattle.tables.specs.Sizes.{Bounded, Within, share_at, events_from, Sized};
 
+use crate::jagged::Jagged;
 use crate::words::item;
 
 // The events of the chains' members: prefix sums of them, where each chain's members begin, and how many chains there are.
@@ -73,14 +74,12 @@ impl<'a> Sums<'a> {
     }
 }
 
-// The events of each run's history; run r's row begins at the r-th of `starts`.
-pub fn sizes_of<'a>(sizes: &mut [u64], sums: Sums, starts: &'a [u32], rows: &[u32])
-    requires { Inside starts.now rows.now (length sizes.old) }
-    ensures { Sized sums.entry.before.now sums.entry.begins.now starts.now rows.now sums.entry.chains (length sizes.old) sizes.new }
+// The events of each run's history, by the runs' rows.
+pub fn sizes_of(sizes: &mut [u64], sums: Sums, rows: &Jagged)
+    requires { length rows.now ≤ length sizes.old }
+    ensures { Sized sums.entry.before.now sums.entry.begins.now rows.now sums.entry.chains (length rows.now) sizes.new }
 {
-    for (r, size) in sizes.iter_mut().enumerate() {
-        let s = item(starts, r, 0) as usize;
-        let e = item(starts, r + 1, 0) as usize;
-        *size = sums.events_of(&rows[s..e]);
+    for r in 0..rows.len() {
+        sizes[r] = sums.events_of(rows.row(r));
     }
 }

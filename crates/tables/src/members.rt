@@ -1,16 +1,26 @@
 // Each chain's members one after another, and prefix sums of their events.
-ghost use Rattle.std.specs.Prelude.{◌≡◌, ◌+◌, ◌≤◌, ◌<◌, ◌^◌, length, get_or};
+ghost use Rattle.std.specs.Prelude.{◌≡◌, ◌+◌, ◌≤◌, ◌<◌, ◌^◌, length, get_or, take};
 ghost use Rattle.model.specs.Limits.{max_runs};
 ghost use Rattle.tables.specs.Tables.{size_in};
-ghost use Rattle.tables.specs.Indexed.{Summed, Bounded, BoundedTo, Placed, pos, Scattered};
+ghost use Rattle.tables.specs.Indexed.{Summed, Bounded, BoundedTo, Placed, pos, Scattered, Indexable, IndexOf};
 
+use crate::distance::Sums;
+use crate::rows::ChainTables;
 use crate::words::item;
+use model::MAX_STARTS;
+
+// Of a range's chains, one after another: where each one's members begin, the members, and the events of the members before each.
+#[derive(Drop)]
+pub struct Members {
+    pub starts: [u32; MAX_STARTS],
+    pub runs: [u32; MAX_STARTS],
+    pub before: [u64; MAX_STARTS],
+}
 
 // Where the members of each of n chains begin.
-pub fn begins_of(begins: &mut [u32], lens: &[u32], n: usize)
+fn begins_of(begins: &mut [u32], lens: &[u32], n: usize)
     requires { (n ≤ max_runs) × (n < length begins.old) × Bounded max_runs lens.now }
-    ensures { Summed (λ i. get_or lens.now i 0) n begins.new × Bounded (2 ^ 18) begins.new ×
-        (length begins.new ≡ length begins.old) }
+    ensures { Summed (λ i. get_or lens.now i 0) n begins.new × Bounded (2 ^ 18) begins.new }
 {
     begins.fill(0);
     for c in 0..n {
@@ -27,18 +37,17 @@ fn position<'a>(begins: &'a [u32], chain: &'a [u32], place: &'a [u32], m: usize)
 }
 
 // Each chain's members, in order.
-pub fn members_of<'a>(
+fn members_of<'a>(
     members: &mut [u32],
     begins: &'a [u32],
     chain: &'a [u32],
     place: &'a [u32],
     n: usize,
 )
-    requires { (n ≤ max_runs) × (n ≤ length members.old) × Scattered begins.now chain.now place.now n }
-    ensures { Placed (pos begins.now chain.now place.now) n members.new × Bounded 511 members.new ×
-        (length members.new ≡ length members.old) }
+    requires { (n ≤ max_runs) × (n < length members.old) × Scattered begins.now chain.now place.now n }
+    ensures { Placed (pos begins.now chain.now place.now) n members.new × BoundedTo n 511 members.new }
 {
-    members.fill(0);
+    members[..n + 1].fill(0);
     for m in 0..n {
         let at = position(begins, chain, place, m);
         members[at] = m as u32;
@@ -54,13 +63,52 @@ pub fn size_of(starts: &[u32], m: usize) -> u32
 }
 
 // The events of the first members.
-pub fn sums_of(before: &mut [u64], members: &[u32], starts: &[u32], n: usize)
+fn sums_of(before: &mut [u64], members: &[u32], starts: &[u32], n: usize)
     requires { (n ≤ max_runs) × (n < length before.old) }
-    ensures { Summed (λ i. size_in starts.now (get_or members.now i 0)) n before.new × BoundedTo n (2 ^ 41) before.new ×
-        (length before.new ≡ length before.old) }
+    ensures { Summed (λ i. size_in starts.now (get_or members.now i 0)) n before.new × BoundedTo n (2 ^ 41) before.new }
 {
     before[0] = 0;
     for j in 0..n {
         before[j + 1] = before[j] + u64::from(size_of(starts, item(members, j, 0) as usize));
+    }
+}
+
+impl Members {
+    // Nothing is listed.
+    pub fn new() -> Members {
+        Members {
+            starts: [0; MAX_STARTS],
+            runs: [0; MAX_STARTS],
+            before: [0; MAX_STARTS],
+        }
+    }
+
+    // The members of the chains of n runs, and their sums.
+    pub fn index(&mut self, starts: &[u32], n: usize, chains: usize, tables: &ChainTables)
+        requires { Indexable n chains (take (n + 1) tables.now.lens) (take (n + 1) tables.now.chains) (take (n + 1) tables.now.places) }
+        ensures { IndexOf starts.now n chains (take (n + 1) tables.now.lens) (take (n + 1) tables.now.chains) (take (n + 1) tables.now.places)
+            (take (n + 1) self.new.starts) (take (n + 1) self.new.runs) self.new.before }
+    {
+        let w = n + 1;
+        begins_of(&mut self.starts[..w], &tables.lens[..w], chains);
+        let begins = &self.starts[..w];
+        members_of(&mut self.runs, begins, &tables.chains[..w], &tables.places[..w], n);
+        let members = &self.runs[..w];
+        sums_of(&mut self.before, members, starts, n);
+    }
+
+    // The sums of n runs on so many chains.
+    pub fn sums(&self, n: usize, chains: usize) -> Sums<'_>
+        requires few { (n ≤ max_runs) × (chains ≤ max_runs) }
+        requires small { Bounded (2 ^ 41) (take (n + 1) self.now.before) }
+        ensures before { result.before.now ≡ take (n + 1) self.now.before }
+        ensures begins { result.begins.now ≡ take (n + 1) self.now.starts }
+        ensures chains { result.chains ≡ chains }
+    {
+        Sums {
+            before: &self.before[..n + 1],
+            begins: &self.starts[..n + 1],
+            chains,
+        }
     }
 }

@@ -1,11 +1,23 @@
 // Chains and rows of a range: each run's row is made of its parents' rows, lent as parts of the row area.
-ghost use Rattle.std.specs.Prelude.{◌≡◌, ◌+◌, ◌*◌, ◌<◌, ◌≤◌, ◌^◌, max, length, get_or, MatchOption};
+ghost use Rattle.std.specs.Prelude.{◌≡◌, ◌+◌, ◌<◌, ◌≤◌, ◌^◌, max, length, get_or, take, eqb, MatchOption};
+ghost use Rattle.std.specs.List.{position, zip};
 ghost use Rattle.model.specs.Limits.{max_runs, max_starts};
-ghost use Rattle.tables.specs.Lay.{join_of, raised, join_parent, join_all, spot_from, Fine, FineAll, Safe, place_in, lay_of};
-ghost use Rattle.tables.specs.Laid.{grouped, Sound, chains_of, LaidOut};
+ghost use Rattle.tables.specs.Jagged.{rows_in, Lies, Below};
+ghost use Rattle.tables.specs.Lay.{join_of, raised, join_parent, join_all, Fine, FineAll, Safe, place_in, lay_of};
+ghost use Rattle.tables.specs.Laid.{chains_of, LaidOut};
 
 use crate::jagged::Jagged;
 use crate::words::item;
+use model::MAX_STARTS;
+
+// Where each run's row starts and the last ends, each run's chain, its place along it, and each chain's length.
+#[derive(Drop)]
+pub struct ChainTables {
+    pub row_starts: [u32; MAX_STARTS],
+    pub chains: [u32; MAX_STARTS],
+    pub places: [u32; MAX_STARTS],
+    pub lens: [u32; MAX_STARTS],
+}
 
 // Elementwise the larger of the two, in the row being made.
 pub fn join(row: &mut [u32], theirs: &[u32])
@@ -50,16 +62,12 @@ impl<'a> Rows<'a> {
     }
 }
 
-// The first of the first n chains of which the row has all, or n.
-fn find_spot(row: &[u32], lens: &[u32], n: usize) -> usize
-    ensures { (result ≡ spot_from row.now lens.now 0 n) × (result ≤ n) }
+// The first of the first n chains of which the row has all.
+fn find_spot(row: &[u32], lens: &[u32], n: usize) -> Option<usize>
+    requires { (n ≤ length row.now) × (n ≤ length lens.now) }
+    ensures { result ≡ position (λ p. eqb p.0 p.1) (zip (take n row.now) (take n lens.now)) }
 {
-    for c in 0..n {
-        if item(row, c, 0) == item(lens, c, 0) {
-            return c;
-        }
-    }
-    n
+    row[..n].iter().zip(&lens[..n]).position(|(reached, len)| *reached == *len)
 }
 
 // How many chains there are, and how much of the row area is used.
@@ -69,81 +77,91 @@ pub struct Area {
     pub used: usize,
 }
 
-// Run r put on chain k, its row ending at `used`. The tables are four lists of w words: where each run's row starts, each
-// run's chain and place along it, each chain's length.
-fn place(tables: &mut [u32], w: usize, r: usize, k: usize, used: usize)
-    requires { (w ≤ max_starts) × (r + 1 < w) × (k < w) × (used < 2 ^ 32) × (4 * w ≤ length tables.old) × (get_or tables.old (3 * w + k) 0 ≤ max_runs) }
-    ensures { tables.new ≡ place_in tables.old w r k used }
-{
-    let len = tables[3 * w + k];
-    tables[r + 1] = used as u32;
-    tables[w + r] = k as u32;
-    tables[2 * w + r] = len;
-    tables[3 * w + k] = len + 1;
+impl ChainTables {
+    // Nothing is laid.
+    pub fn new() -> ChainTables {
+        ChainTables {
+            row_starts: [0; MAX_STARTS],
+            chains: [0; MAX_STARTS],
+            places: [0; MAX_STARTS],
+            lens: [0; MAX_STARTS],
+        }
+    }
+
+    // The rows of n runs, in the row area.
+    pub fn rows<'a>(&'a self, area: &'a [u32], n: usize) -> Jagged<'a>
+        requires { Lies self.now.row_starts area.now n }
+        ensures { result ≡ rows_in self.now.row_starts area.now n }
+    {
+        Jagged::new(&self.row_starts, area, n)
+    }
+
+    // Run r put on chain k, its row ending at `used`.
+    fn place(&mut self, r: usize, k: usize, used: usize)
+        requires { (r + 1 < max_starts) × (k < max_starts) × (used < 2 ^ 32) × (get_or self.old.lens k 0 ≤ max_runs) }
+        ensures { self.new ≡ place_in self.old r k used }
+    {
+        let len = self.lens[k];
+        self.row_starts[r + 1] = used as u32;
+        self.chains[r] = k as u32;
+        self.places[r] = len;
+        self.lens[k] = len + 1;
+    }
 }
 
 // Run r's row, made of its parents', and written; none where it finds no room.
 fn lay_run(
     rows: &mut [u32],
-    tables: &mut [u32],
+    tables: &mut ChainTables,
     row: &mut [u32],
-    w: usize,
     area: Area,
     r: usize,
     parents: &[u32],
 ) -> Option<Area>
-    requires w_in_bounds { (4 * w ≤ length tables.old) × (length row.old ≡ w) }
-    requires safe { Safe w rows.old (chains_of area w tables.old) r parents.now }
-    ensures { let laid = lay_of (chains_of area w tables.old, rows.old) r parents.now in
-        MatchOption result ((laid ≡ None) × (rows.new ≡ rows.old)) (λ a. laid ≡ Some (chains_of a w tables.new, rows.new)) }
+    requires safe { Safe (length row.old) rows.old (chains_of area (length row.old) tables.old) r parents.now }
+    ensures { let laid = lay_of (chains_of area (length row.old) tables.old, rows.old) r parents.now in
+        MatchOption result ((laid ≡ None) × (rows.new ≡ rows.old)) (λ a. laid ≡ Some (chains_of a (length row.old) tables.new, rows.new)) }
 {
-    let b = 2 * w;
-    let c = 3 * w;
-    let d = 4 * w;
+    let w = row.len();
     let laid = Rows {
         words: rows,
-        starts: &tables[0..w],
-        chain: &tables[w..b],
-        place: &tables[b..c],
+        starts: &tables.row_starts[..w],
+        chain: &tables.chains[..w],
+        place: &tables.places[..w],
     };
     row.fill(0);
     laid.join_all(row, parents);
-    let k = find_spot(row, &tables[c..d], area.chains);
+    let k = find_spot(row, &tables.lens[..w], area.chains).unwrap_or(area.chains);
     let width = area.chains.max(k + 1);
     let used = area.used;
     if rows.len() < used + width {
         return None;
     }
     rows[used..used + width].copy_from_slice(&row[..width]);
-    place(tables, w, r, k, used + width);
+    tables.place(r, k, used + width);
     Some(Area {
         chains: width,
         used: used + width,
     })
 }
 
-// All runs' rows and chains; none where a row finds no room, and then the rows before it are written.
-pub fn lay<'a>(
+// All runs' rows and chains; none where a row finds no room, and then the rows before it are written. A row is made in `row`.
+pub fn lay(
     rows: &mut [u32],
-    tables: &mut [u32],
+    tables: &mut ChainTables,
     row: &mut [u32],
-    starts: &'a [u32],
-    items: &'a [u32],
-    n: usize,
+    parents: &Jagged,
 ) -> Option<Area>
-    requires sound { Sound starts.now items.now n }
-    requires n_in_bounds { (4 * (n + 1) ≤ length tables.old) × (length row.old ≡ n + 1) }
-    ensures laid_out { LaidOut (grouped starts.now items.now n) n rows.old result rows.new tables.new }
-    ensures tables_len_unchanged { length tables.new ≡ length tables.old }
-    ensures row_len_unchanged { length row.new ≡ length row.old }
-    ensures rows_len_unchanged { length rows.new ≡ length rows.old }
+    requires below { Below parents.now }
+    requires row { length row.old ≡ length parents.now + 1 }
+    ensures { LaidOut parents.now (length parents.now) rows.old result rows.new tables.new }
 {
-    let d = 4 * (n + 1);
-    tables[..d].fill(0);
-    let parents = Jagged::new(starts, items, n);
+    let n = parents.len();
+    tables.row_starts[0] = 0;
+    tables.lens[..n + 1].fill(0);
     let mut area = Area { chains: 0, used: 0 };
     for r in 0..n {
-        area = lay_run(rows, tables, row, n + 1, area, r, parents.row(r))?;
+        area = lay_run(rows, tables, row, area, r, parents.row(r))?;
     }
     Some(area)
 }

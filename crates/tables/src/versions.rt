@@ -3,30 +3,25 @@ ghost use Rattle.std.specs.Prelude.{◌≡◌, ◌+◌, ◌≤◌, ◌<◌, leng
 ghost use Rattle.model.specs.Limits.{max_runs};
 ghost use Rattle.tables.specs.Reached.{started, arrived, Holds, Standing};
 
+use crate::rows::ChainTables;
 use crate::words::item;
 
 // The version that holds the first `known` runs.
-pub fn start_version<'a>(
-    current: &mut [u32],
-    chain: &'a [u32],
-    place: &'a [u32],
-    chains: usize,
-    known: usize,
-)
-    requires { (chains ≤ length current.old) × Standing chain.now place.now chains known }
-    ensures { Holds (started chain.now place.now known) chains current.new × (length current.new ≡ length current.old) }
+pub fn start_version(current: &mut [u32], tables: &ChainTables, chains: usize, known: usize)
+    requires { (chains ≤ length current.old) × Standing tables.now.chains tables.now.places chains known }
+    ensures { Holds (started tables.now.chains tables.now.places known) chains current.new }
 {
     current[..chains].fill(0);
     for r in 0..known {
-        let k = item(chain, r, 0) as usize;
-        current[k] = item(place, r, 0) + 1;
+        let k = item(&tables.chains, r, 0) as usize;
+        current[k] = item(&tables.places, r, 0) + 1;
     }
 }
 
 // The first n words become the row's, and 0 past its end.
 fn copy_row(current: &mut [u32], row: &[u32], n: usize)
     requires { n ≤ length current.old }
-    ensures { Holds (λ c. get_or row.now c 0) n current.new × (length current.new ≡ length current.old) }
+    ensures { Holds (λ c. get_or row.now c 0) n current.new }
 {
     let m = row.len().min(n);
     current[..n].fill(0);
@@ -36,7 +31,7 @@ fn copy_row(current: &mut [u32], row: &[u32], n: usize)
 // The version after a visit: the run's history, by its row, and the run, by its chain and place.
 pub fn arrive(current: &mut [u32], row: &[u32], n: usize, chain: usize, place: u32)
     requires { (n ≤ length current.old) × (chain < n) × (place < max_runs) }
-    ensures { Holds (arrived row.now chain place) n current.new × (length current.new ≡ length current.old) }
+    ensures { Holds (arrived row.now chain place) n current.new }
 {
     copy_row(current, row, n);
     current[chain] = place + 1;

@@ -24,7 +24,6 @@ pub mod Turning
 -- The loop over the tables of a range
 pub mod Looping
 pub mod Looped
-pub mod Lending
 pub mod Reading
 pub mod Stepping
 -- A range prepared

@@ -15,7 +15,7 @@ use Rattle.model.specs.Choice.{Range, is_ready, is_last, newly_ready, apart, cho
 use Rattle.model.specs.Steps.{Step, visit, steps_of}
 use Rattle.model.proofs.Histories.{Below, history-length}
 use Rattle.model.proofs.Choosing.{ready_after}
-use Rattle.tables.specs.Laid.{heads_in, items_in, chs}
+use Rattle.tables.specs.Laid.{chs}
 use Rattle.tables.specs.Tables.{Reaches, children_of}
 use Rattle.tables.specs.Gaps.{gaps_from}
 use Rattle.tables.specs.Reached.{started, arrived, Holds, Standing}
@@ -85,7 +85,7 @@ module _ (g : Given) (P : Prepared g) where
 
   pub size : length pss ≡ g.runs
   unfolding parents_for
-  size = length-grouped (heads_in g.runs g.groups) (items_in g.runs g.groups) g.runs P.sound.long
+  size = length-grouped g.areas.parents.starts g.areas.parents.items g.runs P.sound.long
 
   pub below : Below pss
   unfolding parents_for

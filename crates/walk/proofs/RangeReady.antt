@@ -1,123 +1,153 @@
 -- The tables prepared for a range whose rows are laid are the range's, and what its walk comes to is what the definitions say. Assumes nothing.
-use Rattle.std.proofs.Common.{◌≡◌, sym, ap, ◌∙◌, subst, true, List, ℕ, ◌+◌, ◌≤◌, ◌<◌, arith, length, get_or, take}
+use Rattle.std.proofs.Common.{◌≡◌, sym, ap, ap₂, ◌∙◌, subst, true, List, ℕ, ◌+◌, ◌≤◌, ◌<◌, arith, length, get_or, take, get_or-take}
 use Rattle.lists.specs.Lists.{rising}
+use Rattle.lists.specs.Areas.{part}
 use Rattle.model.specs.History.{at, histories}
 use Rattle.model.specs.Range.{sizes_of}
 use Rattle.model.specs.Cover.{weights}
 use Rattle.std.specs.Prelude.{Some}
+use Rattle.tables.specs.declared.groups.Groups.{Groups}
 use Rattle.tables.specs.declared.rows.Area.{Area}
-use Rattle.tables.specs.Lanes.{lane}
-use Rattle.tables.specs.Laid.{shares, heads_in, items_in, grouped, chs, row_at, chains_of, Laid, RangeLaid}
+use Rattle.tables.specs.declared.rows.ChainTables.{ChainTables}
+use Rattle.tables.specs.Jagged.{Lies}
+use Rattle.tables.specs.Laid.{shares, grouped, chs, row_at, chains_of, Laid, RangeLaid}
 use Rattle.tables.specs.Tables.{Listed, Sums, size_in}
 use Rattle.tables.specs.Indexed.{Indexable, IndexOf}
-use Rattle.tables.specs.Sizes.{Inside, row_in}
+use Rattle.tables.specs.Sizes.{row_in}
 use Rattle.tables.proofs.RowsIn.{row_lies, row_found}
 use Rattle.tables.proofs.Indexing.{laid_indexable, laid_listed, laid_summed_first}
 use Rattle.tables.proofs.ParentGroups.{groups-size}
-use Rattle.tables.proofs.Laning.{lane-length}
 use Rattle.tables.proofs.Weighted.{weight-at}
+use Rattle.walk.specs.declared.areas.Areas.{Areas}
 use Rattle.walk.specs.Ranges.{range_by, range_in, offsets, Arrays}
 use Rattle.walk.specs.Prepare.{Measurable, Measured, Relatable, Related}
 use Rattle.walk.specs.Given.{Given, row_starts, chains_in, places_in, begins_in, members_in, child_starts, weights_in, sums_in, row_for, parents_for, range_for, chains_for, Prepared}
 use Rattle.walk.proofs.Preparing.{own, own-order, own-offsets, own-sizes, shares-rise, sums_same}
 
 -- Rows are laid, all of them
-module _ (starts heads parents : List ℕ) (a n : ℕ) (A : Arrays starts heads parents (a + n)) (area₀ area groups tables₀ : List ℕ) (r : Area)
-    (R : RangeLaid (shares heads parents a n) n area₀ (Some r) area groups tables₀) where
+module _ (starts heads parents : List ℕ) (a n : ℕ) (A : Arrays starts heads parents (a + n)) (area₀ area : List ℕ) (groups : Groups) (tables : ChainTables) (r : Area)
+    (R : RangeLaid (shares heads parents a n) n area₀ (Some r) area groups tables) where
   abbrev P : List (List ℕ)
-  P = grouped (heads_in n groups) (items_in n groups) n
+  P = grouped groups.starts groups.items n
 
   abbrev S : List ℕ
   S = own starts heads parents a n A
 
   size : length P ≡ n
-  size = groups-size (heads_in n groups) (items_in n groups) n R.sound.long
+  size = groups-size groups.starts groups.items n R.sound.long
 
   few : length P ≤ 512
   few = omega (arith, size, R.sound.few)
 
-  laid : Laid P n (chains_of r (n + 1) tables₀) area area₀
+  laid : Laid P n (chains_of r (n + 1) tables) area area₀
   unfolding chains_of
-  laid = subst (λ (l : List (List ℕ)). Laid l n (chains_of r (n + 1) tables₀) area area₀) (sym R.groups_are) R.out.told.1
+  laid = subst (λ (l : List (List ℕ)). Laid l n (chains_of r (n + 1) tables) area area₀) (sym R.groups_are) R.out.told.1
 
-  laid_all : Laid P (length P) (chains_of r (length P + 1) tables₀) area area₀
-  laid_all = subst (λ (k : ℕ). Laid P k (chains_of r (k + 1) tables₀) area area₀) (sym size) laid
+  laid_all : Laid P (length P) (chains_of r (length P + 1) tables) area area₀
+  laid_all = subst (λ (k : ℕ). Laid P k (chains_of r (k + 1) tables) area area₀) (sym size) laid
 
   rise : (x : ℕ) → rising (at P x) ≡ true
   rise x = ap (λ (l : List (List ℕ)). rising (at l x)) R.groups_are ∙ shares-rise starts heads parents a n A x
 
-  lie : Inside (lane 0 (n + 1) tables₀) area n
+  -- The first words are the tables'
+  here : (l : List ℕ) (k : ℕ) → k ≤ n → get_or (take (n + 1) l) k 0 ≡ get_or l k 0
+  here l k le = get_or-take (n + 1) l k 0 (omega arith)
+
+  lie : (k : ℕ) → k < n → (get_or tables.row_starts k 0 ≤ get_or tables.row_starts (k + 1) 0) × (get_or tables.row_starts (k + 1) 0 ≤ length area)
   unfolding chains_of
-  lie = λ k lt. row_lies P n (chains_of r (n + 1) tables₀) area area₀ laid k lt
+  lie k lt =
+      let t = row_lies P n (chains_of r (n + 1) tables) area area₀ laid k lt in
+      (omega (arith, t.0, here tables.row_starts k (omega arith), here tables.row_starts (k + 1) (omega arith)), omega (arith, t.1, here tables.row_starts (k + 1) (omega arith)))
+
+  row_here : (k : ℕ) → k < n → row_in tables.row_starts area k ≡ row_at (histories P) k
+  unfolding chains_of
+  row_here k lt =
+      ap₂ (λ (i j : ℕ). part i j area) (sym (here tables.row_starts k (omega arith))) (sym (here tables.row_starts (k + 1) (omega arith))) ∙
+      row_found P n (chains_of r (n + 1) tables) area area₀ laid k lt
 
   -- What the tables need
-  pub measurable : Measurable n r.chains area tables₀
+  pub measurable : Measurable n r.chains area tables
   measurable = record {
-    index = subst (λ (k : ℕ). Indexable k r.chains (lane 3 (k + 1) tables₀) (lane 1 (k + 1) tables₀) (lane 2 (k + 1) tables₀)) size (laid_indexable P r tables₀ area area₀ laid_all few);
-    rows = lie;
+    index = subst (λ (k : ℕ). Indexable k r.chains (take (k + 1) tables.lens) (take (k + 1) tables.chains) (take (k + 1) tables.places)) size (laid_indexable P r tables area area₀ laid_all few);
+    rows = record { few = R.sound.few; rise = λ k lt. (lie k lt).0; inside = λ k lt. (lie k lt).1 };
   }
 
   pub relatable : Relatable S n groups
   relatable = record { sound = R.sound; rise = rise; order = own-order starts heads parents a n A }
 
-  -- The tables are there
-  module _ (tables before sizes children : List ℕ) (known first : ℕ) (M : Measured S n r.chains area before sizes tables tables₀) (F : Related S n groups children tables)
-      (ts : length tables ≡ 4104) (low : known ≤ first) (high : first ≤ n) where
-    abbrev given : Given
-    given = record { starts = starts; rows = area; groups = groups; tables = tables; before = before; sizes = sizes; children = children; base = a; runs = n; chains = r.chains; known = known; first = first }
+-- The tables are there
+module _ (starts heads parents : List ℕ) (a n : ℕ) (A : Arrays starts heads parents (a + n)) (area₀ area : List ℕ) (q : Areas) (r : Area)
+    (R : RangeLaid (shares heads parents a n) n area₀ (Some r) area q.parents q.chains) (known first : ℕ)
+    (M : Measured (own starts heads parents a n A) n r.chains area q.chains q.members q.sizes) (F : Related (own starts heads parents a n A) n q.parents q.children q.weights)
+    (low : known ≤ first) (high : first ≤ n) where
+  abbrev given : Given
+  given = record { starts = starts; rows = area; areas = q; base = a; runs = n; chains = r.chains; known = known; first = first }
 
-    abbrev w : ℕ
-    w = n + 1
+  abbrev w : ℕ
+  w = n + 1
 
-    index : IndexOf S (length P) r.chains (lane 3 (length P + 1) tables₀) (lane 1 (length P + 1) tables₀) (lane 2 (length P + 1) tables₀) (lane 4 w tables) (lane 5 w tables) before
-    index = subst (λ (k : ℕ). IndexOf S k r.chains (lane 3 (k + 1) tables₀) (lane 1 (k + 1) tables₀) (lane 2 (k + 1) tables₀) (lane 4 w tables) (lane 5 w tables) before) (sym size) M.index
+  abbrev Q : List (List ℕ)
+  Q = grouped q.parents.starts q.parents.items n
 
-    listed : Listed (chs (histories P) (length P)) (lane 4 w tables) (lane 5 w tables)
-    listed = laid_listed P r tables₀ area area₀ laid_all few S (lane 4 w tables) (lane 5 w tables) before index
-        (omega (arith, size, lane-length 5 w tables (omega (arith, R.sound.few))))
+  abbrev T : List ℕ
+  T = own starts heads parents a n A
 
-    summed : Sums (chs (histories P) (length P)) (λ m. get_or (sizes_of (offsets starts a n)) m 0) (lane 4 w tables) (take w before)
-    summed = sums_same (histories P) (length P) (size_in S) (λ m. get_or (sizes_of (offsets starts a n)) m 0) (lane 4 w tables) (take w before)
-        (λ m lt. own-sizes starts heads parents a n A m (omega (arith, size)))
-        (subst (λ (k : ℕ). Sums (chs (histories P) (length P)) (size_in S) (lane 4 w tables) (take (k + 1) before)) size
-        (laid_summed_first P r tables₀ area area₀ laid_all few S (lane 4 w tables) (lane 5 w tables) before index))
+  number : length Q ≡ n
+  number = size starts heads parents a n A area₀ area q.parents q.chains r R
 
-    first_lane : lane 0 w tables ≡ lane 0 w tables₀
-    first_lane = M.kept.lanes 0 (omega arith)
+  all-laid : Laid Q (length Q) (chains_of r (length Q + 1) q.chains) area area₀
+  all-laid = laid_all starts heads parents a n A area₀ area q.parents q.chains r R
 
-    weighed : (k : ℕ) → k < n → get_or (lane 7 w tables) k 0 ≡ get_or (weights (offsets starts a n) P) k 0
-    weighed k lt =
-        weight-at S (lane 6 w tables) children n (lane 7 w tables) P F.weights F.children size R.sound.below k lt ∙
-        ap (λ (l : List ℕ). get_or (weights l P) k 0) (sym (own-offsets starts heads parents a n A))
+  this_laid : Laid Q n (chains_of r (n + 1) q.chains) area area₀
+  this_laid = laid starts heads parents a n A area₀ area q.parents q.chains r R
 
-    row_here : (k : ℕ) → k < n → row_in (lane 0 w tables) area k ≡ row_at (histories P) k
-    unfolding chains_of
-    row_here k lt = ap (λ (l : List ℕ). row_in l area k) first_lane ∙ row_found P n (chains_of r (n + 1) tables₀) area area₀ laid k lt
+  small : length Q ≤ 512
+  small = few starts heads parents a n A area₀ area q.parents q.chains r R
 
-    chain-count : r.chains ≡ length (chs (histories P) (length P))
-    unfolding chains_of
-    chain-count = laid.number ∙ ap (λ (k : ℕ). length (chs (histories P) k)) (sym size)
+  first-words : (l : List ℕ) (k : ℕ) → k ≤ n → get_or (take (n + 1) l) k 0 ≡ get_or l k 0
+  first-words = here starts heads parents a n A area₀ area q.parents q.chains r R
 
-    pub prepared : Prepared given
-    unfolding row_starts chains_in places_in begins_in members_in child_starts weights_in sums_in row_for parents_for range_for chains_for range_by chains_of
-    prepared = record {
-      few = A.sound.few;
-      known = low;
-      first = high;
-      sound = R.sound;
-      rise = rise;
-      number = chain-count;
-      lies = subst (λ (l : List ℕ). Inside l area n) (sym first_lane) lie;
-      rows = row_here;
-      chain = λ k lt. ap (λ (l : List ℕ). get_or l k 0) (M.kept.lanes 1 (omega arith)) ∙ laid.chain k lt;
-      place = λ k lt. ap (λ (l : List ℕ). get_or l k 0) (M.kept.lanes 2 (omega arith)) ∙ laid.place k lt;
-      listed = listed;
-      sums = summed;
-      children = F.children;
-      weights = weighed;
-      sizes = M.sizes;
-    }
+  index : IndexOf T (length Q) r.chains (take (length Q + 1) q.chains.lens) (take (length Q + 1) q.chains.chains) (take (length Q + 1) q.chains.places) (take w q.members.starts) (take w q.members.runs) q.members.before
+  index = subst (λ (k : ℕ). IndexOf T k r.chains (take (k + 1) q.chains.lens) (take (k + 1) q.chains.chains) (take (k + 1) q.chains.places) (take w q.members.starts) (take w q.members.runs) q.members.before) (sym number) M.index
 
-    pub range_same : range_for given ≡ range_in starts heads parents a n
-    unfolding range_for range_in parents_for
-    range_same = ap (range_by (offsets starts a n)) R.groups_are
+  listed : Listed (chs (histories Q) (length Q)) (take w q.members.starts) (take w q.members.runs)
+  listed = laid_listed Q r q.chains area area₀ all-laid small T (take w q.members.starts) (take w q.members.runs) q.members.before index
+
+  summed : Sums (chs (histories Q) (length Q)) (λ m. get_or (sizes_of (offsets starts a n)) m 0) (take w q.members.starts) (take w q.members.before)
+  summed = sums_same (histories Q) (length Q) (size_in T) (λ m. get_or (sizes_of (offsets starts a n)) m 0) (take w q.members.starts) (take w q.members.before)
+      (λ m lt. own-sizes starts heads parents a n A m (omega (arith, number)))
+      (subst (λ (k : ℕ). Sums (chs (histories Q) (length Q)) (size_in T) (take w q.members.starts) (take (k + 1) q.members.before)) number
+      (laid_summed_first Q r q.chains area area₀ all-laid small T (take w q.members.starts) (take w q.members.runs) q.members.before index))
+
+  weighed : (k : ℕ) → k < n → get_or q.weights k 0 ≡ get_or (weights (offsets starts a n) Q) k 0
+  weighed k lt =
+      weight-at T q.children.starts q.children.items n q.weights Q F.weights F.children number R.sound.below k lt ∙
+      ap (λ (l : List ℕ). get_or (weights l Q) k 0) (sym (own-offsets starts heads parents a n A))
+
+  chain-count : r.chains ≡ length (chs (histories Q) (length Q))
+  unfolding chains_of
+  chain-count = this_laid.number ∙ ap (λ (k : ℕ). length (chs (histories Q) k)) (sym number)
+
+  pub prepared : Prepared given
+  unfolding row_starts chains_in places_in begins_in members_in child_starts weights_in sums_in row_for parents_for range_for chains_for range_by chains_of
+  prepared = record {
+    few = A.sound.few;
+    known = low;
+    first = high;
+    sound = R.sound;
+    rise = rise starts heads parents a n A area₀ area q.parents q.chains r R;
+    number = chain-count;
+    lies = lie starts heads parents a n A area₀ area q.parents q.chains r R;
+    rows = row_here starts heads parents a n A area₀ area q.parents q.chains r R;
+    chain = λ k lt. sym (first-words q.chains.chains k (omega arith)) ∙ this_laid.chain k lt;
+    place = λ k lt. sym (first-words q.chains.places k (omega arith)) ∙ this_laid.place k lt;
+    listed = listed;
+    sums = summed;
+    children = F.children;
+    weights = weighed;
+    sizes = M.sizes;
+  }
+
+  pub range_same : range_for given ≡ range_in starts heads parents a n
+  unfolding range_for range_in parents_for
+  range_same = ap (range_by (offsets starts a n)) R.groups_are

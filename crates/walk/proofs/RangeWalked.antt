@@ -7,7 +7,9 @@ use Rattle.model.specs.Steps.{Step, visits, steps_of}
 use Rattle.model.specs.Walk.{rows_into, rows_too_long}
 use Rattle.std.specs.Prelude.{Option, Some, None}
 use Rattle.std.proofs.lemmas.Option.{MatchOption-at_none, MatchOption-at_some}
+use Rattle.tables.specs.declared.groups.Groups.{Groups}
 use Rattle.tables.specs.declared.rows.Area.{Area}
+use Rattle.tables.specs.declared.rows.ChainTables.{ChainTables}
 use Rattle.tables.specs.Laid.{shares, RangeLaid}
 use Rattle.tables.proofs.Gathering.{shares-length}
 use Rattle.moves.specs.Emit.{Writing, emit}
@@ -21,7 +23,7 @@ use Rattle.walk.proofs.Answering.{walked-rows, walked-steps}
 pub arrays_end : (starts heads parents : List ℕ) (a b n : ℕ) → a ≤ b → n ≡ b - a → Arrays starts heads parents b → Arrays starts heads parents (a + n)
 arrays_end starts heads parents a b n le e A = let q : b ≡ a + n = omega arith in rw q at A
 
-module _ (starts heads parents : List ℕ) (a n : ℕ) (area₀ area groups tables : List ℕ) (r : Option Area) (R : RangeLaid (shares heads parents a n) n area₀ r area groups tables) where
+module _ (starts heads parents : List ℕ) (a n : ℕ) (area₀ area : List ℕ) (groups : Groups) (tables : ChainTables) (r : Option Area) (R : RangeLaid (shares heads parents a n) n area₀ r area groups tables) where
   abbrev w : Range
   w = range_in starts heads parents a n
 

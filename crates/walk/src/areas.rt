@@ -1,25 +1,28 @@
 // Work areas in which a range of any graph's runs has room, and a range's tables, made in them.
 ghost use Rattle.std.specs.Prelude.{◌≡◌, ◌+◌};
-ghost use Rattle.tables.specs.Lanes.{Kept};
 ghost use Rattle.walk.specs.Prepare.{Measurable, Measured, Relatable, Related};
 
-use model::{MAX_ENTRIES, MAX_RUNS, MAX_STARTS};
+use model::{MAX_RUNS, MAX_STARTS};
 use tables::covers::{COVER_WORDS, CoverWord};
-use tables::tabling;
+use tables::groups::Groups;
+use tables::members::Members;
+use tables::rows::ChainTables;
+use tables::{covers, distance, tabling};
 
 // Nothing is asked of what lies in them when a range is begun.
 #[derive(Drop)]
 pub(crate) struct Areas {
-    // Where each run's parents begin, and then the parents.
-    pub(crate) groups: [u32; MAX_STARTS + MAX_ENTRIES],
-    // Eight tables with a place for each start.
-    pub(crate) tables: [u32; 8 * MAX_STARTS],
-    // The events of the members before each.
-    pub(crate) before: [u64; MAX_STARTS],
+    // Each run's parents.
+    pub(crate) parents: Groups,
+    // Where each run's row starts, its chain, and its place along it.
+    pub(crate) chains: ChainTables,
+    // The chains' members, and the events before each.
+    pub(crate) members: Members,
     // The events of each run's history.
     pub(crate) sizes: [u64; MAX_RUNS],
-    // Where each run's children begin, and then the children.
-    pub(crate) children: [u32; MAX_STARTS + MAX_ENTRIES],
+    // Each run's children.
+    pub(crate) children: Groups,
+    pub(crate) weights: [u32; MAX_RUNS],
     // A cover for each run.
     pub(crate) covers: [CoverWord; MAX_RUNS * COVER_WORDS],
     pub(crate) scratch: [u32; MAX_STARTS],
@@ -28,11 +31,12 @@ pub(crate) struct Areas {
 impl Areas {
     pub(crate) fn new() -> Areas {
         Areas {
-            groups: [0; MAX_STARTS + MAX_ENTRIES],
-            tables: [0; 8 * MAX_STARTS],
-            before: [0; MAX_STARTS],
+            parents: Groups::new(),
+            chains: ChainTables::new(),
+            members: Members::new(),
             sizes: [0; MAX_RUNS],
-            children: [0; MAX_STARTS + MAX_ENTRIES],
+            children: Groups::new(),
+            weights: [0; MAX_RUNS],
             covers: [0; MAX_RUNS * COVER_WORDS],
             scratch: [0; MAX_STARTS],
         }
@@ -40,48 +44,41 @@ impl Areas {
 
     // Members, sums and sizes of a range whose rows are laid.
     fn measure(&mut self, starts: &[u32], n: usize, chains: usize, rows: &[u32])
-        requires { Measurable n chains rows.now self.old.tables }
-        ensures measured { Measured starts.now n chains rows.now self.new.before self.new.sizes self.new.tables self.old.tables }
-        ensures groups { self.new.groups ≡ self.old.groups }
+        requires { Measurable n chains rows.now self.old.chains }
+        ensures measured { Measured starts.now n chains rows.now self.new.chains self.new.members self.new.sizes }
+        ensures kept { (self.new.parents ≡ self.old.parents) × (self.new.chains ≡ self.old.chains) }
     {
-        tabling::index(starts, n, chains, &mut self.tables, &mut self.before);
-        tabling::sizes(n, chains, rows, &self.tables, &self.before, &mut self.sizes);
+        self.members.index(starts, n, chains, &self.chains);
+        let rows = self.chains.rows(rows, n);
+        let sums = self.members.sums(n, chains);
+        distance::sizes_of(&mut self.sizes, sums, &rows);
     }
 
-    // Children and weights; a range with no run has none.
+    // Children and weights.
     fn relate(&mut self, starts: &[u32], n: usize)
-        requires { Relatable starts.now n self.old.groups }
-        ensures related { Related starts.now n self.new.groups self.new.children self.new.tables }
-        ensures kept { Kept 6 (n + 1) self.new.tables self.old.tables }
-        ensures groups { self.new.groups ≡ self.old.groups }
-        ensures measured { (self.new.before ≡ self.old.before) × (self.new.sizes ≡ self.old.sizes) }
+        requires { Relatable starts.now n self.old.parents }
+        ensures related { Related starts.now n self.new.parents self.new.children self.new.weights }
+        ensures kept { (self.new.parents ≡ self.old.parents) × (self.new.chains ≡ self.old.chains) }
+        ensures measured { (self.new.members ≡ self.old.members) × (self.new.sizes ≡ self.old.sizes) }
     {
-        if n == 0 {
-            return;
-        }
-        tabling::children(
-            n,
-            &self.groups,
-            &mut self.tables,
-            &mut self.children,
-            &mut self.scratch,
-        );
-        tabling::weights(
-            starts,
-            n,
-            &mut self.tables,
-            &self.children,
+        let parents = self.parents.rows(n);
+        tabling::children(&parents, &mut self.children, &mut self.scratch);
+        covers::weights_of(
+            &mut self.weights,
             &mut self.covers,
+            starts,
+            &self.children,
+            n,
         );
     }
 
     // All of a range's tables; `starts` are its own.
     pub(crate) fn prepare(&mut self, starts: &[u32], n: usize, chains: usize, rows: &[u32])
-        requires measurable { Measurable n chains rows.now self.old.tables }
-        requires relatable { Relatable starts.now n self.old.groups }
-        ensures measured { Measured starts.now n chains rows.now self.new.before self.new.sizes self.new.tables self.old.tables }
-        ensures related { Related starts.now n self.new.groups self.new.children self.new.tables }
-        ensures groups { self.new.groups ≡ self.old.groups }
+        requires measurable { Measurable n chains rows.now self.old.chains }
+        requires relatable { Relatable starts.now n self.old.parents }
+        ensures measured { Measured starts.now n chains rows.now self.new.chains self.new.members self.new.sizes }
+        ensures related { Related starts.now n self.new.parents self.new.children self.new.weights }
+        ensures kept { (self.new.parents ≡ self.old.parents) × (self.new.chains ≡ self.old.chains) }
     {
         self.measure(starts, n, chains, rows);
         self.relate(starts, n);

@@ -1,9 +1,7 @@
 // What a walk is given, and what it reads there of a run.
 ghost use Rattle.std.specs.Prelude.{◌≡◌, ◌+◌, ◌<◌, ◌≤◌, ◌^◌, length, get_or};
 ghost use Rattle.lists.specs.Areas.{part};
-ghost use Rattle.model.specs.Limits.{max_runs};
 ghost use Rattle.model.specs.History.{at};
-ghost use Rattle.tables.specs.Lanes.{lane};
 ghost use Rattle.tables.specs.Sizes.{events_from};
 ghost use Rattle.walk.specs.Given.{Given, chains_in, places_in, begins_in, members_in, weights_in, sums_in, row_for, children_for, parents_for, Prepared};
 
@@ -32,11 +30,7 @@ impl<'a> Model for Given<'a> {
     ghost view = { λ a. record {
       starts = a.starts.now;
       rows = a.rows.now;
-      groups = a.areas.now.groups;
-      tables = a.areas.now.tables;
-      before = a.areas.now.before;
-      sizes = a.areas.now.sizes;
-      children = a.areas.now.children;
+      areas = a.areas.now;
       base = a.base.0;
       runs = a.runs;
       chains = a.chains;
@@ -47,11 +41,7 @@ impl<'a> Model for Given<'a> {
     ghost invariant = { λ a. Prepared (record {
       starts = a.starts.now;
       rows = a.rows.now;
-      groups = a.areas.now.groups;
-      tables = a.areas.now.tables;
-      before = a.areas.now.before;
-      sizes = a.areas.now.sizes;
-      children = a.areas.now.children;
+      areas = a.areas.now;
       base = a.base.0;
       runs = a.runs;
       chains = a.chains;
@@ -71,27 +61,14 @@ fn part(list: &[u32], from: u32, to: u32) -> &[u32]
 }
 
 impl<'a> Given<'a> {
-    // The k-th of the eight tables.
-    pub(crate) fn table(&self, k: usize) -> &[u32]
-        requires { k < 8 }
-        ensures value { result.now ≡ lane k (self.now.runs + 1) self.now.tables }
-        ensures length { length result.now ≡ self.now.runs + 1 }
-        ensures few { self.now.runs ≤ max_runs }
-    {
-        let w = self.runs + 1;
-        let areas = self.areas;
-        let s = k * w;
-        let e = s + w;
-        &areas.tables[s..e]
-    }
-
-    // Each run's chain, and its place along it.
+    // A run's chain, and its place along it.
     #[tactic(auto, unfolding(crate::specs::Given::chains_in))]
     pub(crate) fn chain(&self, run: usize) -> usize
         requires { run < self.now.runs }
         ensures { result ≡ get_or (chains_in self.now) run 0 }
     {
-        self.table(1)[run] as usize
+        let areas = self.areas;
+        areas.chains.chains[run] as usize
     }
 
     #[tactic(auto, unfolding(crate::specs::Given::places_in))]
@@ -99,7 +76,8 @@ impl<'a> Given<'a> {
         requires { run < self.now.runs }
         ensures { result ≡ get_or (places_in self.now) run 0 }
     {
-        self.table(2)[run]
+        let areas = self.areas;
+        areas.chains.places[run]
     }
 
     // Where each chain's members begin, the members, and the events before each.
@@ -107,7 +85,8 @@ impl<'a> Given<'a> {
     pub(crate) fn begins(&self) -> &[u32]
         ensures { result.now ≡ begins_in self.now }
     {
-        self.table(4)
+        let areas = self.areas;
+        &areas.members.starts[..self.runs + 1]
     }
 
     #[tactic(auto, unfolding(crate::specs::Given::members_in))]
@@ -115,7 +94,8 @@ impl<'a> Given<'a> {
         ensures value { result.now ≡ members_in self.now }
         ensures length { length result.now ≡ self.now.runs + 1 }
     {
-        self.table(5)
+        let areas = self.areas;
+        &areas.members.runs[..self.runs + 1]
     }
 
     pub(crate) fn sums(&self) -> Sums<'_>
@@ -123,13 +103,8 @@ impl<'a> Given<'a> {
         ensures begins { result.begins.now ≡ begins_in self.now }
         ensures chains { result.chains ≡ self.now.chains }
     {
-        let w = self.runs + 1;
         let areas = self.areas;
-        Sums {
-            before: &areas.before[..w],
-            begins: self.begins(),
-            chains: self.chains,
-        }
+        areas.members.sums(self.runs, self.chains)
     }
 
     // A run's row, parents, children, weight, and the events of its history.
@@ -137,8 +112,9 @@ impl<'a> Given<'a> {
         requires { run < self.now.runs }
         ensures { result.now ≡ row_for self.now run }
     {
-        let starts = self.table(0);
-        part(self.rows, starts[run], starts[run + 1])
+        let areas = self.areas;
+        let tables = &areas.chains;
+        part(self.rows, tables.row_starts[run], tables.row_starts[run + 1])
     }
 
     pub(crate) fn parents(&self, run: usize) -> &[u32]
@@ -146,18 +122,18 @@ impl<'a> Given<'a> {
         ensures value { result.now ≡ at (parents_for self.now) run }
         ensures few { length result.now ≤ 2 ^ 31 }
     {
-        let w = self.runs + 1;
         let areas = self.areas;
-        part(&areas.groups[w..], areas.groups[run], areas.groups[run + 1])
+        let parents = &areas.parents;
+        part(&parents.items, parents.starts[run], parents.starts[run + 1])
     }
 
     pub(crate) fn children(&self, run: usize) -> &[u32]
         requires { run < self.now.runs }
         ensures { result.now ≡ children_for self.now run }
     {
-        let begins = self.table(6);
         let areas = self.areas;
-        part(&areas.children, begins[run], begins[run + 1])
+        let children = &areas.children;
+        part(&children.items, children.starts[run], children.starts[run + 1])
     }
 
     #[tactic(auto, unfolding(crate::specs::Given::weights_in))]
@@ -165,7 +141,8 @@ impl<'a> Given<'a> {
         requires { run < self.now.runs }
         ensures { result ≡ get_or (weights_in self.now) run 0 }
     {
-        u64::from(self.table(7)[run])
+        let areas = self.areas;
+        u64::from(areas.weights[run])
     }
 
     pub(crate) fn size(&self, run: usize) -> u64

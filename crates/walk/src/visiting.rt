@@ -34,10 +34,10 @@ impl Progress {
         requires { self.old.waits ≡ none_waits given.now.runs }
         ensures { Begun given.now self.new }
     {
+        let areas = given.areas;
         versions::start_version(
             &mut self.version,
-            given.table(1),
-            given.table(2),
+            &areas.chains,
             given.chains,
             given.known as usize,
         );

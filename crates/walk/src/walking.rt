@@ -56,8 +56,8 @@ pub(crate) fn walk_range(
         a.0,
         n,
         rows,
-        &mut areas.groups,
-        &mut areas.tables,
+        &mut areas.parents,
+        &mut areas.chains,
         &mut areas.scratch,
     ) else {
         return Err(Refusal::RowsTooLong);

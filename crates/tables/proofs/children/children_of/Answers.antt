@@ -1,24 +1,33 @@
 -- `tables::children::children_of` meets its contract: the kids of each run stand in their places. Assumes nothing.
-use Rattle.std.proofs.Common.{arith}
-use Rattle.tables.specs.Indexed.{Summed}
-use Rattle.tables.specs.Counted.{tally, Kids}
-use Rattle.tables.proofs.JaggedRows.{rows_size, rows-below, rows-few, as_groups, as_rows}
+use Rattle.std.proofs.Common.{◌≡◌, ◌+◌, ◌<◌, ℕ, length, sym, ap, subst, ◌∙◌, arith}
+use Rattle.model.specs.History.{at}
+use Rattle.tables.specs.Counted.{kids, kids_from, Placing, put_all}
+use Rattle.tables.proofs.Rooms.{kids-most}
+use Rattle.tables.proofs.Filling.{Filled, filled_start, run_placeable, filled_run}
 use Rattle.tables.proofs.children.children_of.Goals as goal
 
-pub place_all-requires : goal.place_all-requires
-place_all-requires c =
-    let a = c.args in
-    let made = c.new-parents in
-    let sound = c.requires.sound.0 in
-    record {
-      sized = omega (arith, rows_size a.heads.now a.items.now a.n sound made.result made.ensures);
-      below = rows-below a.heads.now a.items.now a.n sound made.result made.ensures;
-      room = omega (arith, rows-few a.heads.now a.items.now a.n sound made.result made.ensures);
-      few = omega arith;
-      summed = as_rows a.heads.now a.items.now a.n sound made.result made.ensures (λ pss n. Summed (λ r. tally pss r n) n a.next.now) c.requires.summed;
-    }
+pub loop-r-init : goal.loop-r-init
+loop-r-init c = let a = c.args in filled_start a.parents.now (length a.parents.now) (a.next.now, a.children.now) c.requires.summed
 
-pub returns-clause-kids : goal.returns-clause-kids
-returns-clause-kids c =
-    let a = c.args in
-    as_groups a.heads.now a.items.now a.n c.requires.sound.0 c.new-parents.result c.new-parents.ensures (λ pss n. Kids pss n c.place_all.new.children) c.place_all.ensures
+pub put_child-requires-clause-room : goal.put_child-requires-clause-room
+put_child-requires-clause-room c =
+    let l = c.loop-r in
+    let p = c.requires in
+    let pss = c.args.parents.now in
+    let n : ℕ = length pss in
+    let lt : l.r < n = omega arith in
+    let fits = kids-most pss n (omega arith) in
+    rw c.row.ensures (run_placeable pss n l.r (l.next, l.children) lt (λ q m. let b = p.below l.r q m in omega arith) (omega (arith, p.sized)) (omega (arith, p.room)) l.invariant)
+
+pub loop-r-preserved : goal.loop-r-preserved
+loop-r-preserved c =
+    let l = c.loop-r in
+    let p = c.requires in
+    let pss = c.args.parents.now in
+    let n : ℕ = length pss in
+    let put = c.put_child in
+    let lt : l.r < n = omega arith in
+    let fits = kids-most pss n (omega arith) in
+    let whole : ◌≡◌ {A = Placing} (put.new.next, put.new.children) (put_all l.r (l.next, l.children) (at pss l.r)) = put.ensures ∙ ap (put_all l.r (l.next, l.children)) c.row.ensures in
+    subst (λ (x : Placing). Filled (kids_from pss n) (λ q. kids pss q (l.r + 1)) n x) (sym whole)
+    (filled_run pss n l.r (l.next, l.children) lt (λ q m. let b = p.below l.r q m in omega arith) (omega (arith, p.sized)) (omega (arith, p.room)) l.invariant)

@@ -12,6 +12,6 @@ overflow_add-sum c = let l = c.loop-s in omega (arith, summing_room c.args.start
 pub loop-s-preserved : goal.loop-s-preserved
 loop-s-preserved c = let l = c.loop-s in summing_next c.args.starts.now l.s-index l.sum l.starts l.invariant (omega arith)
 
-pub returns-clause-summed : goal.returns-clause-summed
-returns-clause-summed c =
+pub returns : goal.returns
+returns c =
     let l = c.loop-s in summing_end c.args.starts.now l.s-index l.sum l.starts c.requires.first (omega arith) l.invariant

@@ -3,7 +3,7 @@ use Rattle.tables.proofs.Gathering.{put_dropped, put-kept}
 use Rattle.tables.proofs.groups.put_parent.Goals as goal
 
 pub returns-then-p-a : goal.returns-then-p-a
-returns-then-p-a c = put_dropped c.args.a (c.args.at, c.args.groups.now) c.args.p c.if-p-a.true
+returns-then-p-a c = put_dropped c.args.a (c.args.at, c.args.items.now) c.args.p c.if-p-a.true
 
 pub returns : goal.returns
-returns c = put-kept c.args.a (c.args.at, c.args.groups.now) c.args.p c.if-p-a.false
+returns c = put-kept c.args.a (c.args.at, c.args.items.now) c.args.p c.if-p-a.false

@@ -10,9 +10,9 @@ loop-p-preserved c =
     let l = c.loop-p in
     let e = c.put_parent-to.ensures in
     record {
-      room = omega (arith, ap (λ (s : Gathered). s.0) e, (put_count a.a (l.to, l.groups) (get_or a.ps.now l.p-index 0)).1);
-      left = ap (λ (s : Gathered). put_parents a.a s (drop (l.p-index + 1) a.ps.now)) e ∙ (puts_next a.a (l.to, l.groups) a.ps.now l.p-index (omega arith) ∙ l.invariant.left);
+      room = omega (arith, ap (λ (s : Gathered). s.0) e, (put_count a.a (l.to, l.items) (get_or a.ps.now l.p-index 0)).1);
+      left = ap (λ (s : Gathered). put_parents a.a s (drop (l.p-index + 1) a.ps.now)) e ∙ (puts_next a.a (l.to, l.items) a.ps.now l.p-index (omega arith) ∙ l.invariant.left);
     }
 
 pub returns : goal.returns
-returns c = let l = c.loop-p in sym (puts_none c.args.a (l.to, l.groups) c.args.ps.now l.p-index (omega arith)) ∙ l.invariant.left
+returns c = let l = c.loop-p in sym (puts_none c.args.a (l.to, l.items) c.args.ps.now l.p-index (omega arith)) ∙ l.invariant.left

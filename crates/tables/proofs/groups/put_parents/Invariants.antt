@@ -5,6 +5,6 @@ use Rattle.tables.proofs.groups.put_parents.Given as goal
 
 abbrev pub invariant-loop-p : goal.invariant-loop-p
 invariant-loop-p l = record {
-  room : l.to + (length l.ps - l.p-index) ≤ length l.groups;
-  left : put_parents l.a (l.to, l.groups) (drop l.p-index l.ps) ≡ put_parents l.a (l.initial.to, l.initial.groups) l.ps;
+  room : l.to + (length l.ps - l.p-index) ≤ length l.items;
+  left : put_parents l.a (l.to, l.items) (drop l.p-index l.ps) ≡ put_parents l.a (l.initial.to, l.initial.items) l.ps;
 }

@@ -1,7 +1,7 @@
 -- `tables::rows::lay` meets its contract: the rows that fit, and the tables of all runs. Assumes nothing.
-use Rattle.std.proofs.Common.{◌+◌}
-use Rattle.tables.specs.Laid.{Laid, grouped, chains_of}
+use Rattle.std.proofs.Common.{◌+◌, length}
+use Rattle.tables.specs.Laid.{Laid, chains_of}
 use Rattle.tables.proofs.rows.lay.Given as goal
 
 abbrev pub invariant-loop-r : goal.invariant-loop-r
-invariant-loop-r l = Laid (grouped l.starts l.items l.n) l.r (chains_of l.area (l.n + 1) l.tables) l.rows l.initial.rows
+invariant-loop-r l = Laid l.parents l.r (chains_of l.area (length l.parents + 1) l.tables) l.rows l.initial.rows

@@ -1,20 +1,43 @@
 -- `tables::tabling::lay` meets its contract: a range's parents, chains and rows. Assumes nothing.
-use Rattle.std.proofs.Common.{ℕ, List, subst, ◌≡◌}
-use Rattle.tables.specs.Laid.{shares, grouped, heads_in, items_in, LaidOut}
+use Rattle.std.proofs.Common.{◌≡◌, ◌+◌, ◌≤◌, List, ℕ, length, sym, ap, subst, ◌∙◌, arith}
+use Rattle.tables.specs.Laid.{shares, grouped, LaidOut}
+use Rattle.tables.proofs.JaggedRows.{lies_of, rows_size, rows-below, rows-fit, rows_are}
+use Rattle.tables.proofs.Gathering.{shares_same}
 use Rattle.tables.proofs.tabling.lay.Goals as goal
 
-pub lay-requires-clause-sound : goal.lay-requires-clause-sound
-unfolding heads_in items_in
-lay-requires-clause-sound c = rw (c.split_at.ensures.front, c.split_at.ensures.back) c.gather.ensures.sound_2
+pub new-all-requires : goal.new-all-requires
+new-all-requires c = lies_of c.args.heads.now c.args.parents.now (c.args.a + c.args.n) c.requires.sound
 
-pub returns-clause-range_laid : goal.returns-clause-range_laid
-unfolding heads_in items_in
-returns-clause-range_laid c =
+pub gather-requires-clause-runs : goal.gather-requires-clause-runs
+gather-requires-clause-runs c =
+    let a = c.args in (omega (arith, c.requires.sound.few), omega (arith, rows_size a.heads.now a.parents.now (a.a + a.n) c.requires.sound c.new-all.result c.new-all.ensures))
+
+pub gather-requires-clause-below : goal.gather-requires-clause-below
+gather-requires-clause-below c = let a = c.args in rows-below a.heads.now a.parents.now (a.a + a.n) c.requires.sound c.new-all.result c.new-all.ensures
+
+pub gather-requires-clause-few : goal.gather-requires-clause-few
+gather-requires-clause-few c =
+    let a = c.args in omega (arith, c.requires.few, rows-fit a.heads.now a.parents.now (a.a + a.n) c.requires.sound c.new-all.result c.new-all.ensures)
+
+pub rows-own-requires : goal.rows-own-requires
+rows-own-requires c = lies_of _ _ c.args.n c.gather.ensures.sound
+
+pub lay-requires-clause-below : goal.lay-requires-clause-below
+lay-requires-clause-below c = rows-below _ _ c.args.n c.gather.ensures.sound c.rows-own.result c.rows-own.ensures.rows
+
+pub lay-requires-clause-row : goal.lay-requires-clause-row
+lay-requires-clause-row c = omega (arith, rows_size _ _ c.args.n c.gather.ensures.sound c.rows-own.result c.rows-own.ensures.rows)
+
+pub returns : goal.returns
+returns c =
     let a = c.args in
-    let parts = c.split_at in
-    let same : grouped parts.result.0.now parts.result.1.now a.n ≡ shares a.heads.now a.parents.now a.a a.n = rw (parts.ensures.front, parts.ensures.back) c.gather.ensures.n_after in
-    record {
-      out = subst (λ (l : List (List ℕ)). LaidOut l a.n a.rows.now c.lay.result c.lay.new.rows c.lay.new.tables) same c.lay.ensures.laid_out;
-      groups_are = c.gather.ensures.n_after;
-      sound = c.gather.ensures.sound_2;
-    }
+    let s = c.gather.ensures.sound in
+    let same : grouped c.gather.new.self.starts c.gather.new.self.items a.n ≡ shares a.heads.now a.parents.now a.a a.n =
+    c.gather.ensures.grouped ∙ shares_same a.heads.now a.parents.now c.new-all.result a.a a.n (a.a + a.n) c.new-all.ensures (omega arith) in
+    let own : c.rows-own.result ≡ shares a.heads.now a.parents.now a.a a.n = rows_are _ _ a.n s c.rows-own.result c.rows-own.ensures.rows ∙ same in
+    let out = subst (λ (l : List (List ℕ)). LaidOut l (length l) a.area.now c.lay.result c.lay.new.rows c.lay.new.tables) own c.lay.ensures in
+    record { range_laid = record {
+      out = subst (λ (k : ℕ). LaidOut (shares a.heads.now a.parents.now a.a a.n) k a.area.now c.lay.result c.lay.new.rows c.lay.new.tables) (sym (ap length own) ∙ rows_size _ _ a.n s c.rows-own.result c.rows-own.ensures.rows) out;
+      groups_are = same;
+      sound = s;
+    } }

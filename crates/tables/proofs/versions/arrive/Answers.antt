@@ -1,5 +1,5 @@
 -- `tables::versions::arrive` meets its contract: how far a run and its history reach. Assumes nothing.
-use Rattle.std.proofs.Common.{rules, arith}
+use Rattle.std.proofs.Common.{arith}
 use Rattle.tables.proofs.Reaching.{arrived-set}
 use Rattle.tables.proofs.versions.arrive.Goals as goal
 
@@ -7,4 +7,4 @@ pub returns : goal.returns
 returns c =
     let a = c.args in
     let copied = c.copy_row in
-    (arrived-set a.row.now copied.new.current a.chain a.place a.n (omega arith) copied.ensures.0, search rules)
+    arrived-set a.row.now copied.new.current a.chain a.place a.n (omega arith) copied.ensures

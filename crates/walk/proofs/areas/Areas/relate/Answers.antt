@@ -1,33 +1,31 @@
--- `walk::areas::Areas::relate`: no run, or children and then weights.
+-- `walk::areas::Areas::relate`: children and then weights.
 use Rattle.std.proofs.Common.{arith}
-use Rattle.walk.proofs.Kinship.{last_fits, related_none, weighable, related}
+use Rattle.tables.proofs.JaggedRows.{rows-below, rows-fit}
+use Rattle.walk.proofs.Kinship.{kids, weighable}
 use Rattle.walk.proofs.areas.Areas.relate.Goals as goal
 
-pub returns-then-n-eq0-clause-related : goal.returns-then-n-eq0-clause-related
-returns-then-n-eq0-clause-related c = related_none c.args.starts.now c.args.n c.args.self.now.groups c.requires _ _ c.if-n-eq0.true
+pub children-requires-clause-below : goal.children-requires-clause-below
+children-requires-clause-below c =
+    let gs = c.args.self.now.parents in
+    rows-below gs.starts gs.items c.args.n c.requires.sound c.rows-parents.result c.rows-parents.ensures.rows
 
-pub children-requires : goal.children-requires
-children-requires c = let a = c.args in
-    let p = c.requires in (
-      p.sound,
-      omega (arith, p.sound.few),
-      omega (arith, p.sound.few),
-      omega (arith, last_fits a.n a.self.now.groups p.sound c.if-n-eq0.false),
-      omega arith,
+pub children-requires-clause-few : goal.children-requires-clause-few
+children-requires-clause-few c =
+    let gs = c.args.self.now.parents in
+    omega (arith, c.rows-parents.ensures.few, rows-fit gs.starts gs.items c.args.n c.requires.sound c.rows-parents.result c.rows-parents.ensures.rows)
+
+pub weights_of-requires : goal.weights_of-requires
+weights_of-requires c =
+    let a = c.args in (
+      omega (arith, c.requires.sound.few),
+      omega (arith, c.requires.sound.few),
+      weighable a.starts.now a.n a.self.now.parents c.requires c.rows-parents.result c.rows-parents.ensures.rows _ _ c.children.ensures,
     )
 
-pub weights-requires : goal.weights-requires
-weights-requires c =
-    let a = c.args in
-    let p = c.requires in
-    record {
-      tables = omega (arith, p.sound.few);
-      covers = omega (arith, p.sound.few);
-      weighable = weighable a.starts.now a.n a.self.now.groups p _ c.children.new.children c.children.ensures.kids_tabled;
-    }
-
 pub returns-clause-related : goal.returns-clause-related
-returns-clause-related c = let a = c.args in
-    let h = c.children.ensures in
-    let w = c.weights.ensures in
-    (related a.starts.now a.n a.self.now.groups c.requires a.self.now.tables c.children.new.children c.children.new.tables c.weights.new.tables h.kids_tabled w.weighted h.kept w.kept).0
+returns-clause-related c =
+    let a = c.args in
+    record {
+      children = kids a.starts.now a.n a.self.now.parents c.requires c.rows-parents.result c.rows-parents.ensures.rows _ _ c.children.ensures;
+      weights = c.weights_of.ensures;
+    }
