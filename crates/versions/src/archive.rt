@@ -151,7 +151,8 @@ fn point_runs(g: &HeldGraph) -> Kept
     let firsts = first_children(parents);
     let counts = head_counts(&firsts, parents);
     let seen = seen_lengths(&firsts, &counts, &g.graph.starts, parents);
-    graph::marks::marks_of(&g.graph.starts, &seen, g.graph.run_count)
+    let n = g.graph.run_count;
+    graph::marks::marks_of(&g.graph.starts[..n + 1], &seen[..n])
 }
 
 // The archive points, rising; or why they are not told.

@@ -21,7 +21,8 @@ use Rattle.model.proofs.RoomsReplay.{Laid, cut_laid}
 use Rattle.graph.proofs.Views.{facts, runs-view}
 use Rattle.std.specs.Simd.{first_chunks}
 use Rattle.model.specs.History.{at}
-use Rattle.walk.specs.CutRecords.{kind_of, range_by, range_in, ranges_in, Tiled}
+use Rattle.graph.specs.Kinds.{kind_of}
+use Rattle.walk.specs.CutRecords.{range_by, range_in, ranges_in, Tiled}
 use Rattle.walk.proofs.Arrays.{arrays_of}
 use Rattle.std.specs.Prelude.{Ok, Err}
 

@@ -6,8 +6,8 @@ use Rattle.model.specs.History.{at}
 use Rattle.model.specs.Choice.{Range}
 use Rattle.moves.specs.declared.writing.Kind.TheVariants.{Open}
 use Rattle.moves.specs.Emit.{Writing, going, step_of, emit, emit_one, applies}
-use Rattle.walk.specs.declared.replaying.RangeKind.{RangeKind}
-use Rattle.walk.specs.declared.replaying.RangeKind.TheVariants.{Linear, Concurrent}
+use Rattle.graph.specs.declared.cut.RangeKind.{RangeKind}
+use Rattle.graph.specs.declared.cut.RangeKind.TheVariants.{Linear, Concurrent}
 use Rattle.walk.specs.Walked.{State, walked_in, opening, open_of, replay_on, replay_all}
 use Rattle.walk.specs.CutRecords.{range_by, range_in, ranges_in}
 use Rattle.walk.proofs.Ranging.{on_full, on_open, stays_refused}

@@ -3,13 +3,10 @@ use Rattle.std.specs.Prelude.{cond, List, map, ℕ, ◌≤◌, ◌<◌, length, 
 use Rattle.model.specs.History.{at}
 use Rattle.model.specs.Cut.{HistoryRange, linear, concurrent}
 use Rattle.model.specs.declared.record.CausalGraph.{CausalGraph}
-use Rattle.walk.specs.declared.replaying.RangeKind.{RangeKind}
-use Rattle.walk.specs.declared.replaying.RangeKind.TheVariants.{Linear, Concurrent}
+use Rattle.graph.specs.declared.cut.RangeKind.{RangeKind}
+use Rattle.graph.specs.declared.cut.RangeKind.TheVariants.{Linear, Concurrent}
+use Rattle.graph.specs.Kinds.{kind_of}
 use Rattle.walk.specs.Ranges.{ArraysOf}
-
--- The kind that a word stands for
-unfoldable pub kind_of : ℕ → RangeKind
-kind_of word = cond (eqb word 0) Linear Concurrent
 
 -- A range by its kind and its runs, and by a record
 unfoldable pub range_by : RangeKind → ℕ → ℕ → HistoryRange

@@ -9,32 +9,10 @@ ghost use Rattle.walk.specs.CutRecords.{range_by, ranges_in, Tiled};
 use crate::areas::Areas;
 use crate::walking;
 use crate::walking::Bounds;
+use graph::cut::RangeKind;
 use graph::held::HeldGraph;
 use model::{CausalGraph, EventRunIndex, MAX_RUNS, Refusal, Walked};
 use moves::writing::{Kind, Steps};
-
-// A range of the cut is applied in order, or walked.
-#[derive(Clone, Copy)]
-enum RangeKind {
-    Linear,
-    Concurrent,
-}
-
-// By the word that stands for it in a cut: 0 Linear, any other Concurrent.
-impl From<u32> for RangeKind {
-    ghost use Rattle.std.specs.Prelude.{◌≡◌};
-    ghost use Rattle.walk.specs.CutRecords.{kind_of};
-
-    ghost from_gives = { λ word kind. kind ≡ kind_of word };
-
-    #[tactic(auto, unfolding(crate::specs::CutRecords::kind_of))]
-    fn from(word: u32) -> RangeKind {
-        match word {
-            0 => RangeKind::Linear,
-            _ => RangeKind::Concurrent,
-        }
-    }
-}
 
 // One range of the cut: Open, then its runs in order or its walk.
 fn replay_next(

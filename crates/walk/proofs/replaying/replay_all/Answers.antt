@@ -3,7 +3,7 @@ use Rattle.std.proofs.Common.{ap, sym, ◌∙◌, get_or, refl, []}
 use Rattle.std.proofs.lemmas.Result.{err_from_is_err_and}
 use Rattle.model.specs.History.{at}
 use Rattle.moves.specs.Emit.{so_far}
-use Rattle.walk.specs.declared.replaying.RangeKind.{RangeKind}
+use Rattle.graph.specs.declared.cut.RangeKind.{RangeKind}
 use Rattle.walk.specs.Ranges.{range_at}
 use Rattle.walk.specs.Walked.{replay_on}
 use Rattle.walk.specs.CutRecords.{range_by, range_in}
