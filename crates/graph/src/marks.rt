@@ -35,6 +35,7 @@ pub fn marks_of<'a>(starts: &'a [u32], seen: &'a [u32]) -> Kept
 }
 
 // Puts the marks that a record's starts and seen lengths give.
+#[tactic(auto, unfolding(crate::specs::Loops::marked, crate::specs::Loops::with_parts))]
 pub(crate) fn mark(g: &mut CausalGraph)
     requires { g.old.run_count ≤ max_runs }
     ensures { g.new ≡ marked g.old }
