@@ -67,10 +67,7 @@ fn cut_on(
 fn mark_at(marks: &[u32], i: usize, end: EventRunIndex) -> EventRunIndex
     ensures { result.0 ≡ get_or marks.now i end.0 }
 {
-    match marks.get(i) {
-        Some(m) => EventRunIndex(*m),
-        None => end,
-    }
+    marks.get(i).map_or(end, |m| EventRunIndex(*m))
 }
 
 // Where a run stands among the marks, if it does.

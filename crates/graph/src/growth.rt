@@ -94,6 +94,7 @@ fn lower_all(g: &HeldGraph, seen: EventIndex, from: EventRunIndex) -> EventRunIn
 }
 
 // The record with the new run after the others.
+#[tactic(auto, unfolding(crate::specs::Loops::assembled, crate::specs::Loops::marked, crate::specs::Loops::with_parts))]
 fn assemble(
     g: &HeldGraph,
     end: EventIndex,

@@ -75,7 +75,7 @@ pub(crate) fn containing_in(starts: &[u32], event: EventIndex) -> Containing
     requires rises { rising starts.now ≡ true }
     ensures { result ≡ containing_at (side_in starts.now (length starts.now - 1) event.0) }
 {
-    let Some(place) = starts.iter().rposition(|s| *s <= event.0) else {
+    let Some(place) = starts.iter().rposition(|s| EventIndex(*s) <= event) else {
         return Containing::Before;
     };
     if place + 1 == starts.len() {

@@ -1,5 +1,5 @@
 // The marks of a graph, in two linear passes.
-ghost use Rattle.std.specs.Prelude.{◌≡◌, ℕ, ◌+◌, ◌<◌, ◌≤◌, get_or, length, drop};
+ghost use Rattle.std.specs.Prelude.{◌≡◌, ℕ, ◌<◌, ◌≤◌, get_or, length, drop};
 ghost use Rattle.model.specs.Limits.{max_runs};
 ghost use Rattle.graph.specs.Loops.{lowest, marks_of, marked};
 
@@ -20,9 +20,9 @@ fn lows(seen: &[u32]) -> [u32; MAX_RUNS]
     a
 }
 
-// The runs of which every run from it on has seen at least its start; the end stands after the starts.
+// The runs of which every run from it on has seen at least its start. The end stands after the starts.
 pub fn marks_of<'a>(starts: &'a [u32], seen: &'a [u32]) -> Kept
-    requires one_more { length starts.now ≡ length seen.now + 1 }
+    requires starts_cover { length seen.now < length starts.now }
     requires few { length seen.now ≤ max_runs }
     ensures { result ≡ marks_of 0 starts.now seen.now }
 {
@@ -35,6 +35,7 @@ pub fn marks_of<'a>(starts: &'a [u32], seen: &'a [u32]) -> Kept
 }
 
 // Puts the marks that a record's starts and seen lengths give.
+#[tactic(auto, unfolding(crate::specs::Loops::marked, crate::specs::Loops::with_parts))]
 pub(crate) fn mark(g: &mut CausalGraph)
     requires { g.old.run_count ≤ max_runs }
     ensures { g.new ≡ marked g.old }

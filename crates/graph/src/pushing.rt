@@ -53,15 +53,14 @@ fn count_parent(g: &HeldGraph, t: ParentCounts, p: EventIndex) -> ParentCounts
             let next = run.0 as usize + 1;
             let ended = is_next(p.0, g.graph.starts[next]);
             ParentCounts {
-                unknown: t.unknown,
                 held: t.held + 1,
                 splits: t.splits + usize::from(!ended),
+                ..t
             }
         }
         Containing::Unknown => ParentCounts {
             unknown: t.unknown + 1,
-            held: t.held,
-            splits: t.splits,
+            ..t
         },
         Containing::Before => t,
     }

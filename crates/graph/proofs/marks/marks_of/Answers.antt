@@ -22,4 +22,4 @@ pub returns : goal.returns
 returns c =
     let a = c.args in
     let e : c.loop-i.i ≡ length a.seen.now = omega arith in
-    c.loop-i.invariant ∙ ap (marked_by a.starts.now a.seen.now) e ∙ marked_end a.starts.now a.seen.now c.requires.one_more
+    c.loop-i.invariant ∙ ap (marked_by a.starts.now a.seen.now) e ∙ marked_end a.starts.now a.seen.now c.requires.starts_cover
