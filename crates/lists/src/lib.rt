@@ -6,7 +6,7 @@ mod kept;
 ghost use Rattle.std.specs.Prelude.{◌≡◌, [], true, not, ◌&&◌, ℕ, ◌+◌, ◌<◌, ◌≤◌, ◌^◌, ◌-◌, get_or, length, take};
 ghost use Rattle.lists.specs.Lists.{rising, below, mem, filter};
 ghost use Rattle.lists.specs.Areas.{zeros, pad, climbs, groups, part};
-ghost use Rattle.lists.specs.Scans.{max_kept, last_at_most, grow, insert, groups_fit, between};
+ghost use Rattle.lists.specs.Scans.{max_kept, grow, insert, groups_fit, between};
 
 pub use kept::{Kept, MAX_KEPT};
 
@@ -47,13 +47,6 @@ pub fn all_below(s: &[u32], limit: u32) -> bool
         is_below &= *x < limit;
     }
     is_below
-}
-
-// The last place whose number is at most e, or 0.
-pub fn last_at_most(s: &[u32], e: u32) -> usize
-    ensures { result ≡ last_at_most s.now e (length s.now) }
-{
-    s.iter().rposition(|x| *x <= e).unwrap_or(0)
 }
 
 // Whether the numbers never fall, and the last of them is `last`. A scan of its own: one for this and `is_rising` would take the test of two
