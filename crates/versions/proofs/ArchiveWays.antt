@@ -33,7 +33,6 @@ use Rattle.versions.proofs.HeadCounting.{all-heads, count-is, count_fits}
 use Rattle.versions.proofs.ByHeads.{last_mem, last_most, parted_iff}
 use Rattle.versions.specs.Words.{fitting_put}
 use Rattle.versions.proofs.Writing.{records_put}
-use Rattle.versions.proofs.Passes.{few_pass}
 
 module _ (g : CausalGraph) (held : Held g) where
   abbrev G : Graph
@@ -163,9 +162,6 @@ module _ (g : CausalGraph) (held : Held g) where
     points-below k d lt =
         let m : mem (get_or points k d) point_runs ≡ true = sym (ap (mem (get_or points k d)) found) ∙ get_d_mem points k d lt in
         omega (arith, ((passing (λ r. seen_by_later G (start G r)) (runs G) (get_or points k d)).0 m).0, runs-view g held, (facts g held).runs, (facts g held).sized.starts)
-
-    pub points_few : length points ≤ 512
-    points_few = omega (arith, ap length found, few_pass (λ r. seen_by_later G (start G r)) (runs G), runs-view g held, (facts g held).runs)
 
     starts-same : (ms : List ℕ) → map (λ m. get_or g.starts m 0) ms ≡ map (start G) ms
     unfolding start

@@ -1,6 +1,6 @@
 -- Flags of some runs, and a flag as a truth. Assumes nothing.
-use Rattle.std.proofs.Common.{◌≡◌, refl, ap, ◌∙◌, ◌⊎◌, inl, inr, Bool, true, false, not, cond, ◌&&◌, ◌||◌, List, [], ◌∷◌, ℕ, zero, suc, ◌<◌, arith, length, get_or, replicate, set, length-set, get_or-set_same}
-use Rattle.std.proofs.Common.{get_or-set_other, eqb, eq-eqb, ne_eqb}
+use Rattle.std.proofs.Common.{◌≡◌, refl, ap, ◌∙◌, ◌⊎◌, inl, inr, Bool, true, false, not, cond, ◌&&◌, ◌||◌, List, [], ◌∷◌, ℕ, zero, suc, ◌<◌, arith, length, get_or, replicate, set, length-set}
+use Rattle.std.proofs.Common.{get_or-set_same, get_or-set_other, eqb, eq-eqb, ne_eqb}
 use Rattle.lists.specs.Lists.{mem}
 use Rattle.lists.proofs.Truth.{eq_or-not, false_true}
 use Rattle.versions.specs.Flags.{flag_all}

@@ -1,5 +1,6 @@
 -- The wanted parents by runs are those of the definition, and so is refusal 17. Assumes nothing.
-use Rattle.std.proofs.Common.{◌≡◌, refl, sym, ap, ◌∙◌, ◌⊎◌, inl, inr, ◌↔◌, Bool, true, false, not, ◌||◌, List, map, ℕ, zero, suc, ◌-◌, ◌≤◌, ◌<◌, arith, length, get_or, eq-eqb, eqb-true, Some, None, is_some}
+use Rattle.std.proofs.Common.{◌≡◌, refl, sym, ap, ◌∙◌, ◌⊎◌, inl, inr, ◌↔◌, Bool, true, false, not, ◌||◌, List, map, ℕ, zero, suc, ◌-◌, ◌≤◌, ◌<◌, arith, length, get_or, eq-eqb, eqb-true, Some}
+use Rattle.std.proofs.Common.{None, is_some}
 use Rattle.std.proofs.lemmas.List.{length-replicate}
 use Rattle.lists.specs.Lists.{all, filter, from, upto, mem, rising}
 use Rattle.lists.proofs.Truth.{eq_or-not, false_true, bool_iff, not_so, and_left, and_right, and_both, or_cases, or_left, or_right}

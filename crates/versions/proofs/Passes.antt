@@ -1,6 +1,6 @@
 -- The loops of the passes that flag runs, turn by turn. Assumes nothing.
-use Rattle.std.proofs.Common.{◌≡◌, refl, sym, ap, Bool, true, false, not, cond, ◌||◌, List, [], ◌∷◌, ◌++◌, length-append, ℕ, zero, suc, ◌+◌, ◌-◌, ◌<◌, ◌≤◌, add-one, arith, length, get_or, set, take, drop}
-use Rattle.std.proofs.Common.{length-take, drop-cons, get_or-take, ltb, ltb-true}
+use Rattle.std.proofs.Common.{◌≡◌, refl, sym, ap, Bool, true, false, not, cond, ◌||◌, List, [], ◌∷◌, ◌++◌, length-append, ℕ, zero, suc, ◌+◌, ◌-◌, ◌<◌, ◌≤◌, add-one, arith, length, get_or, set}
+use Rattle.std.proofs.Common.{take, drop, length-take, drop-cons, get_or-take, ltb, ltb-true}
 use Rattle.std.proofs.lemmas.List.{drop_all}
 use Rattle.std.specs.List.{list_any, All}
 use Rattle.lists.specs.Lists.{any, all, filter, from, upto, below}

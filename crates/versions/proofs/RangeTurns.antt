@@ -1,7 +1,8 @@
 -- The loops behind the wanted parents, turn by turn, and whether words are ranges. Assumes nothing.
 use Rattle.std.proofs.Common.{◌≡◌, refl, sym, ap, ◌∙◌, ◌⊎◌, inl, inr, Bool, true, false, cond, List, [], ◌∷◌, ◌++◌, map, ℕ, zero, suc, ◌+◌, ◌-◌, ◌≤◌, ◌<◌, add-one, arith, length, get_or, take}
-use Rattle.std.proofs.Common.{drop, length-append, get_or-take, get_or-drop, take_all, length-drop, take_while, leb, leb-false, Some, None, is_some}
+use Rattle.std.proofs.Common.{drop, get_or-take, get_or-drop, take_all, length-drop, take_while, leb, leb-false, Some, None, is_some}
 use Rattle.std.specs.List.{prefix_len}
+use Rattle.std.proofs.lemmas.List.{map-append, length-map}
 use Rattle.std.proofs.lemmas.List.Folds.{length-prefix_len}
 use Rattle.lists.specs.Lists.{bit, all, filter, count, from, upto, rising}
 use Rattle.lists.proofs.Truth.{false_true, not_so, and_false, and_true}
@@ -15,6 +16,7 @@ use Rattle.versions.specs.Flags.{flag_all}
 use Rattle.versions.specs.Ranges.{End, end_number, is_odd, place_of, clear_at, end_at, clear_in, end_in, flag_marked, is_top, tops, Starts}
 use Rattle.versions.proofs.RangeWords.{ranges_even, paired_even, none-at_most, place_most, place_mono}
 use Rattle.versions.proofs.Flagging.{decided}
+use Rattle.versions.proofs.Passes.{few_pass}
 
 -- The words' place: from a place that is not beyond it on, as many words more as are at most the event
 prefix_on : (ws : List ℕ) → rising ws ≡ true → (e k : ℕ) → k ≤ place_of ws e → k + prefix_len (λ w. leb w e) (drop k ws) ≡ place_of ws e
@@ -99,24 +101,15 @@ module _ (flags : List Bool) (ends : List End) where
 
   tops_next : (r : ℕ) → tops flags ends (suc r) ≡ cond (is_top flags ends r) (tops flags ends r ++ last_of r ∷ []) (tops flags ends r)
   unfolding tops last_of
-  tops_next r = rw (upto_snoc r, filter_snoc (is_top flags ends) (upto r) r) (go (is_top flags ends r))
+  tops_next r = rw (upto_snoc r, filter_snoc (is_top flags ends) (upto r) r) (go (is_top flags ends r) (filter (is_top flags ends) (upto r)))
     where
-      mapped : (xs : List ℕ) → map (λ x. end_number (get_or ends x None) - 1) (xs ++ r ∷ []) ≡ map (λ x. end_number (get_or ends x None) - 1) xs ++ (end_number (get_or ends r None) - 1) ∷ []
-      mapped [] = refl
-      mapped (x ∷ xs) = ap (λ (l : List ℕ). (end_number (get_or ends x None) - 1) ∷ l) (mapped xs)
-
-      go : (t : Bool) → map (λ x. end_number (get_or ends x None) - 1) (cond t (filter (is_top flags ends) (upto r) ++ r ∷ []) (filter (is_top flags ends) (upto r))) ≡
-          cond t (map (λ x. end_number (get_or ends x None) - 1) (filter (is_top flags ends) (upto r)) ++ (end_number (get_or ends r None) - 1) ∷ []) (map (λ x. end_number (get_or ends x None) - 1) (filter (is_top flags ends) (upto r)))
-      go true = mapped (filter (is_top flags ends) (upto r))
-      go false = refl
+      go : (t : Bool) (xs : List ℕ) → map last_of (cond t (xs ++ r ∷ []) xs) ≡ cond t (map last_of xs ++ last_of r ∷ []) (map last_of xs)
+      go true xs = map-append last_of xs (r ∷ [])
+      go false xs = refl
 
   pub tops-few : (r : ℕ) → length (tops flags ends r) ≤ r
-  tops-few zero = unfold tops upto from filter in omega arith
-  tops-few (suc r) = rw (tops_next r) (go (is_top flags ends r) (tops-few r))
-    where
-      go : (t : Bool) → length (tops flags ends r) ≤ r → length (cond t (tops flags ends r ++ last_of r ∷ []) (tops flags ends r)) ≤ suc r
-      go true h = simp length-append (omega arith)
-      go false h = omega arith
+  unfolding tops last_of
+  tops-few r = rw (length-map (filter (is_top flags ends) (upto r)) last_of) (few_pass (is_top flags ends) r)
 
   pub tops_start : [] ≡ tops flags ends 0
   unfolding tops upto from filter

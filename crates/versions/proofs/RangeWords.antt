@@ -1,6 +1,6 @@
 -- What rising words mark, a first and an end in turn: an event exactly if those at most the event are odd in number. Assumes nothing.
-use Rattle.std.proofs.Common.{◌≡◌, refl, sym, ap, ◌∙◌, ◌⊎◌, inl, inr, ◌↔◌, Bool, true, false, not, cond, ◌&&◌, ◌||◌, List, [], ◌∷◌, ℕ, suc, ◌+◌, ◌-◌, ◌%◌, ◌≤◌, ◌<◌, min, arith, length, get_or, Some, None, is_some}
-use Rattle.std.proofs.Common.{leb, eqb, ltb-true, leb-true, lt-ltb, le-leb, eq-eqb, ne_eqb, eqb-true, leb-false}
+use Rattle.std.proofs.Common.{◌≡◌, refl, sym, ap, ◌∙◌, ◌⊎◌, inl, inr, ◌↔◌, Bool, true, false, not, cond, ◌&&◌, ◌||◌, List, [], ◌∷◌, ℕ, suc, ◌+◌, ◌-◌, ◌%◌, ◌≤◌, ◌<◌, min, arith, length, get_or}
+use Rattle.std.proofs.Common.{Some, None, is_some, leb, eqb, ltb-true, leb-true, lt-ltb, le-leb, eq-eqb, ne_eqb, eqb-true, leb-false}
 use borrow.Author.Tests.{lt-leb}
 use Rattle.lists.specs.Lists.{bit, count, from, mem, rising}
 use Rattle.lists.proofs.Truth.{eq_or-not, lt_or_le, false_true, bool_iff, not_so, and_left, and_right, or_cases, or-first, or-last}

@@ -1,5 +1,6 @@
 -- What the passes find are the wanted parents, and written they are what the call's definition says. Assumes nothing.
-use Rattle.std.proofs.Common.{◌≡◌, refl, sym, ap, ◌∙◌, Bool, true, false, not, cond, ◌&&◌, ◌||◌, List, [], ◌∷◌, ltb, map, ℕ, suc, ◌+◌, ◌-◌, ◌≤◌, ◌<◌, arith, length, get_or, take, length-take, get_or-take, None, is_some}
+use Rattle.std.proofs.Common.{◌≡◌, refl, sym, ap, ◌∙◌, Bool, true, false, not, cond, ◌&&◌, ◌||◌, List, [], ◌∷◌, ltb, map, ℕ, suc, ◌+◌, ◌-◌, ◌≤◌, ◌<◌, arith, length, get_or, take, length-take}
+use Rattle.std.proofs.Common.{get_or-take, None, is_some}
 use Rattle.lists.specs.Lists.{all, upto, mem}
 use Rattle.lists.specs.Areas.{over}
 use Rattle.lists.proofs.Truth.{false_true, not_so}
