@@ -122,7 +122,7 @@ impl Waits {
         }
     }
 
-    // The runs from a up to e, in turn.
+    // The runs from a up to e, in turn. Beside `wake_all`: a range of numbers stands in no slice, and a list of them would be made.
     fn wake_range(&mut self, a: u32, e: u32)
         ensures { self.new ≡ wake_all self.old (from a (e - a)) }
     {

@@ -7,7 +7,7 @@ use Rattle.walk.proofs.areas.Areas.measure.Goals as goal
 
 pub sizes_of-requires : goal.sizes_of-requires
 sizes_of-requires c =
-    let a = c.args in omega (arith, ap length c.rows-rows.ensures, rows-number a.self.now.chains.row_starts a.rows.now a.n, c.requires.rows.few)
+    let a = c.args in omega (arith, ap length c.rows-rows.ensures, rows-number a.self.now.chains.row_starts a.rows.now a.n, c.requires.1.rows.few)
 
 pub returns-clause-measured : goal.returns-clause-measured
 returns-clause-measured c =
