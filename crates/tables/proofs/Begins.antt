@@ -5,7 +5,7 @@ use Rattle.std.proofs.Math.Seq.{paste, take-length}
 use Rattle.std.proofs.lemmas.Slice.{put_mid-paste}
 use lib.ListN.{get_or-eq_default}
 use Rattle.lists.proofs.Truth.{lt_or_le}
-use Rattle.tables.specs.Indexed.{sum_below, Summed, Bounded}
+use Rattle.tables.specs.Indexed.{Summed, Bounded}
 use Rattle.tables.proofs.Counting.{sum_less}
 use Rattle.tables.proofs.Summing.{sum_eq}
 

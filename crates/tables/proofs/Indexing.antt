@@ -112,9 +112,6 @@ module _ (pss : List (List ℕ)) (st : Chains) (area area₀ : List ℕ) (L : La
     before_at : (c k : ℕ) → c < length C → k ≤ length (at C c) → get_or e (get_or b c 0 + k) 0 ≡ get_or e (get_or b c 0) 0 + sum (size_in starts) (take k (at C c))
     before_at c k cl kl = stretch_sum e m (size_in starts) n (get_or b c 0) k (at C c) I.before (λ i l. member-at c i cl l) kl (begins_fit c cl)
 
-    chains_summed : Bounded (2 ^ 41) e → Sums C (size_in starts) b e
-    chains_summed small = record { along = before_at; small = small }
-
     chains_summed_first : Sums C (size_in starts) b (take (length pss + 1) e)
     chains_summed_first = record {
       along = λ c k cl kl.
@@ -142,11 +139,6 @@ module _ (pss : List (List ℕ)) (a : Area) (tables : ChainTables) (area area₀
     pub laid_listed : Listed chains b m
     unfolding chains_of
     laid_listed = chains-listed pss (chains_of a w tables) area area₀ L few starts b m e I
-
-    -- the sums, in an area that is bounded
-    pub laid_summed : Bounded (2 ^ 41) e → Sums chains (size_in starts) b e
-    unfolding chains_of
-    laid_summed small = chains_summed pss (chains_of a w tables) area area₀ L few starts b m e I small
 
     -- the sums, cut to their places
     pub laid_summed_first : Sums chains (size_in starts) b (take (length pss + 1) e)

@@ -1,9 +1,8 @@
 -- Prefix sums and scattered places, written one by one. Assumes nothing.
-use Rattle.std.proofs.Common.{◌≡◌, refl, sym, ap, ap₂, ◌∙◌, ◌⊎◌, inl, inr, List, [], ◌∷◌, ℕ, zero, suc, ◌+◌, ◌≤◌, ◌<◌, arith, add-one, length, get_or, take, set, length-set, get_or-set_same}
+use Rattle.std.proofs.Common.{◌≡◌, refl, sym, ap, ap₂, ◌∙◌, ◌⊎◌, inl, inr, List, [], ◌∷◌, ℕ, zero, suc, ◌+◌, ◌≤◌, ◌<◌, arith, add-one, length, get_or, take, set, get_or-set_same}
 use Rattle.std.proofs.Common.{get_or-set_other, get_or-take, length-take-le}
-use lib.ListN.{get_or-eq_default}
 use Rattle.lists.specs.Lists.{sum, from}
-use Rattle.lists.proofs.Truth.{lt_or_le, eq_or-not}
+use Rattle.lists.proofs.Truth.{eq_or-not}
 use Rattle.model.specs.History.{at}
 use Rattle.tables.specs.Indexed.{sum_below, Summed}
 
@@ -22,15 +21,6 @@ pub sums-start : (f : ℕ → ℕ) (out : List ℕ) → get_or out 0 0 ≡ 0 →
 unfolding sum_below
 sums-start f out e zero le = e
 sums-start f out e (suc k) le = absurd (omega arith)
-
--- A bounded list, one place set
-pub bound_next : (out : List ℕ) (c v b : ℕ) → ((k : ℕ) → get_or out k 0 ≤ b) → v ≤ b → (k : ℕ) → get_or (set out c v) k 0 ≤ b
-bound_next out c v b old e k = go (eq_or-not k c) (lt_or_le c (length out))
-  where
-    go : (k ≡ c) ⊎ (k ≡ c → ⊥) → (c < length out) ⊎ (length out ≤ c) → get_or (set out c v) k 0 ≤ b
-    go (inl q) (inl l) = rw (q, get_or-set_same out c v 0 l) e
-    go (inl q) (inr l) = rw (get_or-eq_default (set out c v) 0 {n = k} (omega (arith, length-set out c v))) (omega arith)
-    go (inr n) l = rw (get_or-set_other out c k v 0 n) (old k)
 
 -- its first words, one more set
 pub bound_more : (out : List ℕ) (c v b : ℕ) → c + 1 < length out → ((k : ℕ) → k ≤ c → get_or out k 0 ≤ b) → v ≤ b → (k : ℕ) → k ≤ c + 1 → get_or (set out (c + 1) v) k 0 ≤ b

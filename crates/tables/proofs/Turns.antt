@@ -1,6 +1,6 @@
 -- Turns of the loops that make a run's row, and of a run that is laid. Assumes nothing.
-use Rattle.std.proofs.Common.{◌≡◌, refl, sym, ap, ap₂, ◌∙◌, true, false, List, [], ◌∷◌, ◌++◌, ℕ, zero, suc, ◌+◌, ◌-◌, ◌≤◌, ◌<◌, max, add-one, arith, length, get_or, take, drop, set}
-use Rattle.std.proofs.Common.{drop_of_length-le, take-append-drop, drop-cons, take-suc-set, drop-set-lt, ltb, lt-ltb, le-ltb, eq-eqb, ne_eqb}
+use Rattle.std.proofs.Common.{◌≡◌, refl, sym, ap, ap₂, ◌∙◌, true, false, List, [], ◌∷◌, ◌++◌, ℕ, zero, suc, ◌+◌, ◌≤◌, ◌<◌, max, add-one, arith, length, get_or, take, drop, set}
+use Rattle.std.proofs.Common.{drop_of_length-le, take-append-drop, drop-cons, take-suc-set, drop-set-lt, ltb, lt-ltb, le-ltb}
 use Rattle.std.proofs.Common.{Bool, cond, eqb, get_or-take, length-take-le}
 use Rattle.std.specs.Prelude.{Option, Some, None, unwrap_or}
 use Rattle.std.specs.List.{position, position_from, zip}

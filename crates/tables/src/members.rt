@@ -91,7 +91,13 @@ impl Members {
         let w = n + 1;
         begins_of(&mut self.starts[..w], &tables.lens[..n]);
         let begins = &self.starts[..w];
-        members_of(&mut self.runs, begins, &tables.chains[..w], &tables.places[..w], n);
+        members_of(
+            &mut self.runs,
+            begins,
+            &tables.chains[..w],
+            &tables.places[..w],
+            n,
+        );
         let members = &self.runs[..n];
         sums_of(&mut self.before, members, starts);
     }

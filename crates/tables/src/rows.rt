@@ -67,7 +67,10 @@ fn find_spot(row: &[u32], lens: &[u32], n: usize) -> Option<usize>
     requires { (n ≤ length row.now) × (n ≤ length lens.now) }
     ensures { result ≡ position (λ p. eqb p.0 p.1) (zip (take n row.now) (take n lens.now)) }
 {
-    row[..n].iter().zip(&lens[..n]).position(|(reached, len)| *reached == *len)
+    row[..n]
+        .iter()
+        .zip(&lens[..n])
+        .position(|(reached, len)| *reached == *len)
 }
 
 // The chain that a run joins, by its row: that one, or else a new one.

@@ -9,7 +9,6 @@ use Rattle.std.specs.Prelude.{Some}
 use Rattle.tables.specs.declared.groups.Groups.{Groups}
 use Rattle.tables.specs.declared.rows.Area.{Area}
 use Rattle.tables.specs.declared.rows.ChainTables.{ChainTables}
-use Rattle.tables.specs.Jagged.{Lies}
 use Rattle.tables.specs.Laid.{shares, grouped, chs, row_at, chains_of, Laid, RangeLaid}
 use Rattle.tables.specs.Tables.{Listed, Sums, size_in}
 use Rattle.tables.specs.Indexed.{Indexable, IndexOf}
@@ -69,10 +68,13 @@ module _ (starts heads parents : List ℕ) (a n : ℕ) (A : Arrays starts heads 
   -- What the tables need
   pub measurable : (r.chains ≤ 512) × Measurable n area tables
   unfolding chains_of
-  measurable = (omega (arith, laid.number, chs-few (histories P) n, R.sound.few), record {
-    index = subst (λ (k : ℕ). Indexable k (take (k + 1) tables.lens) (take (k + 1) tables.chains) (take (k + 1) tables.places)) size (laid_indexable P r tables area area₀ laid_all few);
-    rows = record { few = R.sound.few; rise = λ k lt. (lie k lt).0; inside = λ k lt. (lie k lt).1 };
-  })
+  measurable = (
+    omega (arith, laid.number, chs-few (histories P) n, R.sound.few),
+    record {
+      index = subst (λ (k : ℕ). Indexable k (take (k + 1) tables.lens) (take (k + 1) tables.chains) (take (k + 1) tables.places)) size (laid_indexable P r tables area area₀ laid_all few);
+      rows = record { few = R.sound.few; rise = λ k lt. (lie k lt).0; inside = λ k lt. (lie k lt).1 };
+    },
+  )
 
   pub relatable : Relatable S n groups
   relatable = record { sound = R.sound; rise = rise; order = own-order starts heads parents a n A }

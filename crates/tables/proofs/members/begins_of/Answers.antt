@@ -1,5 +1,5 @@
 -- `tables::members::begins_of` meets its contract: where each chain's members begin. Assumes nothing.
-use Rattle.std.proofs.Common.{◌≡◌, ℕ, ◌+◌, ◌-◌, ◌≤◌, List, ◌∷◌, length, get_or, set, length-set, arith, ap, ◌∙◌}
+use Rattle.std.proofs.Common.{ℕ, ◌-◌, List, length, get_or, set, length-set, arith, ap}
 use Rattle.tables.proofs.Begins.{headed, headed_small, begins_made}
 use Rattle.tables.proofs.members.begins_of.Goals as goal
 

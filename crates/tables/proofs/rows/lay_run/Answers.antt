@@ -1,5 +1,6 @@
 -- `tables::rows::lay_run` meets its contract: a run's turn. Assumes nothing.
-use Rattle.std.proofs.Common.{◌≡◌, ◌+◌, ◌<◌, ◌≤◌, ◌∙◌, length, replicate, sym, arith, rules, get_or-take, length-drop}
+use borrow.Rule.Slice.PartMut.{put_mid}
+use Rattle.std.proofs.Common.{◌≡◌, ◌+◌, ◌-◌, ◌<◌, ◌≤◌, length, replicate, sym, arith, rules, get_or-take, length-drop}
 use Rattle.std.proofs.Math.ListN.{length-take}
 use Rattle.std.proofs.Math.Seq.{paste}
 use Rattle.std.proofs.lemmas.List.{length-take-le}
@@ -78,6 +79,7 @@ returns c =
     let wide = c.max-width in
     let long : wide.result ≤ length made.new.row = omega (arith, made.auto.row, c.fill.auto.self) in
     let few : c.pick_chain-k.result < length a.row.now = omega arith in
-    let written = front_pasted a.rows.now made.new.row _ a.area.used _ wide.result c.copy_from_slice.ensures.after (omega arith) long in
+    let written : put_mid a.area.used (a.area.used + wide.result - a.area.used) a.rows.now c.copy_from_slice.new.self ≡ paste a.rows.now a.area.used made.new.row wide.result =
+    front_pasted a.rows.now made.new.row _ a.area.used _ wide.result c.copy_from_slice.ensures.after (omega arith) long in
     run_goes (length a.row.now) a.area a.tables.now a.rows.now a.parents.now (omega arith) a.r c.fill.new.self made.new.row c.pick_chain-k.result wide.result
     cleared made.ensures c.pick_chain-k.ensures.spot wide.ensures c.place.new.self _ p.1 few c.if-rows-used.false c.place.ensures written

@@ -1,5 +1,5 @@
 -- `tables::members::Members::index` meets its contract: begins, members and sums. Assumes nothing.
-use Rattle.std.proofs.Common.{ℕ, List, ◌+◌, ◌≡◌, ◌<◌, ◌≤◌, ◌^◌, length, take, drop, get_or, get_or-take, sym, ap, ◌∙◌, subst, arith}
+use Rattle.std.proofs.Common.{◌+◌, ◌≡◌, length, drop, get_or-take, ◌∙◌, arith}
 use Rattle.std.proofs.Math.Seq.{take_at}
 use Rattle.std.proofs.lemmas.List.{length-take-le}
 use Rattle.tables.specs.Tables.{size_in}

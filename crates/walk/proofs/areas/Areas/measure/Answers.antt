@@ -1,5 +1,5 @@
 -- `walk::areas::Areas::measure`: members and sums, and sizes by them.
-use Rattle.std.proofs.Common.{◌≡◌, ℕ, ◌≤◌, length, ap, ◌∙◌, arith}
+use Rattle.std.proofs.Common.{◌≡◌, length, ap, ◌∙◌, arith}
 use Rattle.model.specs.History.{at}
 use Rattle.tables.specs.Sizes.{events_from}
 use Rattle.tables.proofs.JaggedRows.{rows-number}
