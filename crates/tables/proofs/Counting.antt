@@ -115,7 +115,7 @@ tallied_more pss n x most more ps l₀ l e fits C T = record {
 }
 
 -- Sums along a list, place by place
-sum_less : (f : ℕ → ℕ) (b n : ℕ) → ((i : ℕ) → f i ≤ b) → sum_below f n ≤ n * b
+pub sum_less : (f : ℕ → ℕ) (b n : ℕ) → ((i : ℕ) → f i ≤ b) → sum_below f n ≤ n * b
 unfolding sum_below
 sum_less f b zero h = omega arith
 sum_less f b (suc n) h = omega (arith, sum_less f b n h, h n, suc-mul n b)

@@ -1,5 +1,5 @@
 -- The first words of the tables: cleared, and with one run more. Assumes nothing.
-use Rattle.std.proofs.Common.{◌≡◌, refl, sym, ap, ◌∙◌, List, ℕ, ◌+◌, ◌≤◌, ◌<◌, arith, length, get_or, take, set, replicate, get_or-take, length-take-le}
+use Rattle.std.proofs.Common.{◌≡◌, sym, ap, ◌∙◌, List, ℕ, ◌+◌, ◌≤◌, ◌<◌, arith, length, get_or, take, set, replicate, get_or-take, length-take-le}
 use lib.ListN.{length-replicate}
 use lib.Seq.{take-set-lt}
 use Rattle.lists.proofs.Pads.{zeros_get}

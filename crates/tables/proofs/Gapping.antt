@@ -1,9 +1,7 @@
 -- Gaps and events of versions, chain by chain, and the sizes of two versions beside their distance. Assumes nothing.
-use Rattle.std.proofs.Common.{◌≡◌, ◌∙◌, ◌⊎◌, inl, inr, List, ℕ, zero, suc, ◌+◌, ◌-◌, ◌≤◌, ◌<◌, arith, length, get_or, set, get_or-set_same, get_or-set_other}
-use Rattle.lists.proofs.Truth.{eq_or-not}
+use Rattle.std.proofs.Common.{◌≡◌, List, ℕ, zero, suc, ◌+◌, ◌-◌, ◌≤◌, ◌<◌, arith, get_or}
 use Rattle.tables.specs.Gaps.{gap_at, gaps_from}
-use Rattle.model.specs.History.{at}
-use Rattle.tables.specs.Sizes.{share_at, events_from, Sized}
+use Rattle.tables.specs.Sizes.{share_at, events_from}
 
 -- The first chain, and those after it
 pub gaps_next : (b s cur row : List ℕ) (c n : ℕ) → c < n → gap_at b s cur row c + gaps_from b s cur row (c + 1) (n - (c + 1)) ≡ gaps_from b s cur row c (n - c)
@@ -43,12 +41,3 @@ events-apart b s x y c (suc k) =
     sides p q o e f g h =
         add (((p - o) + e) - ((q - o) + f)) (((q - o) + f) - ((p - o) + e)) ((p - o) - (q - o)) ((q - o) - (p - o)) (e - f) (f - e) (p - q) (q - p) g
         (both (p - o) (q - o) e f) (both (q - o) (p - o) f e) (cut p q o) (cut q p o) h
-
--- One run's size more
-pub sized_next : (b s : List ℕ) (rows : List (List ℕ)) (sizes : List ℕ) (n r v : ℕ) → r < length sizes → Sized b s rows n r sizes → v ≡ events_from b s (at rows r) 0 n →
-    Sized b s rows n (r + 1) (set sizes r v)
-sized_next b s rows sizes n r v l old e k h = go (eq_or-not k r)
-  where
-    go : (k ≡ r) ⊎ (k ≡ r → ⊥) → get_or (set sizes r v) k 0 ≡ events_from b s (at rows k) 0 n
-    go (inl q) = rw q (get_or-set_same sizes r v 0 l ∙ e)
-    go (inr m) = get_or-set_other sizes r k v 0 m ∙ old k (omega arith)

@@ -1,13 +1,12 @@
 -- The parents of a range's runs, gathered run by run. Assumes nothing.
 use Rattle.std.proofs.Common.{◌≡◌, refl, sym, ap, ap₂, ◌∙◌, Bool, true, false, cond, List, [], ◌∷◌, ◌++◌, map, append_assoc, append-nil, ℕ, zero, suc, ◌+◌, ◌-◌, ◌≤◌, ◌<◌, add-one, zero-add}
-use Rattle.std.proofs.Common.{suc-add, add-zero, arith, length, get_or, take, drop, set, length-append, length-drop, drop_of_length-le, take-append-drop, drop-cons, length-take-le, leb, le-leb}
-use lib.Seq.{append_snoc, set-append_seam, set-append_left}
+use Rattle.std.proofs.Common.{arith, length, get_or, take, drop, set, length-append, drop_of_length-le, drop-cons, leb, le-leb}
+use lib.Seq.{append_snoc, set-append_seam}
 use borrow.Author.Tests.{lt-leb}
 use Rattle.lists.specs.Lists.{filter, concat}
 use Rattle.lists.specs.Areas.{over, part, group_starts}
 use Rattle.lists.proofs.Counts.{length_snoc}
-use Rattle.lists.proofs.Pads.{length_over}
-use Rattle.lists.proofs.Groups.{concat-append, length_group_starts, length_part}
+use Rattle.lists.proofs.Groups.{concat-append, length_group_starts}
 use Rattle.model.specs.History.{at}
 use Rattle.tables.specs.Jagged.{rows_in}
 use Rattle.tables.specs.Gather.{Gathered, put_parent, put_parents}
@@ -120,10 +119,6 @@ pub shares-length : (starts items : List ℕ) (a n : ℕ) → length (shares sta
 unfolding shares
 shares-length starts items a zero = refl
 shares-length starts items a (suc n) = length_snoc (shares starts items a n) (inside a (part (get_or starts (a + n) 0) (get_or starts (a + n + 1) 0) items)) ∙ ap suc (shares-length starts items a n)
-
-shares-next : (starts items : List ℕ) (a n : ℕ) → shares starts items a (suc n) ≡ shares starts items a n ++ inside a (part (get_or starts (a + n) 0) (get_or starts (a + n + 1) 0) items) ∷ []
-unfolding shares
-shares-next starts items a n = refl
 
 -- the same by all runs' parents
 pub shares-count : (all : List (List ℕ)) (a n : ℕ) → length (shares_of all a n) ≡ n

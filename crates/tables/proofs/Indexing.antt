@@ -75,24 +75,30 @@ module _ (pss : List (List ℕ)) (st : Chains) (area area₀ : List ℕ) (L : La
         go (inr s) (inl w) = omega (arith, q, base_up (chain_of H m) (chain_of H k) w, (place_at H m n ml).0)
         go (inr s) (inr w) = omega (arith, q, base_up (chain_of H k) (chain_of H m) (omega arith), (place_at H k n l).0)
 
-  chains_indexable : Indexable (length pss) st.count st.lens st.chain st.place
+  counted : st.count ≤ n
+  counted = omega (arith, L.number, chs-few H n)
+
+  -- the sums of all lengths are those of the chains', and then the last of them
+  count-first : (b : List ℕ) → Summed (λ i. get_or st.lens i 0) n b → Summed (λ i. get_or st.lens i 0) st.count b
+  count-first b s k le = s k (omega (arith, counted))
+
+  chains_indexable : Indexable (length pss) st.lens st.chain st.place
   chains_indexable = record {
     few = few;
-    counted = omega (arith, L.number, chs-few H n);
     short = λ c. omega (arith, L.lens c, chain-short H n c);
-    scattered = λ b s. record { inside = pos_in b s; apart = pos-apart b s };
+    scattered = λ b s. record { inside = pos_in b (count-first b s); apart = pos-apart b (count-first b s) };
   }
 
-  module _ (starts b m e : List ℕ) (I : IndexOf starts (length pss) st.count st.lens st.chain st.place b m e) where
+  module _ (starts b m e : List ℕ) (I : IndexOf starts (length pss) st.lens st.chain st.place b m e) where
     begins_fit : (c : ℕ) → c < length C → get_or b c 0 + length (at C c) ≤ n
-    begins_fit c l = omega (arith, begins_at b I.begins c (omega arith), base-fits c l)
+    begins_fit c l = omega (arith, begins_at b (count-first b I.begins) c (omega arith), base-fits c l)
 
     member-at : (c i : ℕ) → c < length C → i < length (at C c) → get_or m (get_or b c 0 + i) 0 ≡ get_or (at C c) i 0
     member-at c i cl il =
         let x : ℕ = get_or (at C c) i 0 in
         let xl : x < n = chain_under H n c i il in
         let e : pos b st.chain st.place x ≡ get_or b c 0 + i =
-        pos-at b I.begins x xl ∙ ap₂ ◌+◌ (ap base (member-chain H n c i il) ∙ sym (begins_at b I.begins c (omega arith))) (member-place H n c i il) in
+        pos-at b (count-first b I.begins) x xl ∙ ap₂ ◌+◌ (ap base (member-chain H n c i il) ∙ sym (begins_at b (count-first b I.begins) c (omega arith))) (member-place H n c i il) in
         ap (λ (j : ℕ). get_or m j 0) (sym e) ∙ I.members x xl
 
     chains-listed : Listed C b m
@@ -105,9 +111,6 @@ module _ (pss : List (List ℕ)) (st : Chains) (area area₀ : List ℕ) (L : La
 
     before_at : (c k : ℕ) → c < length C → k ≤ length (at C c) → get_or e (get_or b c 0 + k) 0 ≡ get_or e (get_or b c 0) 0 + sum (size_in starts) (take k (at C c))
     before_at c k cl kl = stretch_sum e m (size_in starts) n (get_or b c 0) k (at C c) I.before (λ i l. member-at c i cl l) kl (begins_fit c cl)
-
-    chains_summed : Bounded (2 ^ 41) e → Sums C (size_in starts) b e
-    chains_summed small = record { along = before_at; small = small }
 
     chains_summed_first : Sums C (size_in starts) b (take (length pss + 1) e)
     chains_summed_first = record {
@@ -127,20 +130,15 @@ module _ (pss : List (List ℕ)) (a : Area) (tables : ChainTables) (area area₀
   chains = chs (histories pss) (length pss)
 
   -- what `index` needs
-  pub laid_indexable : Indexable (length pss) a.chains (take w tables.lens) (take w tables.chains) (take w tables.places)
+  pub laid_indexable : Indexable (length pss) (take w tables.lens) (take w tables.chains) (take w tables.places)
   unfolding chains_of
   laid_indexable = chains_indexable pss (chains_of a w tables) area area₀ L few
 
-  module _ (starts b m e : List ℕ) (I : IndexOf starts (length pss) a.chains (take w tables.lens) (take w tables.chains) (take w tables.places) b m e) where
+  module _ (starts b m e : List ℕ) (I : IndexOf starts (length pss) (take w tables.lens) (take w tables.chains) (take w tables.places) b m e) where
     -- what it leaves: the members
     pub laid_listed : Listed chains b m
     unfolding chains_of
     laid_listed = chains-listed pss (chains_of a w tables) area area₀ L few starts b m e I
-
-    -- the sums, in an area that is bounded
-    pub laid_summed : Bounded (2 ^ 41) e → Sums chains (size_in starts) b e
-    unfolding chains_of
-    laid_summed small = chains_summed pss (chains_of a w tables) area area₀ L few starts b m e I small
 
     -- the sums, cut to their places
     pub laid_summed_first : Sums chains (size_in starts) b (take (length pss + 1) e)

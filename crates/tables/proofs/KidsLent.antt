@@ -1,5 +1,5 @@
 -- Where kids begin, and the kids, as the code leaves them. Assumes nothing.
-use Rattle.std.proofs.Common.{◌≡◌, ap, ◌∙◌, List, ℕ, ◌+◌, ◌≤◌, arith, length, get_or, drop, ◌++◌}
+use Rattle.std.proofs.Common.{◌∙◌, List, ℕ, ◌≤◌, arith, length}
 use Rattle.lists.specs.Lists.{concat}
 use Rattle.tables.specs.Indexed.{Summed}
 use Rattle.tables.specs.Counted.{tally, Kids, KidsTabled}

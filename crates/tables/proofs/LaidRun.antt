@@ -1,5 +1,5 @@
 -- A run laid by the tables' first words. Assumes nothing.
-use Rattle.std.proofs.Common.{◌≡◌, sym, ap, ◌∙◌, List, ℕ, ◌+◌, ◌≤◌, ◌<◌, max, arith, length, replicate, take, length-take-le}
+use Rattle.std.proofs.Common.{◌≡◌, sym, ap, ◌∙◌, List, ℕ, ◌+◌, ◌≤◌, ◌<◌, max, length, replicate, take, length-take-le}
 use lib.Seq.{paste}
 use Rattle.std.specs.Prelude.{Some, None}
 use Rattle.tables.specs.declared.rows.Area.{Area}

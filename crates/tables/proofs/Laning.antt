@@ -1,7 +1,7 @@
 -- Lists of w words in one area: stored. Assumes nothing.
-use Rattle.std.proofs.Common.{◌≡◌, sym, ap, ◌∙◌, List, ◌++◌, append_assoc, ℕ, suc, ◌+◌, ◌-◌, ◌*◌, ◌≤◌, ◌<◌, arith, suc-mul, mul-le-mul_right, length, get_or, take, drop, length-drop}
-use Rattle.std.proofs.Common.{length-take-le, take_at, drop_at, get_or-take, get_or-drop}
-use lib.Seq.{paste, length-paste, take-length}
+use Rattle.std.proofs.Common.{◌≡◌, sym, ap, ◌∙◌, List, ◌++◌, append_assoc, ℕ, suc, ◌+◌, ◌-◌, ◌*◌, ◌≤◌, ◌<◌, arith, suc-mul, mul-le-mul_right, length, take, drop}
+use Rattle.std.proofs.Common.{length-take-le, take_at, drop_at}
+use lib.Seq.{paste, take-length}
 use Rattle.lists.specs.Areas.{part}
 use Rattle.tables.specs.Lanes.{lane}
 

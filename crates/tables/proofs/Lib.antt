@@ -34,6 +34,7 @@ pub mod ParentGroups
 pub mod Rooms
 pub mod Putting
 pub mod Filling
+pub mod Begins
 pub mod KidsListed
 pub mod KidsLent
 -- Covers and weights

@@ -1,34 +1,19 @@
 -- One run more in the tables and the row area. Assumes nothing.
 use Rattle.std.proofs.Common.{◌≡◌, refl, sym, ap, ◌∙◌, subst, ◌⊎◌, inl, inr, List, [], ◌∷◌, ◌++◌, ℕ, zero, suc, ◌+◌, ◌*◌, ◌≤◌, ◌<◌, add-one, arith, length, get_or, take, drop, set, replicate}
-use Rattle.std.proofs.Common.{length-append, length-set, length-take, length-drop, get_or-set_same, get_or-set_other, get_or-take, drop-drop}
+use Rattle.std.proofs.Common.{length-append, length-set, length-drop, get_or-set_same, get_or-set_other, drop-drop}
 use lib.ListN.{length-replicate}
 use lib.Seq.{paste, take-append_seam, drop-append-add}
 use Rattle.lists.specs.Areas.{over, part}
 use Rattle.lists.proofs.Truth.{eq_or-not}
 use Rattle.lists.proofs.Members.{get_d_mem}
 use Rattle.lists.proofs.Pads.{zeros_get}
-use Rattle.lists.proofs.Groups.{length-groups, group_at}
 use Rattle.model.specs.History.{at, histories}
 use Rattle.model.proofs.Histories.{Below}
 use Rattle.tables.specs.Laid.{Chains}
 use Rattle.tables.specs.Lay.{spot_from, FineAll, Safe, placed_of, Laying, row_of, spot_of, width_of}
-use Rattle.tables.specs.Laid.{chs, chain_of, place_of, row_at, flat, grouped, Laid}
+use Rattle.tables.specs.Laid.{chs, chain_of, place_of, row_at, flat, Laid}
 use Rattle.tables.proofs.Chaining.{cnt, chs-own, chs-other, chs-count, chain_of_le, chs-few, chain-short, place_at}
 use Rattle.tables.proofs.Making.{spot_code, flat_grows, flat_up, flat-part, made_get_d, made_row}
-
--- There is a group for each run
-pub grouped-length : (starts items : List ℕ) (n : ℕ) → n < length starts → length (grouped starts items n) ≡ n
-unfolding grouped
-grouped-length [] items n lt = absurd (omega arith)
-grouped-length (s ∷ ts) items n lt = rw (add-one n) (length-groups s (take n ts) items ∙ omega (arith, length-take n ts))
-
--- a run's group lies between its start and the next
-pub grouped-at : (starts items : List ℕ) (n r : ℕ) → n < length starts → r < n → at (grouped starts items n) r ≡ part (get_or starts r 0) (get_or starts (r + 1) 0) items
-unfolding grouped at
-grouped-at starts items n r fits lt =
-    let e : r + 1 ≡ suc r = omega arith in
-    group_at (take (n + 1) starts) items r (omega (arith, length-take (n + 1) starts)) ∙
-    rw (e, get_or-take (n + 1) starts r 0 (omega arith), get_or-take (n + 1) starts (suc r) 0 (omega arith))
 
 -- A row has no more places than there are runs
 pub flat-few : (hs : List (List ℕ)) (r : ℕ) → r ≤ 512 → length (flat hs r) ≤ 512 * r

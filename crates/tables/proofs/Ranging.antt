@@ -1,6 +1,6 @@
 -- The parents gathered are those of the range, and every one is below its run. Assumes nothing.
-use Rattle.std.proofs.Common.{◌≡◌, refl, sym, ap, ap₂, ◌∙◌, subst, ◌⊎◌, inl, inr, true, false, List, [], ◌∷◌, ◌++◌, map, append-nil, ℕ, zero, suc, ◌+◌, ◌-◌, ◌≤◌, ◌<◌, add-one, arith, length}
-use Rattle.std.proofs.Common.{get_or, take, drop, length-append, length-drop, drop_of_length-le, take-suc, take_all, take_at, drop_at, get_or-drop, length-take-le, leb, leb-true}
+use Rattle.std.proofs.Common.{◌≡◌, refl, sym, ap, ap₂, ◌∙◌, subst, ◌⊎◌, inl, inr, true, false, List, [], ◌∷◌, ◌++◌, map, ℕ, zero, suc, ◌+◌, ◌-◌, ◌≤◌, ◌<◌, add-one, arith, length}
+use Rattle.std.proofs.Common.{get_or, take, drop, length-append, length-drop, take-suc, take_at, get_or-drop, leb, leb-true}
 use mathlib.Core.List.{map-append}
 use lib.ListN.{get_or-append, get_or-eq_default}
 use lib.Seq.{get_or-append_seam, take-append_seam}

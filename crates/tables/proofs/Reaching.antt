@@ -1,17 +1,16 @@
 -- Versions as the code keeps them: how far the first runs, and a run with its history, reach along each chain. Assumes nothing.
-use Rattle.std.proofs.Common.{◌≡◌, refl, sym, ap, ◌∙◌, ◌⊎◌, inl, inr, Bool, true, false, cond, ◌||◌, List, [], ◌∷◌, ◌++◌, ℕ, zero, suc, ◌+◌, ◌-◌, ◌≤◌, ◌<◌, min, arith, add-one, length, get_or}
-use Rattle.std.proofs.Common.{set, take, drop, replicate, get_or-set_same, get_or-set_other, get_or-take, get_or-drop, length-take-le, eqb, eq-eqb, ne_eqb}
-use lib.ListN.{length-replicate, get_or-append, get_or-eq_default}
-use Rattle.std.proofs.lemmas.List.{get_or-append_right}
+use Rattle.std.proofs.Common.{◌≡◌, refl, sym, ap, ◌∙◌, ◌⊎◌, inl, inr, Bool, true, false, cond, ◌||◌, List, [], ◌∷◌, ◌++◌, ℕ, zero, suc, ◌+◌, ◌≤◌, ◌<◌, arith, add-one, length, get_or}
+use Rattle.std.proofs.Common.{set, drop, replicate, get_or-set_same, get_or-set_other, eqb, eq-eqb, ne_eqb}
+use lib.ListN.{length-replicate, get_or-append}
 use Rattle.lists.specs.Lists.{mem, count, from, upto}
-use Rattle.lists.proofs.Truth.{eq_or-not, lt_or_le}
+use Rattle.lists.proofs.Truth.{eq_or-not}
 use Rattle.lists.proofs.Pads.{zeros_get}
 use Rattle.lists.proofs.Counts.{count_same, count_none}
 use Rattle.model.specs.History.{at, histories}
 use Rattle.model.proofs.Histories.{Below}
 use Rattle.tables.specs.Laid.{chs, chain_of, place_of, row_at}
 use Rattle.tables.specs.Tables.{Reaches}
-use Rattle.tables.specs.Reached.{started, arrived, Holds, Standing}
+use Rattle.tables.specs.Reached.{started, arrived, Holds}
 use Rattle.tables.proofs.Chaining.{cnt, chain-short, place_at}
 use Rattle.tables.proofs.Holding.{own, own_here, own_there, row-later}
 use Rattle.tables.proofs.Standing.{chain_in, first-own, first-other, history-own}
@@ -45,23 +44,6 @@ arrived-set row l chain place n lt h c cl = set-read l chain (place + 1) c lt �
 -- The first n words cleared
 pub front_cleared : (l : List ℕ) (n : ℕ) → Holds (λ _. 0) n (replicate n 0 ++ drop n l)
 front_cleared l n c lt = get_or-append (replicate n 0) (drop n l) 0 c (omega (arith, length-replicate {A = ℕ} n 0)) ∙ zeros_get n c
-
--- then a row copied into them
-pub row_copied : (row l : List ℕ) (m n : ℕ) → m ≡ min (length row) n → Holds (λ c. get_or row c 0) n (take m row ++ drop m (replicate n 0 ++ drop n l))
-row_copied row l m n e c lt = go (lt_or_le c m)
-  where
-    size : length (take m row) ≡ m
-    size = length-take-le m row (omega arith)
-
-    rest : List ℕ
-    rest = replicate n 0 ++ drop n l
-
-    go : (c < m) ⊎ (m ≤ c) → get_or (take m row ++ drop m rest) c 0 ≡ get_or row c 0
-    go (inl h) = get_or-append (take m row) (drop m rest) 0 c (omega (arith, size)) ∙ get_or-take m row c 0 h
-    go (inr h) =
-        let back : m + (c - m) ≡ c = omega arith in
-        get_or-append_right (take m row) (drop m rest) m c 0 size h ∙ get_or-drop m rest (c - m) 0 ∙ ap (λ (i : ℕ). get_or rest i 0) back ∙ front_cleared l n c lt ∙
-        sym (get_or-eq_default row 0 {n = c} (omega arith))
 
 module _ (pss : List (List ℕ)) (b : Below pss) where
   abbrev H : List (List ℕ)
@@ -106,10 +88,6 @@ module _ (pss : List (List ℕ)) (b : Below pss) where
 
     pub place-fits : (m : ℕ) → m < length pss → get_or place m 0 < length pss
     place-fits m lt = omega (arith, places m lt, (place_at H m (length pss) lt).0, chain-short H (length pss) (chain_of H m))
-
-    -- the first runs stand as `start_version` needs it
-    pub first_standing : (known : ℕ) → known ≤ length pss → length pss ≤ 512 → Standing chain place (length C) known
-    first_standing known le few = record { chains = λ r lt. chain_fits r (omega arith); places = λ r lt. omega (arith, place-fits r (omega arith)) }
 
     started-is : (k c : ℕ) → k ≤ length pss → started chain place k c ≡ cnt (upto k) (at C c)
     unfolding started

@@ -1,9 +1,8 @@
 -- Prefix sums and scattered places, written one by one. Assumes nothing.
-use Rattle.std.proofs.Common.{◌≡◌, refl, sym, ap, ap₂, ◌∙◌, ◌⊎◌, inl, inr, List, [], ◌∷◌, ℕ, zero, suc, ◌+◌, ◌≤◌, ◌<◌, arith, add-one, length, get_or, take, set, length-set, get_or-set_same}
-use Rattle.std.proofs.Common.{get_or-set_other}
-use lib.ListN.{get_or-eq_default}
+use Rattle.std.proofs.Common.{◌≡◌, refl, sym, ap, ap₂, ◌∙◌, ◌⊎◌, inl, inr, List, [], ◌∷◌, ℕ, zero, suc, ◌+◌, ◌≤◌, ◌<◌, arith, add-one, length, get_or, take, set, get_or-set_same}
+use Rattle.std.proofs.Common.{get_or-set_other, get_or-take, length-take-le}
 use Rattle.lists.specs.Lists.{sum, from}
-use Rattle.lists.proofs.Truth.{lt_or_le, eq_or-not}
+use Rattle.lists.proofs.Truth.{eq_or-not}
 use Rattle.model.specs.History.{at}
 use Rattle.tables.specs.Indexed.{sum_below, Summed}
 
@@ -22,15 +21,6 @@ pub sums-start : (f : ℕ → ℕ) (out : List ℕ) → get_or out 0 0 ≡ 0 →
 unfolding sum_below
 sums-start f out e zero le = e
 sums-start f out e (suc k) le = absurd (omega arith)
-
--- A bounded list, one place set
-pub bound_next : (out : List ℕ) (c v b : ℕ) → ((k : ℕ) → get_or out k 0 ≤ b) → v ≤ b → (k : ℕ) → get_or (set out c v) k 0 ≤ b
-bound_next out c v b old e k = go (eq_or-not k c) (lt_or_le c (length out))
-  where
-    go : (k ≡ c) ⊎ (k ≡ c → ⊥) → (c < length out) ⊎ (length out ≤ c) → get_or (set out c v) k 0 ≤ b
-    go (inl q) (inl l) = rw (q, get_or-set_same out c v 0 l) e
-    go (inl q) (inr l) = rw (get_or-eq_default (set out c v) 0 {n = k} (omega (arith, length-set out c v))) (omega arith)
-    go (inr n) l = rw (get_or-set_other out c k v 0 n) (old k)
 
 -- its first words, one more set
 pub bound_more : (out : List ℕ) (c v b : ℕ) → c + 1 < length out → ((k : ℕ) → k ≤ c → get_or out k 0 ≤ b) → v ≤ b → (k : ℕ) → k ≤ c + 1 → get_or (set out (c + 1) v) k 0 ≤ b
@@ -67,6 +57,11 @@ unfolding sum_below
 sum_eq f g zero h = refl
 sum_eq f g (suc n) h = ap₂ ◌+◌ (sum_eq f g n h) (h n)
 
+sum_same : (f g : ℕ → ℕ) (n : ℕ) → ((i : ℕ) → i < n → f i ≡ g i) → sum_below f n ≡ sum_below g n
+unfolding sum_below
+sum_same f g zero h = refl
+sum_same f g (suc n) h = ap₂ ◌+◌ (sum_same f g n (λ i lt. h i (omega arith))) (h n (omega arith))
+
 ones : (c : List ℕ) → sum (λ _. 1) c ≡ length c
 unfolding sum
 ones [] = refl
@@ -101,3 +96,9 @@ stretch_sum b members size n s (suc k) (x ∷ xs) h m le fits =
 
     shift : (i : ℕ) → suc s + i ≡ s + suc i
     shift i = omega arith
+
+-- Sums over a list's first n words are those over its first n + 1
+pub summed-cut : (f : ℕ → ℕ) (l : List ℕ) (n : ℕ) (b : List ℕ) → n < length l → Summed (λ i. f (get_or (take n l) i 0)) (length (take n l)) b → Summed (λ i. f (get_or (take (n + 1) l) i 0)) n b
+summed-cut f l n b long s k le =
+    s k (omega (arith, length-take-le n l (omega arith))) ∙
+    sum_same (λ i. f (get_or (take n l) i 0)) (λ i. f (get_or (take (n + 1) l) i 0)) k (λ i lt. ap f (get_or-take n l i 0 (omega arith) ∙ sym (get_or-take (n + 1) l i 0 (omega arith))))

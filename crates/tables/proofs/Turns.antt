@@ -1,6 +1,6 @@
 -- Turns of the loops that make a run's row, and of a run that is laid. Assumes nothing.
-use Rattle.std.proofs.Common.{◌≡◌, refl, sym, ap, ap₂, ◌∙◌, true, false, List, [], ◌∷◌, ◌++◌, ℕ, zero, suc, ◌+◌, ◌-◌, ◌≤◌, ◌<◌, max, add-one, arith, length, get_or, take, drop, set}
-use Rattle.std.proofs.Common.{drop_of_length-le, take-append-drop, drop-cons, take-suc-set, drop-set-lt, ltb, lt-ltb, le-ltb, eq-eqb, ne_eqb}
+use Rattle.std.proofs.Common.{◌≡◌, refl, sym, ap, ap₂, ◌∙◌, true, false, List, [], ◌∷◌, ◌++◌, ℕ, zero, suc, ◌+◌, ◌≤◌, ◌<◌, max, add-one, arith, length, get_or, take, drop, set}
+use Rattle.std.proofs.Common.{drop_of_length-le, take-append-drop, drop-cons, take-suc-set, drop-set-lt, ltb, lt-ltb, le-ltb}
 use Rattle.std.proofs.Common.{Bool, cond, eqb, get_or-take, length-take-le}
 use Rattle.std.specs.Prelude.{Option, Some, None, unwrap_or}
 use Rattle.std.specs.List.{position, position_from, zip}
@@ -94,13 +94,13 @@ spot_most row lens c (suc k) = go (eqb (get_or row c 0) (get_or lens c 0)) (spot
     go false h = omega arith
 
 -- so from the first on
-pub spot_found : (row lens : List ℕ) (n k : ℕ) (o : Option ℕ) → n ≤ length row → n ≤ length lens → o ≡ position (λ p. eqb p.0 p.1) (zip (take n row) (take n lens)) → k ≡ unwrap_or o n →
-    (k ≡ spot_from row lens 0 n) × (k ≤ n)
-spot_found row lens n k o p q e f = (found, omega (arith, found, spot_most row lens 0 n))
+pub spot_found : (row lens : List ℕ) (n : ℕ) (o : Option ℕ) → n ≤ length row → n ≤ length lens → o ≡ position (λ p. eqb p.0 p.1) (zip (take n row) (take n lens)) →
+    (unwrap_or o n ≡ spot_from row lens 0 n) × (unwrap_or o n ≤ n)
+spot_found row lens n o p q e = (found, omega (arith, found, spot_most row lens 0 n))
   where
-    found : k ≡ spot_from row lens 0 n
+    found : unwrap_or o n ≡ spot_from row lens 0 n
     found =
-        f ∙ ap (λ (x : Option ℕ). unwrap_or x n) (e ∙ position_from-zero (λ p. eqb p.0 p.1) (zip (take n row) (take n lens))) ∙
+        ap (λ (x : Option ℕ). unwrap_or x n) (e ∙ position_from-zero (λ p. eqb p.0 p.1) (zip (take n row) (take n lens))) ∙
         (ap (unwrap_or (position_from (λ p. eqb p.0 p.1) 0 (zip (take n row) (take n lens)))) (omega arith) ∙
         spot_zip (take n row) (take n lens) row lens 0 n
         (λ i lt. get_or-take n row i 0 lt ∙ ap (λ (j : ℕ). get_or row j 0) (omega arith)) (λ i lt. get_or-take n lens i 0 lt ∙ ap (λ (j : ℕ). get_or lens j 0) (omega arith))

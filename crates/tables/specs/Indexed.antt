@@ -34,15 +34,14 @@ pub record Scattered (begins chain place : List ℕ) (n : ℕ) : Type 0 where
   pub apart : (m k : ℕ) → m < k → k < n → pos begins chain place m ≡ pos begins chain place k → ⊥
 
 -- Chains whose members can be listed: lengths, and each run's chain and place
-pub record Indexable (n chains : ℕ) (lens chain place : List ℕ) : Type 0 where
+pub record Indexable (n : ℕ) (lens chain place : List ℕ) : Type 0 where
   pub few : n ≤ max_runs
-  pub counted : chains ≤ n
   pub short : Bounded max_runs lens
-  pub scattered : (b : List ℕ) → Summed (λ i. get_or lens i 0) chains b → Scattered b chain place n
+  pub scattered : (b : List ℕ) → Summed (λ i. get_or lens i 0) n b → Scattered b chain place n
 
 -- The members listed (b where each chain's begin, m), and their events summed (e)
-pub record IndexOf (starts : List ℕ) (n chains : ℕ) (lens chain place b m e : List ℕ) : Type 0 where
-  pub begins : Summed (λ i. get_or lens i 0) chains b
+pub record IndexOf (starts : List ℕ) (n : ℕ) (lens chain place b m e : List ℕ) : Type 0 where
+  pub begins : Summed (λ i. get_or lens i 0) n b
   pub begins_small : Bounded (2 ^ 18) b
   pub members : Placed (pos b chain place) n m
   pub members_long : n ≤ length m

@@ -1,5 +1,5 @@
 -- The chains and rows that the definitions give for the runs so far, and what laying a range's rows leaves. Assumes nothing.
-use Rattle.std.specs.Prelude.{◌≡◌, true, cond, List, [], ◌∷◌, ◌++◌, map, ℕ, zero, suc, ◌+◌, ◌-◌, ◌≤◌, ◌<◌, length, get_or, take, drop, leb, Option, MatchOption}
+use Rattle.std.specs.Prelude.{◌≡◌, true, cond, List, [], ◌∷◌, ◌++◌, map, ℕ, zero, suc, ◌+◌, ◌-◌, ◌≤◌, ◌<◌, length, get_or, take, leb, Option, MatchOption}
 use Rattle.lists.specs.Lists.{all, mem, concat, filter}
 use Rattle.lists.specs.Areas.{over, fitting, groups, part}
 use Rattle.model.specs.Limits.{max_runs}

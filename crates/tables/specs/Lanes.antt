@@ -1,5 +1,5 @@
 -- Lists of w words, one after another, in one area. Assumes nothing.
-use Rattle.std.specs.Prelude.{◌≡◌, List, ℕ, ◌+◌, ◌*◌, ◌<◌, length}
+use Rattle.std.specs.Prelude.{List, ℕ, ◌+◌, ◌*◌}
 use Rattle.lists.specs.Areas.{part}
 
 -- The k-th list

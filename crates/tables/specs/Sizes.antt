@@ -1,5 +1,5 @@
 -- The events of one version, a distance counted up to a limit, and the sizes of the runs' histories. Assumes nothing.
-use Rattle.std.specs.Prelude.{◌≡◌, ◌⊎◌, List, ℕ, zero, suc, ◌+◌, ◌-◌, ◌≤◌, ◌<◌, length, get_or}
+use Rattle.std.specs.Prelude.{◌≡◌, ◌⊎◌, List, ℕ, zero, suc, ◌+◌, ◌-◌, ◌≤◌, ◌<◌, get_or}
 use Rattle.lists.specs.Areas.{part}
 use Rattle.model.specs.History.{at}
 

@@ -1,12 +1,13 @@
 // The children of each run: counted, then placed.
 ghost use Rattle.std.specs.Prelude.{◌≡◌, ℕ, ◌+◌, ◌-◌, ◌<◌, ◌≤◌, ◌^◌, length, get_or};
-ghost use Rattle.model.specs.Limits.{max_runs, max_starts};
 ghost use Rattle.lists.specs.Lists.{concat};
+ghost use Rattle.model.specs.Limits.{max_starts};
 ghost use Rattle.tables.specs.Jagged.{Below};
 ghost use Rattle.tables.specs.Indexed.{Summed};
 ghost use Rattle.tables.specs.Counted.{tally, Counted, Countable, Placeable, Kids, put_all};
 
 use crate::jagged::Jagged;
+use crate::words::sum_up;
 
 // One child more for each of the runs ps.
 fn count_parents(starts: &mut [u32], ps: &[u32])
@@ -25,6 +26,7 @@ fn count_all(starts: &mut [u32], parents: &Jagged)
     requires sized { length starts.old ≡ length parents.now + 1 }
     requires below { Below parents.now }
     requires few { length (concat parents.now) ≤ 2 ^ 20 }
+    ensures short { length starts.new ≤ max_starts }
     ensures first { get_or starts.new 0 0 ≡ 0 }
     ensures counted { (r : ℕ) → r < length parents.now → get_or starts.new (r + 1) 0 ≡ tally parents.now r (length parents.now) }
     ensures small { (k : ℕ) → get_or starts.new k 0 ≤ 2 ^ 20 }
@@ -36,23 +38,8 @@ fn count_all(starts: &mut [u32], parents: &Jagged)
     }
 }
 
-// Each place the sum of those up to it.
-fn sum_up(starts: &mut [u32])
-    requires few { length starts.old ≤ max_starts }
-    requires first { get_or starts.old 0 0 ≡ 0 }
-    requires small { (k : ℕ) → get_or starts.old k 0 ≤ 2 ^ 20 }
-    ensures { Summed (λ i. get_or starts.old (i + 1) 0) (length starts.old - 1) starts.new }
-{
-    let mut sum = 0;
-    for s in starts.iter_mut() {
-        sum += *s;
-        *s = sum;
-    }
-}
-
 // Where each run's children begin.
 pub fn starts_of(starts: &mut [u32], parents: &Jagged)
-    requires short { length starts.old ≤ max_starts }
     requires sized { length starts.old ≡ length parents.now + 1 }
     requires below { Below parents.now }
     requires few { length (concat parents.now) ≤ 2 ^ 20 }
@@ -63,15 +50,14 @@ pub fn starts_of(starts: &mut [u32], parents: &Jagged)
 }
 
 // Run r put among the children of each of its parents.
-fn put_child(children: &mut [u32], next: &mut [u32], ps: &[u32], r: usize)
-    requires run { r < max_runs }
+fn put_child(children: &mut [u32], next: &mut [u32], ps: &[u32], r: u32)
     requires few { length children.old ≤ 2 ^ 20 }
     requires room { Placeable ps.now (next.old, children.old) }
     ensures { (next.new, children.new) ≡ put_all r (next.old, children.old) ps.now }
 {
     for p in ps {
         let p = *p as usize;
-        children[next[p] as usize] = r as u32;
+        children[next[p] as usize] = r;
         next[p] += 1;
     }
 }
@@ -86,6 +72,6 @@ pub fn children_of(children: &mut [u32], next: &mut [u32], parents: &Jagged)
     ensures { Kids parents.now (length parents.now) children.new }
 {
     for r in 0..parents.len() {
-        put_child(children, next, parents.row(r), r);
+        put_child(children, next, parents.row(r), r as u32);
     }
 }

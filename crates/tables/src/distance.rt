@@ -51,7 +51,7 @@ impl<'a> Sums<'a> {
         sum
     }
 
-    // The events of a version along one chain.
+    // The events of a version along one chain. Beside `gap`: a difference that stops at 0, where that one is taken either way.
     fn share(self, row: &[u32], c: usize) -> u64
         ensures value { result ≡ share_at self.entry.before.now self.entry.begins.now row.now c }
         ensures small { result ≤ 2 ^ 41 }
@@ -61,7 +61,7 @@ impl<'a> Sums<'a> {
             .saturating_sub(self.up_to(begin, 0))
     }
 
-    // The events of a version.
+    // The events of a version. Beside `distance`: it has no limit to break off at, and one version only.
     pub fn events_of(self, row: &[u32]) -> u64
         ensures value { result ≡ events_from self.entry.before.now self.entry.begins.now row.now 0 self.entry.chains }
         ensures small { result ≤ 2 ^ 50 }

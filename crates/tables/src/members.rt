@@ -1,12 +1,12 @@
 // Each chain's members one after another, and prefix sums of their events.
 ghost use Rattle.std.specs.Prelude.{◌≡◌, ◌+◌, ◌≤◌, ◌<◌, ◌^◌, length, get_or, take};
-ghost use Rattle.model.specs.Limits.{max_runs};
+ghost use Rattle.model.specs.Limits.{max_runs, max_starts};
 ghost use Rattle.tables.specs.Tables.{size_in};
 ghost use Rattle.tables.specs.Indexed.{Summed, Bounded, BoundedTo, Placed, pos, Scattered, Indexable, IndexOf};
 
 use crate::distance::Sums;
 use crate::rows::ChainTables;
-use crate::words::item;
+use crate::words::{item, sum_up};
 use model::MAX_STARTS;
 
 // Of a range's chains, one after another: where each one's members begin, the members, and the events of the members before each.
@@ -17,15 +17,14 @@ pub struct Members {
     pub before: [u64; MAX_STARTS],
 }
 
-// Where the members of each of n chains begin.
-fn begins_of(begins: &mut [u32], lens: &[u32], n: usize)
-    requires { (n ≤ max_runs) × (n < length begins.old) × Bounded max_runs lens.now }
-    ensures { Summed (λ i. get_or lens.now i 0) n begins.new × Bounded (2 ^ 18) begins.new }
+// Where each chain's members begin, and where the last one's end.
+fn begins_of(begins: &mut [u32], lens: &[u32])
+    requires { (length begins.old ≡ length lens.now + 1) × (length begins.old ≤ max_starts) × Bounded max_runs lens.now }
+    ensures { Summed (λ i. get_or lens.now i 0) (length lens.now) begins.new × Bounded (2 ^ 18) begins.new }
 {
-    begins.fill(0);
-    for c in 0..n {
-        begins[c + 1] = begins[c] + item(lens, c, 0);
-    }
+    begins[0] = 0;
+    begins[1..].copy_from_slice(lens);
+    sum_up(begins);
 }
 
 // A run's place among all chains' members.
@@ -62,14 +61,14 @@ pub fn size_of(starts: &[u32], m: usize) -> u32
     item(starts, m + 1, 0).saturating_sub(item(starts, m, 0))
 }
 
-// The events of the first members.
-fn sums_of(before: &mut [u64], members: &[u32], starts: &[u32], n: usize)
-    requires { (n ≤ max_runs) × (n < length before.old) }
-    ensures { Summed (λ i. size_in starts.now (get_or members.now i 0)) n before.new × BoundedTo n (2 ^ 41) before.new }
+// The events of the members before each. Beside `sum_up`: these sums are wider, and of sizes that stand in no list.
+fn sums_of(before: &mut [u64], members: &[u32], starts: &[u32])
+    requires { (length members.now ≤ max_runs) × (length members.now < length before.old) }
+    ensures { Summed (λ i. size_in starts.now (get_or members.now i 0)) (length members.now) before.new × BoundedTo (length members.now) (2 ^ 41) before.new }
 {
     before[0] = 0;
-    for j in 0..n {
-        before[j + 1] = before[j] + u64::from(size_of(starts, item(members, j, 0) as usize));
+    for (j, m) in members.iter().enumerate() {
+        before[j + 1] = before[j] + u64::from(size_of(starts, *m as usize));
     }
 }
 
@@ -84,17 +83,23 @@ impl Members {
     }
 
     // The members of the chains of n runs, and their sums.
-    pub fn index(&mut self, starts: &[u32], n: usize, chains: usize, tables: &ChainTables)
-        requires { Indexable n chains (take (n + 1) tables.now.lens) (take (n + 1) tables.now.chains) (take (n + 1) tables.now.places) }
-        ensures { IndexOf starts.now n chains (take (n + 1) tables.now.lens) (take (n + 1) tables.now.chains) (take (n + 1) tables.now.places)
+    pub fn index(&mut self, starts: &[u32], n: usize, tables: &ChainTables)
+        requires { Indexable n (take (n + 1) tables.now.lens) (take (n + 1) tables.now.chains) (take (n + 1) tables.now.places) }
+        ensures { IndexOf starts.now n (take (n + 1) tables.now.lens) (take (n + 1) tables.now.chains) (take (n + 1) tables.now.places)
             (take (n + 1) self.new.starts) (take (n + 1) self.new.runs) self.new.before }
     {
         let w = n + 1;
-        begins_of(&mut self.starts[..w], &tables.lens[..w], chains);
+        begins_of(&mut self.starts[..w], &tables.lens[..n]);
         let begins = &self.starts[..w];
-        members_of(&mut self.runs, begins, &tables.chains[..w], &tables.places[..w], n);
-        let members = &self.runs[..w];
-        sums_of(&mut self.before, members, starts, n);
+        members_of(
+            &mut self.runs,
+            begins,
+            &tables.chains[..w],
+            &tables.places[..w],
+            n,
+        );
+        let members = &self.runs[..n];
+        sums_of(&mut self.before, members, starts);
     }
 
     // The sums of n runs on so many chains.

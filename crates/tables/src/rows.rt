@@ -3,7 +3,7 @@ ghost use Rattle.std.specs.Prelude.{◌≡◌, ◌+◌, ◌<◌, ◌≤◌, ◌^
 ghost use Rattle.std.specs.List.{position, zip};
 ghost use Rattle.model.specs.Limits.{max_runs, max_starts};
 ghost use Rattle.tables.specs.Jagged.{rows_in, Lies, Below};
-ghost use Rattle.tables.specs.Lay.{join_of, raised, join_parent, join_all, Fine, FineAll, Safe, place_in, lay_of};
+ghost use Rattle.tables.specs.Lay.{join_of, raised, join_parent, join_all, spot_from, Fine, FineAll, Safe, place_in, lay_of};
 ghost use Rattle.tables.specs.Laid.{chains_of, LaidOut};
 
 use crate::jagged::Jagged;
@@ -67,7 +67,19 @@ fn find_spot(row: &[u32], lens: &[u32], n: usize) -> Option<usize>
     requires { (n ≤ length row.now) × (n ≤ length lens.now) }
     ensures { result ≡ position (λ p. eqb p.0 p.1) (zip (take n row.now) (take n lens.now)) }
 {
-    row[..n].iter().zip(&lens[..n]).position(|(reached, len)| *reached == *len)
+    row[..n]
+        .iter()
+        .zip(&lens[..n])
+        .position(|(reached, len)| *reached == *len)
+}
+
+// The chain that a run joins, by its row: that one, or else a new one.
+fn pick_chain(row: &[u32], lens: &[u32], n: usize) -> usize
+    requires { (n ≤ length row.now) × (n ≤ length lens.now) }
+    ensures spot { result ≡ spot_from row.now lens.now 0 n }
+    ensures upper_bound { result ≤ n }
+{
+    find_spot(row, lens, n).unwrap_or(n)
 }
 
 // How many chains there are, and how much of the row area is used.
@@ -131,7 +143,7 @@ fn lay_run(
     };
     row.fill(0);
     laid.join_all(row, parents);
-    let k = find_spot(row, &tables.lens[..w], area.chains).unwrap_or(area.chains);
+    let k = pick_chain(row, &tables.lens[..w], area.chains);
     let width = area.chains.max(k + 1);
     let used = area.used;
     if rows.len() < used + width {

@@ -9,11 +9,11 @@ use Rattle.std.specs.Prelude.{Some}
 use Rattle.tables.specs.declared.groups.Groups.{Groups}
 use Rattle.tables.specs.declared.rows.Area.{Area}
 use Rattle.tables.specs.declared.rows.ChainTables.{ChainTables}
-use Rattle.tables.specs.Jagged.{Lies}
 use Rattle.tables.specs.Laid.{shares, grouped, chs, row_at, chains_of, Laid, RangeLaid}
 use Rattle.tables.specs.Tables.{Listed, Sums, size_in}
 use Rattle.tables.specs.Indexed.{Indexable, IndexOf}
 use Rattle.tables.specs.Sizes.{row_in}
+use Rattle.tables.proofs.Chaining.{chs-few}
 use Rattle.tables.proofs.RowsIn.{row_lies, row_found}
 use Rattle.tables.proofs.Indexing.{laid_indexable, laid_listed, laid_summed_first}
 use Rattle.tables.proofs.ParentGroups.{groups-size}
@@ -66,11 +66,15 @@ module _ (starts heads parents : List ℕ) (a n : ℕ) (A : Arrays starts heads 
       row_found P n (chains_of r (n + 1) tables) area area₀ laid k lt
 
   -- What the tables need
-  pub measurable : Measurable n r.chains area tables
-  measurable = record {
-    index = subst (λ (k : ℕ). Indexable k r.chains (take (k + 1) tables.lens) (take (k + 1) tables.chains) (take (k + 1) tables.places)) size (laid_indexable P r tables area area₀ laid_all few);
-    rows = record { few = R.sound.few; rise = λ k lt. (lie k lt).0; inside = λ k lt. (lie k lt).1 };
-  }
+  pub measurable : (r.chains ≤ 512) × Measurable n area tables
+  unfolding chains_of
+  measurable = (
+    omega (arith, laid.number, chs-few (histories P) n, R.sound.few),
+    record {
+      index = subst (λ (k : ℕ). Indexable k (take (k + 1) tables.lens) (take (k + 1) tables.chains) (take (k + 1) tables.places)) size (laid_indexable P r tables area area₀ laid_all few);
+      rows = record { few = R.sound.few; rise = λ k lt. (lie k lt).0; inside = λ k lt. (lie k lt).1 };
+    },
+  )
 
   pub relatable : Relatable S n groups
   relatable = record { sound = R.sound; rise = rise; order = own-order starts heads parents a n A }
@@ -107,8 +111,8 @@ module _ (starts heads parents : List ℕ) (a n : ℕ) (A : Arrays starts heads 
   first-words : (l : List ℕ) (k : ℕ) → k ≤ n → get_or (take (n + 1) l) k 0 ≡ get_or l k 0
   first-words = here starts heads parents a n A area₀ area q.parents q.chains r R
 
-  index : IndexOf T (length Q) r.chains (take (length Q + 1) q.chains.lens) (take (length Q + 1) q.chains.chains) (take (length Q + 1) q.chains.places) (take w q.members.starts) (take w q.members.runs) q.members.before
-  index = subst (λ (k : ℕ). IndexOf T k r.chains (take (k + 1) q.chains.lens) (take (k + 1) q.chains.chains) (take (k + 1) q.chains.places) (take w q.members.starts) (take w q.members.runs) q.members.before) (sym number) M.index
+  index : IndexOf T (length Q) (take (length Q + 1) q.chains.lens) (take (length Q + 1) q.chains.chains) (take (length Q + 1) q.chains.places) (take w q.members.starts) (take w q.members.runs) q.members.before
+  index = subst (λ (k : ℕ). IndexOf T k (take (k + 1) q.chains.lens) (take (k + 1) q.chains.chains) (take (k + 1) q.chains.places) (take w q.members.starts) (take w q.members.runs) q.members.before) (sym number) M.index
 
   listed : Listed (chs (histories Q) (length Q)) (take w q.members.starts) (take w q.members.runs)
   listed = laid_listed Q r q.chains area area₀ all-laid small T (take w q.members.starts) (take w q.members.runs) q.members.before index

@@ -1,5 +1,5 @@
 -- What is read of a run, by the tables that a walk is given. Assumes nothing.
-use Rattle.std.proofs.Common.{◌≡◌, sym, List, ℕ, ◌+◌, ◌≤◌, ◌<◌, arith, length, get_or}
+use Rattle.std.proofs.Common.{◌≡◌, sym, ℕ, ◌+◌, ◌≤◌, ◌<◌, arith, length, get_or}
 use Rattle.lists.specs.Areas.{part}
 use Rattle.model.specs.History.{at}
 use Rattle.walk.specs.Given.{Given, row_starts, child_starts, parents_for, Prepared}

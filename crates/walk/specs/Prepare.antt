@@ -13,13 +13,13 @@ use Rattle.tables.specs.Covers.{Weighted}
 use Rattle.tables.specs.Sizes.{Sized}
 
 -- Chains whose members can be listed, and rows that lie in their area
-pub record Measurable (n chains : ℕ) (rs : List ℕ) (t : ChainTables) : Type 0 where
-  pub index : Indexable n chains (take (n + 1) t.lens) (take (n + 1) t.chains) (take (n + 1) t.places)
+pub record Measurable (n : ℕ) (rs : List ℕ) (t : ChainTables) : Type 0 where
+  pub index : Indexable n (take (n + 1) t.lens) (take (n + 1) t.chains) (take (n + 1) t.places)
   pub rows : Lies t.row_starts rs n
 
 -- Members, sums and sizes
 pub record Measured (starts : List ℕ) (n chains : ℕ) (rs : List ℕ) (t : ChainTables) (m : Members) (ss : List ℕ) : Type 0 where
-  pub index : IndexOf starts n chains (take (n + 1) t.lens) (take (n + 1) t.chains) (take (n + 1) t.places) (take (n + 1) m.starts) (take (n + 1) m.runs) m.before
+  pub index : IndexOf starts n (take (n + 1) t.lens) (take (n + 1) t.chains) (take (n + 1) t.places) (take (n + 1) m.starts) (take (n + 1) m.runs) m.before
   pub sizes : Sized (take (n + 1) m.before) (take (n + 1) m.starts) (rows_in t.row_starts rs n) chains n ss
 
 -- Starts that never fall, and parents that rise

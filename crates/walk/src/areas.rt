@@ -1,5 +1,6 @@
 // Work areas in which a range of any graph's runs has room, and a range's tables, made in them.
-ghost use Rattle.std.specs.Prelude.{◌≡◌, ◌+◌};
+ghost use Rattle.std.specs.Prelude.{◌≡◌, ◌≤◌};
+ghost use Rattle.model.specs.Limits.{max_runs};
 ghost use Rattle.walk.specs.Prepare.{Measurable, Measured, Relatable, Related};
 
 use model::{MAX_RUNS, MAX_STARTS};
@@ -44,11 +45,11 @@ impl Areas {
 
     // Members, sums and sizes of a range whose rows are laid.
     fn measure(&mut self, starts: &[u32], n: usize, chains: usize, rows: &[u32])
-        requires { Measurable n chains rows.now self.old.chains }
+        requires { (chains ≤ max_runs) × Measurable n rows.now self.old.chains }
         ensures measured { Measured starts.now n chains rows.now self.new.chains self.new.members self.new.sizes }
         ensures kept { (self.new.parents ≡ self.old.parents) × (self.new.chains ≡ self.old.chains) }
     {
-        self.members.index(starts, n, chains, &self.chains);
+        self.members.index(starts, n, &self.chains);
         let rows = self.chains.rows(rows, n);
         let sums = self.members.sums(n, chains);
         distance::sizes_of(&mut self.sizes, sums, &rows);
@@ -74,7 +75,7 @@ impl Areas {
 
     // All of a range's tables; `starts` are its own.
     pub(crate) fn prepare(&mut self, starts: &[u32], n: usize, chains: usize, rows: &[u32])
-        requires measurable { Measurable n chains rows.now self.old.chains }
+        requires measurable { (chains ≤ max_runs) × Measurable n rows.now self.old.chains }
         requires relatable { Relatable starts.now n self.old.parents }
         ensures measured { Measured starts.now n chains rows.now self.new.chains self.new.members self.new.sizes }
         ensures related { Related starts.now n self.new.parents self.new.children self.new.weights }

@@ -114,7 +114,11 @@ impl<'a> Given<'a> {
     {
         let areas = self.areas;
         let tables = &areas.chains;
-        part(self.rows, tables.row_starts[run], tables.row_starts[run + 1])
+        part(
+            self.rows,
+            tables.row_starts[run],
+            tables.row_starts[run + 1],
+        )
     }
 
     pub(crate) fn parents(&self, run: usize) -> &[u32]
@@ -133,7 +137,11 @@ impl<'a> Given<'a> {
     {
         let areas = self.areas;
         let children = &areas.children;
-        part(&children.items, children.starts[run], children.starts[run + 1])
+        part(
+            &children.items,
+            children.starts[run],
+            children.starts[run + 1],
+        )
     }
 
     #[tactic(auto, unfolding(crate::specs::Given::weights_in))]

@@ -1,22 +1,20 @@
 -- `tables::members::begins_of` meets its contract: where each chain's members begin. Assumes nothing.
-use Rattle.std.proofs.Common.{◌≡◌, ℕ, ◌<◌, ◌+◌, ◌^◌, length, get_or, replicate, arith, rules, ap, get_or-set_same}
-use Rattle.lists.proofs.Pads.{zeros_get}
-use Rattle.tables.proofs.Summing.{sums-start, sums_next, bound_next}
+use Rattle.std.proofs.Common.{ℕ, ◌-◌, List, length, get_or, set, length-set, arith, ap}
+use Rattle.tables.proofs.Begins.{headed, headed_small, begins_made}
 use Rattle.tables.proofs.members.begins_of.Goals as goal
 
-pub loop-c-init : goal.loop-c-init
-loop-c-init c =
-    let cleared : c.fill.new.self ≡ replicate (length c.args.begins.now) 0 = search rules in
-    let zeros = zeros_get (length c.args.begins.now) in
-    rw cleared (record { low = omega (arith, zeros 0); summed = sums-start _ _ (zeros 0); bounded = λ k. omega (arith, zeros k) })
-
-pub loop-c-preserved : goal.loop-c-preserved
-loop-c-preserved c =
-    let l = c.loop-c in
-    let v = get_or l.begins l.c 0 + c.item.result in
-    let within : l.c + 1 < length l.begins = omega arith in
+pub sum_up-requires : goal.sum_up-requires
+sum_up-requires c =
+    let a = c.args in
+    let same = headed a.begins.now a.lens.now c.copy_from_slice.new.self (length (set a.begins.now 0 0) - 1) c.requires.0 (omega (arith, c.requires.0, length-set a.begins.now 0 0)) c.copy_from_slice.ensures.after in
     record {
-      low = omega (arith, get_or-set_same l.begins (l.c + 1) v 0 within, c.requires.2 l.c);
-      summed = sums_next l.begins _ l.c v within l.invariant.summed (ap (λ (n : ℕ). get_or l.begins l.c 0 + n) c.item.ensures);
-      bounded = bound_next l.begins (l.c + 1) v (2 ^ 18) l.invariant.bounded (omega (arith, c.requires.2 l.c));
+      few = omega (arith, ap length same, c.requires.0, c.requires.1);
+      first = ap (λ (l : List ℕ). get_or l 0 0) same;
+      small = λ k. omega (arith, ap (λ (l : List ℕ). get_or l k 0) same, headed_small a.lens.now k c.requires.2);
     }
+
+pub returns : goal.returns
+returns c =
+    let a = c.args in
+    let same = headed a.begins.now a.lens.now c.copy_from_slice.new.self (length (set a.begins.now 0 0) - 1) c.requires.0 (omega (arith, c.requires.0, length-set a.begins.now 0 0)) c.copy_from_slice.ensures.after in
+    begins_made a.lens.now _ c.sum_up.new.starts same c.sum_up.ensures c.sum_up.auto.starts c.requires.2 (omega (arith, c.requires.0, c.requires.1))

@@ -14,7 +14,7 @@ pub loop-j-preserved : goal.loop-j-preserved
 loop-j-preserved c =
     let l = c.loop-j in
     let v = get_or l.before l.j 0 + c.from.result in
-    let within : l.j + 1 < length l.before = omega (arith, length-set {A = ℕ}) in
+    let within : l.j + 1 < length l.before = omega (arith, c.requires.1, length-set {A = ℕ}) in
     let size : c.from.result ≡ size_in c.args.starts.now (get_or c.args.members.now l.j 0) = cc in
     record {
       low = omega (arith, get_or-set_same l.before (l.j + 1) v 0 within);

@@ -1,5 +1,5 @@
 -- `tables::rows::lay` meets its contract: the rows that fit, and the tables of all runs. Assumes nothing.
-use Rattle.std.proofs.Common.{ap, ◌≡◌, ◌+◌, ◌≤◌, ◌∙◌, length, refl, replicate, rules, arith, get_or-set_same, length-set}
+use Rattle.std.proofs.Common.{ap, ◌≡◌, ◌+◌, ◌∙◌, length, refl, replicate, rules, arith, get_or-set_same, length-set}
 use Rattle.std.proofs.Math.Seq.{take_at}
 use lib.ListN.{length-replicate}
 use Rattle.tables.specs.Laid.{chains_of}

@@ -1,5 +1,5 @@
 -- `tables::tabling::children` meets its contract: where each run's children begin, and the children. Assumes nothing.
-use Rattle.std.proofs.Common.{◌≡◌, ℕ, ◌+◌, ◌<◌, ◌≤◌, length, ◌∙◌, arith, drop}
+use Rattle.std.proofs.Common.{◌≡◌, ◌+◌, length, ◌∙◌, arith}
 use Rattle.std.proofs.Math.ListN.{get_or-append}
 use Rattle.std.proofs.lemmas.List.{length-take-le}
 use Rattle.tables.proofs.KidsLent.{kids-tabled}

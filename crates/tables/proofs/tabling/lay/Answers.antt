@@ -1,12 +1,9 @@
 -- `tables::tabling::lay` meets its contract: a range's parents, chains and rows. Assumes nothing.
-use Rattle.std.proofs.Common.{◌≡◌, ◌+◌, ◌≤◌, List, ℕ, length, sym, ap, subst, ◌∙◌, arith}
+use Rattle.std.proofs.Common.{◌≡◌, ◌+◌, List, ℕ, length, sym, ap, subst, ◌∙◌, arith}
 use Rattle.tables.specs.Laid.{shares, grouped, LaidOut}
-use Rattle.tables.proofs.JaggedRows.{lies_of, rows_size, rows-below, rows-fit, rows_are}
+use Rattle.tables.proofs.JaggedRows.{rows_size, rows-below, rows-fit, rows_are}
 use Rattle.tables.proofs.Gathering.{shares_same}
 use Rattle.tables.proofs.tabling.lay.Goals as goal
-
-pub new-all-requires : goal.new-all-requires
-new-all-requires c = lies_of c.args.heads.now c.args.parents.now (c.args.a + c.args.n) c.requires.sound
 
 pub gather-requires-clause-runs : goal.gather-requires-clause-runs
 gather-requires-clause-runs c =
@@ -18,9 +15,6 @@ gather-requires-clause-below c = let a = c.args in rows-below a.heads.now a.pare
 pub gather-requires-clause-few : goal.gather-requires-clause-few
 gather-requires-clause-few c =
     let a = c.args in omega (arith, c.requires.few, rows-fit a.heads.now a.parents.now (a.a + a.n) c.requires.sound c.new-all.result c.new-all.ensures)
-
-pub rows-own-requires : goal.rows-own-requires
-rows-own-requires c = lies_of _ _ c.args.n c.gather.ensures.sound
 
 pub lay-requires-clause-below : goal.lay-requires-clause-below
 lay-requires-clause-below c = rows-below _ _ c.args.n c.gather.ensures.sound c.rows-own.result c.rows-own.ensures.rows
@@ -36,8 +30,10 @@ returns c =
     c.gather.ensures.grouped ∙ shares_same a.heads.now a.parents.now c.new-all.result a.a a.n (a.a + a.n) c.new-all.ensures (omega arith) in
     let own : c.rows-own.result ≡ shares a.heads.now a.parents.now a.a a.n = rows_are _ _ a.n s c.rows-own.result c.rows-own.ensures.rows ∙ same in
     let out = subst (λ (l : List (List ℕ)). LaidOut l (length l) a.area.now c.lay.result c.lay.new.rows c.lay.new.tables) own c.lay.ensures in
-    record { range_laid = record {
-      out = subst (λ (k : ℕ). LaidOut (shares a.heads.now a.parents.now a.a a.n) k a.area.now c.lay.result c.lay.new.rows c.lay.new.tables) (sym (ap length own) ∙ rows_size _ _ a.n s c.rows-own.result c.rows-own.ensures.rows) out;
-      groups_are = same;
-      sound = s;
-    } }
+    record {
+      range_laid = record {
+        out = subst (λ (k : ℕ). LaidOut (shares a.heads.now a.parents.now a.a a.n) k a.area.now c.lay.result c.lay.new.rows c.lay.new.tables) (sym (ap length own) ∙ rows_size _ _ a.n s c.rows-own.result c.rows-own.ensures.rows) out;
+        groups_are = same;
+        sound = s;
+      };
+    }

@@ -1,5 +1,5 @@
 -- `tables::groups::Groups::gather` meets its contract: the groups of the runs so far. Assumes nothing.
-use Rattle.std.proofs.Common.{◌+◌, ◌<◌, ◌≤◌, ◌≡◌, length, ap, ◌∙◌, refl, arith}
+use Rattle.std.proofs.Common.{length, ap, ◌∙◌, refl, arith}
 use Rattle.std.proofs.Math.ListN.{length-set}
 use Rattle.tables.specs.Gather.{Gathered, put_parents}
 use Rattle.tables.proofs.Gathering.{puts_count, gathers_none, turn_room, gathers_next}

@@ -1,5 +1,5 @@
 -- `walk::areas::Areas::measure`: members and sums, and sizes by them.
-use Rattle.std.proofs.Common.{◌≡◌, ℕ, ◌≤◌, length, ap, ◌∙◌, arith}
+use Rattle.std.proofs.Common.{◌≡◌, length, ap, ◌∙◌, arith}
 use Rattle.model.specs.History.{at}
 use Rattle.tables.specs.Sizes.{events_from}
 use Rattle.tables.proofs.JaggedRows.{rows-number}
@@ -7,7 +7,7 @@ use Rattle.walk.proofs.areas.Areas.measure.Goals as goal
 
 pub sizes_of-requires : goal.sizes_of-requires
 sizes_of-requires c =
-    let a = c.args in omega (arith, ap length c.rows-rows.ensures, rows-number a.self.now.chains.row_starts a.rows.now a.n, c.requires.rows.few)
+    let a = c.args in omega (arith, ap length c.rows-rows.ensures, rows-number a.self.now.chains.row_starts a.rows.now a.n, c.requires.1.rows.few)
 
 pub returns-clause-measured : goal.returns-clause-measured
 returns-clause-measured c =

@@ -1,5 +1,5 @@
 -- `walk::given::Given::children`: a run's children, between where they begin and the next.
-use Rattle.std.proofs.Common.{ℕ, ◌+◌, ◌<◌, get_or, sym, ap, ◌∙◌, subst, arith}
+use Rattle.std.proofs.Common.{◌<◌, sym, ap, ◌∙◌, subst}
 use Rattle.walk.specs.Given.{Given, child_starts, children_for}
 use Rattle.walk.proofs.Reading.{children_bounds}
 use Rattle.walk.proofs.given.Given.children.Goals as goal

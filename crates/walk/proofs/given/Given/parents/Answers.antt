@@ -1,12 +1,9 @@
 -- `walk::given::Given::parents`: a run's parents, between where they begin and the next.
-use Rattle.std.proofs.Common.{ℕ, ◌+◌, ◌<◌, get_or, length, sym, ap, ◌∙◌, subst, arith}
+use Rattle.std.proofs.Common.{◌<◌, sym, ap, ◌∙◌, subst}
 use Rattle.model.specs.History.{at}
 use Rattle.walk.specs.Given.{Given, parents_for}
-use Rattle.walk.proofs.Reading.{parents_bounds, parents_lent}
+use Rattle.walk.proofs.Reading.{parents_lent}
 use Rattle.walk.proofs.given.Given.parents.Goals as goal
-
-pub part-requires : goal.part-requires
-part-requires c = parents_bounds _ c.self.invariant c.args.run (subst (λ (g : Given). c.args.run < g.runs) (sym c.self.view_is) c.requires)
 
 pub returns-clause-value : goal.returns-clause-value
 returns-clause-value c =

@@ -1,5 +1,5 @@
 -- `walk::given::Given::row`: a run's row, between its start and the next.
-use Rattle.std.proofs.Common.{ℕ, ◌+◌, ◌<◌, get_or, sym, ap, ◌∙◌, subst, arith}
+use Rattle.std.proofs.Common.{◌<◌, sym, ap, ◌∙◌, subst}
 use Rattle.walk.specs.Given.{Given, row_starts, row_for}
 use Rattle.walk.proofs.Reading.{row_bounds}
 use Rattle.walk.proofs.given.Given.row.Goals as goal

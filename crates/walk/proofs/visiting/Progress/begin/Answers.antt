@@ -1,7 +1,7 @@
 -- `walk::visiting::Progress::begin`: what the version needs, and that the walk begins.
-use Rattle.std.proofs.Common.{List, ℕ, ◌-◌, get_or, refl, ap, ◌∙◌, subst, arith}
+use Rattle.std.proofs.Common.{◌-◌, refl, ap, ◌∙◌, arith}
 use Rattle.tables.specs.Reached.{started}
-use Rattle.walk.specs.Given.{Given, chains_in, places_in, Prepared}
+use Rattle.walk.specs.Given.{Given, chains_in, places_in}
 use Rattle.walk.proofs.Looping.{few-chains, standing}
 use Rattle.walk.proofs.visiting.Progress.begin.Goals as goal
 

@@ -1,7 +1,7 @@
--- `tables::children::sum_up` meets its contract: each place is the sum of those up to it. Assumes nothing.
+-- `tables::words::sum_up` meets its contract: each place is the sum of those up to it. Assumes nothing.
 use Rattle.std.proofs.Common.{arith}
 use Rattle.tables.proofs.Counting.{summing_start, summing_room, summing_next, summing_end}
-use Rattle.tables.proofs.children.sum_up.Goals as goal
+use Rattle.tables.proofs.words.sum_up.Goals as goal
 
 pub loop-s-init : goal.loop-s-init
 loop-s-init c = summing_start c.args.starts.now
