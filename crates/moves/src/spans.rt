@@ -9,6 +9,7 @@ use model::Refusal;
 use tables::words::item;
 
 // The runs of a range as steps name them: where the graph's runs start, and the graph's run at which the range begins.
+// The kind of a step is no part of them: a visit has one range, and moves of two kinds.
 #[derive(Clone, Copy)]
 pub struct Runs<'a> {
     pub starts: &'a [u32],

@@ -3,7 +3,8 @@ ghost use Rattle.std.specs.Prelude.{◌≡◌, ◌+◌, ◌*◌, ◌-◌, ◌<�
 
 use model::{Refusal, Walked};
 
-// The kinds of steps, by the words that stand for them in a list. (model::WalkStep has the runs too, and is made of words that were read.)
+// The kinds of steps, by the words that stand for them in a list. No model::WalkStep: that has its runs, and here a kind is passed on
+// before the runs of its steps are known.
 #[derive(Clone, Copy)]
 pub enum Kind {
     Retreat = 0,
@@ -12,8 +13,8 @@ pub enum Kind {
     Open = 3,
 }
 
-// A lent list, how many steps were written into it, and the events that they move. No step moves 2^32 events, so 128 bits hold the sum
-// of any list's, and no function that writes has to bound it.
+// A lent list, how many steps were written into it, and the events that they move. A step moves less than 2^32 events, so the sum of
+// any list's fits 128 bits, and no function that writes asks for a bound; that a call's sum fits 64 is shown once, where it is answered.
 #[derive(Drop)]
 pub struct Steps<'a> {
     list: &'a mut [u32],

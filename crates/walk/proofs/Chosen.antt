@@ -3,7 +3,7 @@ use Rattle.std.proofs.Common.{◌≡◌, refl, sym, ap, ◌∙◌, Bool, true, f
 use mathlib.Core.Option as maybe
 use mathlib.Core.Option.{none, some}
 use Rattle.std.specs.Prelude.{Option, Some, None}
-use Rattle.lists.specs.Lists.{mem, reverse}
+use Rattle.lists.specs.Lists.{mem}
 use Rattle.lists.proofs.Truth.{or_left, or_right}
 use Rattle.model.specs.History.{at}
 use Rattle.model.specs.Choice.{Range, Best, better, free, is_last, apart, weigh, weigh_all, chosen, choice}
@@ -154,7 +154,3 @@ choice_found v now last t d w ready n le l h =
 pub found_none : (t : ℕ → Bool) (d w : ℕ → ℕ) (ready : List ℕ) → scan_c t d w ready 0 0 (min 64 0) None ≡ None
 unfolding scan_c
 found_none t d w ready = refl
-
-pub choice-none : (v : Range) (now : List ℕ) (last : maybe.Option ℕ) (ready : List ℕ) → choice v now last (take 0 ready) ≡ none
-unfolding choice reverse weigh_all chosen
-choice-none v now last ready = refl

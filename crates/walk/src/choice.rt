@@ -17,7 +17,7 @@ pub(crate) struct Best {
     pub(crate) at: usize,
 }
 
-// Whether (cost, weight) is strictly lower.
+// Whether (cost, weight) is strictly lower. No derived order: that would go on to the place, and a tie stays with the newer.
 fn is_lower(a: Best, b: Best) -> bool
     ensures { result ≡ is_lower a b }
 {
