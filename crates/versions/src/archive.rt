@@ -103,8 +103,7 @@ fn highest(
         return EventRunIndex(0);
     };
     let next = EventRunIndex(*last + 1);
-    let k = count_heads(firsts, parents, next);
-    if k == counts[next.0 as usize] {
+    if count_heads(firsts, parents, next) == counts[next.0 as usize] {
         return next;
     }
     EventRunIndex(*last)
