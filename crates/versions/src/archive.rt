@@ -73,14 +73,14 @@ fn count_heads(firsts: &[Option<EventRunIndex>], parents: &[u32], run: EventRunI
 // How many heads lie below each of some runs: the runs below it that have no child below it.
 // An array beside the first children, not one of pairs: the counts are made in a pass of their own, which needs all first children.
 #[tactic(auto, using(crate::proofs::HeadTurns::heads_on))]
-fn head_counts(firsts: &[Option<EventRunIndex>; MAX_RUNS], parents: ParentRows) -> [u32; MAX_RUNS]
+fn head_counts(firsts: &[Option<EventRunIndex>; MAX_RUNS], parents: ParentRows) -> [usize; MAX_RUNS]
     requires { HeadsFit firsts.now (parents_in parents) (runs_in parents) }
     ensures { HeadCounts firsts.now (parents_in parents.entry) (runs_in parents.entry) result }
 {
     let mut counts = [0; MAX_RUNS];
     let mut heads = 0;
     for m in 0..parents.len() {
-        counts[m] = heads as u32;
+        counts[m] = heads;
         heads = heads + 1 - count_heads(firsts, parents.of(m), EventRunIndex(m as u32));
     }
     counts
@@ -91,7 +91,7 @@ fn head_counts(firsts: &[Option<EventRunIndex>; MAX_RUNS], parents: ParentRows) 
 #[tactic(auto, using(crate::proofs::HeadTurns::last_parent), unfolding(crate::specs::Heads::whole_in))]
 fn highest(
     firsts: &[Option<EventRunIndex>; MAX_RUNS],
-    counts: &[u32; MAX_RUNS],
+    counts: &[usize; MAX_RUNS],
     parents: &[u32],
     run: EventRunIndex,
 ) -> EventRunIndex
@@ -103,8 +103,7 @@ fn highest(
         return EventRunIndex(0);
     };
     let next = EventRunIndex(*last + 1);
-    let k = count_heads(firsts, parents, next);
-    if k == counts[next.0 as usize] as usize {
+    if count_heads(firsts, parents, next) == counts[next.0 as usize] {
         return next;
     }
     EventRunIndex(*last)
@@ -114,7 +113,7 @@ fn highest(
 #[tactic(auto, using(crate::proofs::Passes::row_each))]
 fn seen_lengths(
     firsts: &[Option<EventRunIndex>; MAX_RUNS],
-    counts: &[u32; MAX_RUNS],
+    counts: &[usize; MAX_RUNS],
     events: &[u32],
     parents: ParentRows,
 ) -> [u32; MAX_RUNS]

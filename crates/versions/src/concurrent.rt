@@ -104,6 +104,7 @@ fn flags_of(g: &HeldGraph, run: EventRunIndex) -> [bool; MAX_RUNS]
 }
 
 // The runs that have no flag.
+// Their number is bounded by a clause: no heap is used, and that a `Kept` of fixed memory has room for all is no part of a slice's type.
 #[tactic(auto, using(crate::proofs::Passes::freeing))]
 fn free_runs(flags: &[bool]) -> Kept
     requires { length flags.now ≤ max_runs }

@@ -81,6 +81,7 @@ fn top_event(flag: bool, end: Option<EventIndex>) -> Option<EventIndex>
 }
 
 // The last marked events of the runs of which something is marked and that are not flagged.
+// Their number is bounded by a clause: no heap is used, and that a `Kept` of fixed memory has room for all is no part of a slice's type.
 #[tactic(auto, using(crate::proofs::RangeTurns::topping), unfolding(crate::specs::Ranges::is_top))]
 fn top_events(flags: &[bool], ends: &[Option<EventIndex>]) -> Kept
     requires few { length ends.now ≤ max_runs }
