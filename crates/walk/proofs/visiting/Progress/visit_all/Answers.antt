@@ -13,9 +13,6 @@ loop-init c = let g = c.args.given.now in
     let z : g.runs - 0 ≡ g.runs = omega arith in
     record { same_list = refl; looped = rw z (looped_start g _ (so_far c.args.steps.now) (subst Prepared c.given.view_is c.given.invariant) c.requires) }
 
-pub nearest-requires-clause-room : goal.nearest-requires-clause-room
-nearest-requires-clause-room c = (looped_ready _ _ _ _ _ c.loop.invariant.looped).room
-
 pub nearest-requires-clause-ready : goal.nearest-requires-clause-ready
 nearest-requires-clause-ready c = (looped_ready _ _ _ _ _ c.loop.invariant.looped).low
 

@@ -4,14 +4,8 @@ use Rattle.std.proofs.lemmas.Result.{err_from_is_err_and}
 use Rattle.moves.specs.Emit.{so_far, emit}
 use Rattle.walk.specs.Given.{children_for}
 use Rattle.walk.specs.Readiness.{Wakes, woken_of}
-use Rattle.walk.proofs.Stepping.{visited_is, run-low, turned}
+use Rattle.walk.proofs.Stepping.{visited_is, turned}
 use Rattle.walk.proofs.visiting.Progress.visit_next.Goals as goal
-
-pub visit-requires : goal.visit-requires
-visit-requires c = run-low c.args.given.now c.args.self.now c.requires.fit c.args.at c.remove-run.result c.requires.at c.remove-run.ensures.run
-
-pub wake_visit-self-requires : goal.wake_visit-self-requires
-wake_visit-self-requires c = run-low c.args.given.now c.args.self.now c.requires.fit c.args.at c.remove-run.result c.requires.at c.remove-run.ensures.run
 
 pub returns-in_err-visit-clause-steps_after : goal.returns-in_err-visit-clause-steps_after
 returns-in_err-visit-clause-steps_after c =
