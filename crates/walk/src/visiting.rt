@@ -36,10 +36,9 @@ impl Progress {
         ensures begun { Begun given.now self.new }
         ensures out { self.new.out ≡ self.old.out }
     {
-        let areas = given.areas;
         versions::start_version(
             &mut self.version,
-            &areas.chains,
+            &given.areas.chains,
             given.chains,
             given.known as usize,
         );
