@@ -12,7 +12,7 @@ use Rattle.model.specs.History.{at, reached, histories_from, histories}
 use Rattle.model.proofs.Histories.{Below, history-below}
 use Rattle.tables.specs.Laid.{chs}
 use Rattle.tables.proofs.Prefixes.{Falls, none_after, tail}
-use Rattle.tables.proofs.Chaining.{chain_chained}
+use Rattle.tables.proofs.Chaining.{cnt, chain_chained}
 use Rattle.tables.proofs.Holding.{closed, not_in}
 
 -- Lists that hold each number at most once
@@ -50,6 +50,11 @@ prefix p (x ∷ xs) h (suc j) lt = go (p x) refl (prefix p xs (tail p x xs h) j 
         cases (inl a) = lt-ltb j (count p xs) a ∙ sym (lt-ltb (suc j) (1 + count p xs) (omega arith))
         cases (inr a) = le-ltb j (count p xs) a ∙ sym (le-ltb (suc j) (1 + count p xs) (omega arith))
     go false e ih = ih ∙ (le-ltb j (count p xs) (omega (arith, none_after p x xs e h)) ∙ sym (le-ltb (suc j) (0 + count p xs) (omega (arith, none_after p x xs e h))))
+
+-- A closed set holds of a chain the first members, as many as it counts
+pub closed_prefix : (pss : List (List ℕ)) (s : List ℕ) → Closed pss s → (r k j : ℕ) → j < length (at (chs (histories pss) r) k) →
+    mem (get_or (at (chs (histories pss) r) k) j 0) s ≡ ltb j (cnt s (at (chs (histories pss) r) k))
+closed_prefix pss s c r k j lt = prefix (λ m. mem m s) (at (chs (histories pss) r) k) (closed_falls pss s c r k) j lt
 
 from-once : (a n : ℕ) → Once (from a n)
 unfolding from

@@ -4,14 +4,14 @@ use Rattle.std.proofs.Common.{arith, length, get_or, take, drop, set, length-app
 use lib.Seq.{append_snoc, set-append_seam}
 use borrow.Author.Tests.{lt-leb}
 use Rattle.lists.specs.Lists.{filter, concat}
-use Rattle.lists.specs.Areas.{over, part, group_starts}
+use Rattle.lists.specs.Areas.{over, group_starts}
 use Rattle.lists.proofs.Counts.{length_snoc}
 use Rattle.lists.proofs.Groups.{concat-append, length_group_starts}
 use Rattle.model.specs.History.{at}
 use Rattle.tables.specs.Jagged.{rows_in}
 use Rattle.tables.specs.Gather.{Gathered, put_parent, put_parents}
 use Rattle.tables.specs.Laid.{shares, shares_of}
-use Rattle.tables.proofs.JaggedRows.{row_part, rows_more, rows-most}
+use Rattle.tables.proofs.JaggedRows.{rows_more, rows-most}
 
 -- Those of a run's parents that lie in the range
 abbrev pub inside : ℕ → List ℕ → List ℕ
@@ -115,27 +115,18 @@ group_added : (a : ℕ) (pss : List (List ℕ)) (ps area : List ℕ) → length 
 group_added a pss ps area room = puts_held a (concat pss) area ps room ∙ ap (λ (l : List ℕ). held l area) (sym (concat_snoc pss (inside a ps)))
 
 -- As many groups as runs
-pub shares-length : (starts items : List ℕ) (a n : ℕ) → length (shares starts items a n) ≡ n
-unfolding shares
-shares-length starts items a zero = refl
-shares-length starts items a (suc n) = length_snoc (shares starts items a n) (inside a (part (get_or starts (a + n) 0) (get_or starts (a + n + 1) 0) items)) ∙ ap suc (shares-length starts items a n)
-
--- the same by all runs' parents
 pub shares-count : (all : List (List ℕ)) (a n : ℕ) → length (shares_of all a n) ≡ n
 unfolding shares_of
 shares-count all a zero = refl
 shares-count all a (suc n) = length_snoc (shares_of all a n) (inside a (at all (a + n))) ∙ ap suc (shares-count all a n)
 
+pub shares-length : (starts items : List ℕ) (a n : ℕ) → length (shares starts items a n) ≡ n
+unfolding shares
+shares-length starts items a n = shares-count (rows_in starts items (a + n)) a n
+
 share_more : (all : List (List ℕ)) (a n : ℕ) → shares_of all a (suc n) ≡ shares_of all a n ++ inside a (at all (a + n)) ∷ []
 unfolding shares_of
 share_more all a n = refl
-
-pub shares_same : (starts items : List ℕ) (all : List (List ℕ)) (a n m : ℕ) → all ≡ rows_in starts items m → a + n ≤ m → shares_of all a n ≡ shares starts items a n
-unfolding shares_of shares
-shares_same starts items all a zero m made le = refl
-shares_same starts items all a (suc n) m made le =
-    ap₂ (λ (l : List (List ℕ)) (ps : List ℕ). l ++ inside a ps ∷ []) (shares_same starts items all a n m made (omega arith))
-    (ap (λ (l : List (List ℕ)). at l (a + n)) made ∙ row_part starts items m (a + n) (omega arith))
 
 -- The groups of j runs from run a on, made in areas that held s₀ and i₀, and where the next item goes
 pub record Gathers (all : List (List ℕ)) (a j : ℕ) (s₀ i₀ : List ℕ) (next : ℕ) (ss is : List ℕ) : Type 0 where

@@ -1,7 +1,6 @@
 -- The parents gathered are those of the range, and every one is below its run. Assumes nothing.
-use Rattle.std.proofs.Common.{◌≡◌, refl, sym, ap, ap₂, ◌∙◌, subst, ◌⊎◌, inl, inr, true, false, List, [], ◌∷◌, ◌++◌, map, ℕ, zero, suc, ◌+◌, ◌-◌, ◌≤◌, ◌<◌, add-one, arith, length}
-use Rattle.std.proofs.Common.{get_or, take, drop, length-append, length-drop, take-suc, take_at, get_or-drop, leb, leb-true}
-use mathlib.Core.List.{map-append}
+use Rattle.std.proofs.Common.{◌≡◌, refl, sym, ap, ap₂, ◌∙◌, subst, ◌⊎◌, inl, inr, true, false, List, [], ◌∷◌, ◌++◌, ℕ, zero, suc, ◌+◌, ◌-◌, ◌≤◌, ◌<◌, add-one, arith, length}
+use Rattle.std.proofs.Common.{get_or, drop, length-append, take_at, leb, leb-true}
 use lib.ListN.{get_or-append, get_or-eq_default}
 use lib.Seq.{get_or-append_seam, take-append_seam}
 use Rattle.lists.specs.Lists.{mem, filter, concat}
@@ -9,56 +8,15 @@ use Rattle.lists.specs.Areas.{over, part, group_starts, groups, climbs}
 use Rattle.lists.proofs.Truth.{lt_or_le, eq_or-not, and_right, false_true}
 use Rattle.lists.proofs.Members.{mem-filter, map-mem}
 use Rattle.lists.proofs.Groups.{length_group_starts, part-take, climbs-low, climbs-whole, groups-concat, climbs-at}
-use Rattle.model.specs.Graph.{Graph}
 use Rattle.model.specs.History.{at}
-use Rattle.model.specs.Range.{parents_in}
 use Rattle.model.proofs.Histories.{Below}
 use Rattle.tables.specs.Gather.{Gathered}
 use Rattle.tables.specs.Laid.{grouped, shares, shares_of, Sound}
-use Rattle.tables.proofs.Gathering.{inside, shares-length, shares-count, Gathers}
+use Rattle.tables.specs.Jagged.{rows_in}
+use Rattle.tables.proofs.JaggedRows.{row_part}
+use Rattle.tables.proofs.Gathering.{inside, shares-count, Gathers}
 
--- One run more of a range
-parents-next : (g : Graph) (a r : ℕ) → a ≤ r → r < length g.parents → parents_in g a (suc r) ≡ parents_in g a r ++ inside a (at g.parents r) ∷ []
-unfolding parents_in at
-parents-next g a r le lt =
-    let k : suc r - a ≡ suc (r - a) = omega arith in
-    let e : a + (r - a) ≡ r = omega arith in
-    let q : take (suc r - a) (drop a g.parents) ≡ take (r - a) (drop a g.parents) ++ get_or g.parents r [] ∷ [] =
-    ap (λ (m : ℕ). take m (drop a g.parents)) k ∙ (take-suc (drop a g.parents) (r - a) [] (omega (arith, length-drop a g.parents)) ∙
-    ap (λ (x : List ℕ). take (r - a) (drop a g.parents) ++ x ∷ []) (get_or-drop a g.parents (r - a) [] ∙ ap (λ (m : ℕ). get_or g.parents m []) e)) in
-    ap (map (inside a)) q ∙ map-append (inside a) (take (r - a) (drop a g.parents)) (get_or g.parents r [] ∷ [])
-
-parents-empty : (g : Graph) (a : ℕ) → parents_in g a a ≡ []
-unfolding parents_in
-parents-empty g a = let e : a - a ≡ 0 = omega arith in rw e
-
--- What the runs have of their parents is what the definitions say of the range
-pub shares_are : (g : Graph) (starts items : List ℕ) (a n : ℕ) → a + n ≤ length g.parents →
-    ((r : ℕ) → r < a + n → part (get_or starts r 0) (get_or starts (r + 1) 0) items ≡ at g.parents r) → shares starts items a n ≡ parents_in g a (a + n)
-unfolding shares
-shares_are g starts items a zero le same = let e : a + 0 ≡ a = omega arith in sym (ap (parents_in g a) e ∙ parents-empty g a)
-shares_are g starts items a (suc n) le same =
-    let e : a + suc n ≡ suc (a + n) = omega arith in
-    rw (same (a + n) (omega arith), shares_are g starts items a n (omega arith) (λ r lt. same r (omega arith)))
-    (sym (ap (parents_in g a) e ∙ parents-next g a (a + n) (omega arith) (omega arith)))
-
--- A run's share
-pub shares_at : (starts items : List ℕ) (a n r : ℕ) → r < n → at (shares starts items a n) r ≡ inside a (part (get_or starts (a + r) 0) (get_or starts (a + r + 1) 0) items)
-unfolding shares at
-shares_at starts items a zero r lt = absurd (omega arith)
-shares_at starts items a (suc n) r lt = go (eq_or-not r n) (λ q. shares_at starts items a n r q)
-  where
-    share : ℕ → List ℕ
-    share k = inside a (part (get_or starts (a + k) 0) (get_or starts (a + k + 1) 0) items)
-
-    size : length (shares starts items a n) ≡ n
-    size = shares-length starts items a n
-
-    go : (r ≡ n) ⊎ (r ≡ n → ⊥) → (r < n → get_or (shares starts items a n) r [] ≡ share r) → get_or (shares starts items a n ++ share n ∷ []) r [] ≡ share r
-    go (inl e) rec = ap (λ (k : ℕ). get_or (shares starts items a n ++ share n ∷ []) k []) (e ∙ sym size) ∙ (get_or-append_seam (shares starts items a n) (share n) [] [] ∙ ap share (sym e))
-    go (inr ne) rec = get_or-append (shares starts items a n) (share n ∷ []) [] r (omega (arith, size)) ∙ rec (omega arith)
-
--- A share, by all runs' parents, and that there are no more
+-- A run's share, and that there are no more
 share-is : (all : List (List ℕ)) (a n r : ℕ) → r < n → at (shares_of all a n) r ≡ inside a (at all (a + r))
 unfolding shares_of at
 share-is all a zero r lt = absurd (omega arith)
@@ -73,6 +31,11 @@ share-is all a (suc n) r lt = go (eq_or-not r n) (λ q. share-is all a n r q)
     go : (r ≡ n) ⊎ (r ≡ n → ⊥) → (r < n → get_or (shares_of all a n) r [] ≡ share r) → get_or (shares_of all a n ++ share n ∷ []) r [] ≡ share r
     go (inl e) rec = ap (λ (k : ℕ). get_or (shares_of all a n ++ share n ∷ []) k []) (e ∙ sym size) ∙ (get_or-append_seam (shares_of all a n) (share n) [] [] ∙ ap share (sym e))
     go (inr ne) rec = get_or-append (shares_of all a n) (share n ∷ []) [] r (omega (arith, size)) ∙ rec (omega arith)
+
+-- by the graph's starts and items
+pub shares_at : (starts items : List ℕ) (a n r : ℕ) → r < n → at (shares starts items a n) r ≡ inside a (part (get_or starts (a + r) 0) (get_or starts (a + r + 1) 0) items)
+unfolding shares
+shares_at starts items a n r lt = share-is (rows_in starts items (a + n)) a n r lt ∙ ap (inside a) (row_part starts items (a + n) (a + r) (omega arith))
 
 past : (all : List (List ℕ)) (a n r : ℕ) → n ≤ r → at (shares_of all a n) r ≡ []
 unfolding at

@@ -1,10 +1,11 @@
 -- The chains and rows that the definitions give for the runs so far, and what laying a range's rows leaves. Assumes nothing.
 use Rattle.std.specs.Prelude.{◌≡◌, true, cond, List, [], ◌∷◌, ◌++◌, map, ℕ, zero, suc, ◌+◌, ◌-◌, ◌≤◌, ◌<◌, length, get_or, take, leb, Option, MatchOption}
 use Rattle.lists.specs.Lists.{all, mem, concat, filter}
-use Rattle.lists.specs.Areas.{over, fitting, groups, part}
+use Rattle.lists.specs.Areas.{over, fitting, groups}
 use Rattle.model.specs.Limits.{max_runs}
 use Rattle.model.specs.History.{at, histories}
 use Rattle.model.specs.Range.{join, row, rows_from}
+use Rattle.tables.specs.Jagged.{rows_in}
 use Rattle.tables.specs.declared.rows.Area.{Area}
 use Rattle.tables.specs.declared.rows.ChainTables.{ChainTables}
 use Rattle.tables.specs.declared.groups.Groups.{Groups}
@@ -45,16 +46,14 @@ pub record Sound (starts items : List ℕ) (n : ℕ) : Type 0 where
   pub inside : (r : ℕ) → r < n → (get_or starts r 0 ≤ get_or starts (r + 1) 0) × (get_or starts (r + 1) 0 ≤ length items)
   pub below : (r p : ℕ) → mem p (at (grouped starts items n) r) ≡ true → p < r
 
--- What the runs from a on have of their parents, numbered from a on; starts and items are the graph's
-unfoldable pub shares : List ℕ → List ℕ → ℕ → ℕ → List (List ℕ)
-shares starts items a zero = []
-shares starts items a (suc n) =
-    shares starts items a n ++ map (λ p. p - a) (filter (λ p. leb a p) (part (get_or starts (a + n) 0) (get_or starts (a + n + 1) 0) items)) ∷ []
-
--- the same, by all runs' parents
+-- What n runs from run a on have of their parents, numbered from a on; the first are all runs'
 unfoldable pub shares_of : List (List ℕ) → ℕ → ℕ → List (List ℕ)
 shares_of all a zero = []
 shares_of all a (suc n) = shares_of all a n ++ map (λ p. p - a) (filter (λ p. leb a p) (at all (a + n))) ∷ []
+
+-- the same by the graph's starts and items
+unfoldable pub shares : List ℕ → List ℕ → ℕ → ℕ → List (List ℕ)
+shares starts items a n = shares_of (rows_in starts items (a + n)) a n
 
 -- The chains so far as tables: where each run's row starts, each run's chain and place, each chain's length; how many chains there are,
 -- and how much of the row area is used

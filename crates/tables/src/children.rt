@@ -1,5 +1,5 @@
 // The children of each run: counted, then placed.
-ghost use Rattle.std.specs.Prelude.{◌≡◌, ℕ, ◌+◌, ◌-◌, ◌<◌, ◌≤◌, ◌^◌, length, get_or};
+ghost use Rattle.std.specs.Prelude.{◌≡◌, ℕ, ◌+◌, ◌<◌, ◌≤◌, ◌^◌, length, get_or};
 ghost use Rattle.lists.specs.Lists.{concat};
 ghost use Rattle.model.specs.Limits.{max_starts};
 ghost use Rattle.tables.specs.Jagged.{Below};

@@ -1,5 +1,5 @@
 // Rows of numbers in arrays of their own, as the parents of a range's runs are, numbered within it, or the runs' children.
-ghost use Rattle.std.specs.Prelude.{◌≡◌, ◌+◌, ◌<◌, ◌≤◌, ◌^◌, length};
+ghost use Rattle.std.specs.Prelude.{◌≡◌, ◌+◌, ◌<◌, ◌≤◌, length};
 ghost use Rattle.lists.specs.Lists.{concat};
 ghost use Rattle.model.specs.Limits.{max_runs, max_entries};
 ghost use Rattle.tables.specs.Jagged.{rows_in, Lies, Below};

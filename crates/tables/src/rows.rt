@@ -3,7 +3,7 @@ ghost use Rattle.std.specs.Prelude.{◌≡◌, ◌+◌, ◌<◌, ◌≤◌, ◌^
 ghost use Rattle.std.specs.List.{position, zip};
 ghost use Rattle.model.specs.Limits.{max_runs, max_starts};
 ghost use Rattle.tables.specs.Jagged.{rows_in, Lies, Below};
-ghost use Rattle.tables.specs.Lay.{join_of, raised, join_parent, join_all, spot_from, Fine, FineAll, Safe, place_in, lay_of};
+ghost use Rattle.tables.specs.Lay.{join_of, join_parent, join_all, spot_from, Fine, FineAll, Safe, place_in, lay_of};
 ghost use Rattle.tables.specs.Laid.{chains_of, LaidOut};
 
 use crate::jagged::Jagged;

@@ -1,7 +1,7 @@
-// A range's tables, made of each other: parents, chains and rows; children; the sizes of the runs' histories.
-ghost use Rattle.std.specs.Prelude.{◌≡◌, ◌+◌, ◌≤◌, ◌^◌, length, take};
+// A range's tables, made of each other: parents, chains and rows; and children.
+ghost use Rattle.std.specs.Prelude.{◌+◌, ◌≤◌, length};
 ghost use Rattle.lists.specs.Lists.{concat};
-ghost use Rattle.model.specs.Limits.{max_runs, max_entries};
+ghost use Rattle.model.specs.Limits.{max_entries};
 ghost use Rattle.tables.specs.Jagged.{Below};
 ghost use Rattle.tables.specs.Laid.{shares, Sound, RangeLaid};
 ghost use Rattle.tables.specs.Counted.{KidsTabled};

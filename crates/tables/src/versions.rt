@@ -1,5 +1,5 @@
 // Versions as how far along each chain they reach.
-ghost use Rattle.std.specs.Prelude.{◌≡◌, ◌+◌, ◌≤◌, ◌<◌, length, get_or};
+ghost use Rattle.std.specs.Prelude.{◌+◌, ◌≤◌, ◌<◌, length, get_or};
 ghost use Rattle.model.specs.Limits.{max_runs};
 ghost use Rattle.tables.specs.Reached.{started, arrived, Holds, Standing};
 

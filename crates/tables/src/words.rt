@@ -11,15 +11,15 @@ pub fn item<T: Copy>(s: &[T], i: usize, or: T) -> T
 }
 
 // Each place the sum of those up to it.
-pub(crate) fn sum_up(starts: &mut [u32])
-    requires few { length starts.old ≤ max_starts }
-    requires first { get_or starts.old 0 0 ≡ 0 }
-    requires small { (k : ℕ) → get_or starts.old k 0 ≤ 2 ^ 20 }
-    ensures { Summed (λ i. get_or starts.old (i + 1) 0) (length starts.old - 1) starts.new }
+pub(crate) fn sum_up(list: &mut [u32])
+    requires few { length list.old ≤ max_starts }
+    requires first { get_or list.old 0 0 ≡ 0 }
+    requires small { (k : ℕ) → get_or list.old k 0 ≤ 2 ^ 20 }
+    ensures { Summed (λ i. get_or list.old (i + 1) 0) (length list.old - 1) list.new }
 {
     let mut sum = 0;
-    for s in starts.iter_mut() {
-        sum += *s;
-        *s = sum;
+    for x in list.iter_mut() {
+        sum += *x;
+        *x = sum;
     }
 }

@@ -20,7 +20,9 @@ use Rattle.model.specs.Broken.{Held}
 use Rattle.graph.specs.Rows.{row, Rows}
 use Rattle.graph.proofs.Views.{facts, runs-view, start-view, starts_list, starts_count, starts-pad}
 use Rattle.graph.proofs.Entries.{parents-rise, row-view, rows_of}
-use Rattle.tables.specs.Laid.{shares, grouped, Sound}
+use Rattle.tables.specs.Jagged.{rows_in}
+use Rattle.tables.specs.Laid.{shares, shares_of, grouped, Sound}
+use Rattle.tables.proofs.JaggedRows.{row_part}
 use Rattle.walk.specs.Ranges.{range_by, offsets, range_in, Arrays}
 
 -- Those of a run's parents that lie in the range
@@ -43,14 +45,18 @@ unfolding parents_in
 parents-empty g a = let e : a - a ≡ 0 = omega arith in rw e
 
 -- What the runs have of their parents is what the definitions say of the range
+shares_up : (g : Graph) (all : List (List ℕ)) (a n : ℕ) → a + n ≤ length g.parents → ((r : ℕ) → r < a + n → at all r ≡ at g.parents r) → shares_of all a n ≡ parents_in g a (a + n)
+unfolding shares_of
+shares_up g all a zero le same = let e : a + 0 ≡ a = omega arith in sym (ap (parents_in g a) e ∙ parents-empty g a)
+shares_up g all a (suc n) le same =
+    let e : a + suc n ≡ suc (a + n) = omega arith in
+    rw (same (a + n) (omega arith), shares_up g all a n (omega arith) (λ r lt. same r (omega arith)))
+    (sym (ap (parents_in g a) e ∙ parents-next g a (a + n) (omega arith) (omega arith)))
+
 shares_are : (g : Graph) (starts items : List ℕ) (a n : ℕ) → a + n ≤ length g.parents → ((r : ℕ) → r < a + n → row starts items r ≡ at g.parents r) →
     shares starts items a n ≡ parents_in g a (a + n)
 unfolding shares row
-shares_are g starts items a zero le same = let e : a + 0 ≡ a = omega arith in sym (ap (parents_in g a) e ∙ parents-empty g a)
-shares_are g starts items a (suc n) le same =
-    let e : a + suc n ≡ suc (a + n) = omega arith in
-    rw (same (a + n) (omega arith), shares_are g starts items a n (omega arith) (λ r lt. same r (omega arith)))
-    (sym (ap (parents_in g a) e ∙ parents-next g a (a + n) (omega arith) (omega arith)))
+shares_are g starts items a n le same = shares_up g (rows_in starts items (a + n)) a n le (λ r lt. row_part starts items (a + n) r lt ∙ same r lt)
 
 -- A row by its starts
 grouped-at : (starts items : List ℕ) (n r : ℕ) → r < n → n < length starts → at (grouped starts items n) r ≡ row starts items r

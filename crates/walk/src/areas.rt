@@ -30,6 +30,7 @@ pub(crate) struct Areas {
 }
 
 impl Areas {
+    // Nothing is prepared.
     pub(crate) fn new() -> Areas {
         Areas {
             parents: Groups::new(),

@@ -61,7 +61,7 @@ fn part(list: &[u32], from: u32, to: u32) -> &[u32]
 }
 
 impl<'a> Given<'a> {
-    // A run's chain, and its place along it.
+    // A run's chain.
     #[tactic(auto, unfolding(crate::specs::Given::chains_in))]
     pub(crate) fn chain(&self, run: usize) -> usize
         requires { run < self.now.runs }
@@ -71,6 +71,7 @@ impl<'a> Given<'a> {
         areas.chains.chains[run] as usize
     }
 
+    // A run's place along its chain.
     #[tactic(auto, unfolding(crate::specs::Given::places_in))]
     pub(crate) fn place(&self, run: usize) -> u32
         requires { run < self.now.runs }
@@ -80,40 +81,38 @@ impl<'a> Given<'a> {
         areas.chains.places[run]
     }
 
-    // Where each chain's members begin, the members, and the events before each.
+    // Where each chain's members begin.
     #[tactic(auto, unfolding(crate::specs::Given::begins_in))]
     pub(crate) fn begins(&self) -> &[u32]
         ensures { result.now ≡ begins_in self.now }
     {
-        let areas = self.areas;
-        &areas.members.starts[..self.runs + 1]
+        &self.areas.members.starts[..self.runs + 1]
     }
 
+    // The chains' members, one chain after another.
     #[tactic(auto, unfolding(crate::specs::Given::members_in))]
     pub(crate) fn members(&self) -> &[u32]
         ensures value { result.now ≡ members_in self.now }
         ensures length { length result.now ≡ self.now.runs + 1 }
     {
-        let areas = self.areas;
-        &areas.members.runs[..self.runs + 1]
+        &self.areas.members.runs[..self.runs + 1]
     }
 
+    // The sums of the members' events.
     pub(crate) fn sums(&self) -> Sums<'_>
         ensures before { result.before.now ≡ sums_in self.now }
         ensures begins { result.begins.now ≡ begins_in self.now }
         ensures chains { result.chains ≡ self.now.chains }
     {
-        let areas = self.areas;
-        areas.members.sums(self.runs, self.chains)
+        self.areas.members.sums(self.runs, self.chains)
     }
 
-    // A run's row, parents, children, weight, and the events of its history.
+    // A run's row.
     pub(crate) fn row(&self, run: usize) -> &[u32]
         requires { run < self.now.runs }
         ensures { result.now ≡ row_for self.now run }
     {
-        let areas = self.areas;
-        let tables = &areas.chains;
+        let tables = &self.areas.chains;
         part(
             self.rows,
             tables.row_starts[run],
@@ -121,22 +120,22 @@ impl<'a> Given<'a> {
         )
     }
 
+    // A run's parents.
     pub(crate) fn parents(&self, run: usize) -> &[u32]
         requires { run < self.now.runs }
         ensures value { result.now ≡ at (parents_for self.now) run }
         ensures few { length result.now ≤ 2 ^ 31 }
     {
-        let areas = self.areas;
-        let parents = &areas.parents;
+        let parents = &self.areas.parents;
         part(&parents.items, parents.starts[run], parents.starts[run + 1])
     }
 
+    // A run's children.
     pub(crate) fn children(&self, run: usize) -> &[u32]
         requires { run < self.now.runs }
         ensures { result.now ≡ children_for self.now run }
     {
-        let areas = self.areas;
-        let children = &areas.children;
+        let children = &self.areas.children;
         part(
             &children.items,
             children.starts[run],
@@ -144,6 +143,7 @@ impl<'a> Given<'a> {
         )
     }
 
+    // A run's weight.
     #[tactic(auto, unfolding(crate::specs::Given::weights_in))]
     pub(crate) fn weight(&self, run: usize) -> u64
         requires { run < self.now.runs }
@@ -153,6 +153,7 @@ impl<'a> Given<'a> {
         u64::from(areas.weights[run])
     }
 
+    // The events of a run's history.
     pub(crate) fn size(&self, run: usize) -> u64
         requires { run < self.now.runs }
         ensures { result ≡ events_from (sums_in self.now) (begins_in self.now) (row_for self.now run) 0 self.now.chains }

@@ -34,10 +34,9 @@ impl Progress {
         requires { self.old.waits ≡ none_waits given.now.runs }
         ensures { Begun given.now self.new }
     {
-        let areas = given.areas;
         versions::start_version(
             &mut self.version,
-            &areas.chains,
+            &given.areas.chains,
             given.chains,
             given.known as usize,
         );

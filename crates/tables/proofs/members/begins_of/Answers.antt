@@ -17,4 +17,4 @@ pub returns : goal.returns
 returns c =
     let a = c.args in
     let same = headed a.begins.now a.lens.now c.copy_from_slice.new.self (length (set a.begins.now 0 0) - 1) c.requires.0 (omega (arith, c.requires.0, length-set a.begins.now 0 0)) c.copy_from_slice.ensures.after in
-    begins_made a.lens.now _ c.sum_up.new.starts same c.sum_up.ensures c.sum_up.auto.starts c.requires.2 (omega (arith, c.requires.0, c.requires.1))
+    begins_made a.lens.now _ c.sum_up.new.list same c.sum_up.ensures c.sum_up.auto.list c.requires.2 (omega (arith, c.requires.0, c.requires.1))

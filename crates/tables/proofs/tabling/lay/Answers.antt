@@ -1,8 +1,7 @@
 -- `tables::tabling::lay` meets its contract: a range's parents, chains and rows. Assumes nothing.
 use Rattle.std.proofs.Common.{◌≡◌, ◌+◌, List, ℕ, length, sym, ap, subst, ◌∙◌, arith}
-use Rattle.tables.specs.Laid.{shares, grouped, LaidOut}
+use Rattle.tables.specs.Laid.{shares, shares_of, grouped, LaidOut}
 use Rattle.tables.proofs.JaggedRows.{rows_size, rows-below, rows-fit, rows_are}
-use Rattle.tables.proofs.Gathering.{shares_same}
 use Rattle.tables.proofs.tabling.lay.Goals as goal
 
 pub gather-requires-clause-runs : goal.gather-requires-clause-runs
@@ -23,11 +22,12 @@ pub lay-requires-clause-row : goal.lay-requires-clause-row
 lay-requires-clause-row c = omega (arith, rows_size _ _ c.args.n c.gather.ensures.sound c.rows-own.result c.rows-own.ensures.rows)
 
 pub returns : goal.returns
+unfolding shares
 returns c =
     let a = c.args in
     let s = c.gather.ensures.sound in
     let same : grouped c.gather.new.self.starts c.gather.new.self.items a.n ≡ shares a.heads.now a.parents.now a.a a.n =
-    c.gather.ensures.grouped ∙ shares_same a.heads.now a.parents.now c.new-all.result a.a a.n (a.a + a.n) c.new-all.ensures (omega arith) in
+    c.gather.ensures.grouped ∙ ap (λ (l : List (List ℕ)). shares_of l a.a a.n) c.new-all.ensures in
     let own : c.rows-own.result ≡ shares a.heads.now a.parents.now a.a a.n = rows_are _ _ a.n s c.rows-own.result c.rows-own.ensures.rows ∙ same in
     let out = subst (λ (l : List (List ℕ)). LaidOut l (length l) a.area.now c.lay.result c.lay.new.rows c.lay.new.tables) own c.lay.ensures in
     record {

@@ -3,15 +3,15 @@ use Rattle.std.proofs.Common.{arith}
 use Rattle.tables.proofs.Counting.{summing_start, summing_room, summing_next, summing_end}
 use Rattle.tables.proofs.words.sum_up.Goals as goal
 
-pub loop-s-init : goal.loop-s-init
-loop-s-init c = summing_start c.args.starts.now
+pub loop-x-init : goal.loop-x-init
+loop-x-init c = summing_start c.args.list.now
 
 pub overflow_add-sum : goal.overflow_add-sum
-overflow_add-sum c = let l = c.loop-s in omega (arith, summing_room c.args.starts.now l.s-index l.sum l.starts l.invariant (omega (arith, c.requires.few)) c.requires.small)
+overflow_add-sum c = let l = c.loop-x in omega (arith, summing_room c.args.list.now l.x-index l.sum l.list l.invariant (omega (arith, c.requires.few)) c.requires.small)
 
-pub loop-s-preserved : goal.loop-s-preserved
-loop-s-preserved c = let l = c.loop-s in summing_next c.args.starts.now l.s-index l.sum l.starts l.invariant (omega arith)
+pub loop-x-preserved : goal.loop-x-preserved
+loop-x-preserved c = let l = c.loop-x in summing_next c.args.list.now l.x-index l.sum l.list l.invariant (omega arith)
 
 pub returns : goal.returns
 returns c =
-    let l = c.loop-s in summing_end c.args.starts.now l.s-index l.sum l.starts c.requires.first (omega arith) l.invariant
+    let l = c.loop-x in summing_end c.args.list.now l.x-index l.sum l.list c.requires.first (omega arith) l.invariant

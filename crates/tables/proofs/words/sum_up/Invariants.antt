@@ -2,5 +2,5 @@
 use Rattle.tables.proofs.Counting.{Summing}
 use Rattle.tables.proofs.words.sum_up.Given as goal
 
-abbrev pub invariant-loop-s : goal.invariant-loop-s
-invariant-loop-s l = Summing l.initial.starts l.s-index l.sum l.starts
+abbrev pub invariant-loop-x : goal.invariant-loop-x
+invariant-loop-x l = Summing l.initial.list l.x-index l.sum l.list
