@@ -32,7 +32,8 @@ fn put_span(steps: &mut Steps, runs: Runs, kind: Kind, first: u32, last: u32) ->
 {
     let a = runs.base + first;
     let b = runs.base + last + 1;
-    steps.put_step(kind, a, b, span(runs.starts, a, b))
+    let events = u64::from(span(runs.starts, a, b));
+    steps.put_step(kind, a, b, events)
 }
 
 // A step for each stretch of consecutive runs of a list.

@@ -20,7 +20,7 @@ pub struct Steps<'a> {
     list: &'a mut [u32],
     count: u64,
     moved: u128,
-    ghost small: { moved ≤ count * 2 ^ 32 },
+    ghost small: { moved ≤ count * 2 ^ 64 },
 }
 
 impl<'a> Steps<'a> {
@@ -39,7 +39,7 @@ impl<'a> Steps<'a> {
     }
 
     // Three words after the others, a step that moves so many events, if they fit.
-    pub fn put(&mut self, words: [u32; 3], events: u32) -> Result<(), Refusal>
+    pub fn put(&mut self, words: [u32; 3], events: u64) -> Result<(), Refusal>
         ensures same_list { same_list self.new self.old }
         ensures steps_after { written result self.new ≡ put_words (so_far self.old) (get_or words 0 0) (get_or words 1 0) (get_or words 2 0) events }
     {
@@ -57,7 +57,7 @@ impl<'a> Steps<'a> {
     }
 
     // A step of a kind.
-    pub fn put_step(&mut self, kind: Kind, a: u32, b: u32, events: u32) -> Result<(), Refusal>
+    pub fn put_step(&mut self, kind: Kind, a: u32, b: u32, events: u64) -> Result<(), Refusal>
         ensures same_list { same_list self.new self.old }
         ensures steps_after { written result self.new ≡ emit_one (so_far self.old) (step_of kind a b events) }
     {
@@ -77,7 +77,7 @@ impl<'a> Steps<'a> {
 
     // What a call answers after its last step, by what came of them.
     pub fn walked(&self, outcome: Result<(), Refusal>) -> Walked
-        requires { self.now.count < 2 ^ 32 }
+        requires { self.now.moved < 2 ^ 64 }
         ensures { result ≡ (written outcome self.now).0 }
     {
         Walked {

@@ -74,6 +74,7 @@ fn replay_all(
 pub fn replay_held(g: &HeldGraph, rows: &mut [u32], steps: &mut [u32]) -> Walked
     ensures { (result, rows.new, steps.new) ≡ replay_of g.now.graph rows.old steps.old }
 {
+    walking::starts_fit(&g.graph.starts);
     // Three words for each range, of which there are at most as many as runs.
     let mut cut = [0; 3 * MAX_RUNS];
     let w = graph::cut::cut_held(g, EventRunIndex(0), &mut cut);

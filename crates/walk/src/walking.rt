@@ -1,8 +1,9 @@
 // `walk` over a range of runs.
-ghost use Rattle.std.specs.Prelude.{◌≡◌, ◌-◌, ◌≤◌, max, min};
+ghost use Rattle.std.specs.Prelude.{◌≡◌, ◌-◌, ◌≤◌, ◌^◌, max, min};
 ghost use Rattle.model.specs.Record.{view};
 ghost use Rattle.model.specs.Walk.{walk_of, walk_range};
 ghost use Rattle.walk.specs.Ranges.{ArraysOf, range_at};
+ghost use Rattle.moves.specs.Stretches.{Below};
 ghost use Rattle.moves.specs.Emit.{so_far, written, same_list};
 ghost use Rattle.walk.specs.Walked.{walked_in};
 
@@ -78,11 +79,17 @@ pub(crate) fn walk_range(
     visiting::visits(&given, steps)
 }
 
+// Starts are numbers of 32 bits: by that a walk's `moved` fits 64.
+pub(crate) fn starts_fit(starts: &[u32])
+    ensures { Below (2 ^ 32) starts.now }
+{}
+
 // `walk` on a graph that is known not to be broken and a range inside it.
 fn walk_held(g: &HeldGraph, bounds: Bounds, rows: &mut [u32], steps: &mut [u32]) -> Walked
     requires { bounds.end.0 ≤ g.now.graph.run_count }
     ensures { (result, rows.new, steps.new) ≡ walk_range (view g.now.graph) bounds.from.0 bounds.end.0 bounds.known bounds.first rows.old steps.old }
 {
+    starts_fit(&g.graph.starts);
     let mut written = Steps::over(steps);
     let mut areas = Areas::new();
     let outcome = walk_range(bounds, &g.graph, rows, &mut written, &mut areas);
