@@ -2,7 +2,6 @@
 // Here it is told exactly, as far as archive points need it (`highest`), and they are the starts of the runs that would be marked by that.
 ghost use Rattle.std.specs.Prelude.{◌≡◌, true, false, map, ◌≤◌, ◌<◌, length, get_or, All};
 ghost use Rattle.lists.specs.Lists.{filter, count, upto};
-ghost use Rattle.lists.specs.Scans.{max_kept};
 ghost use Rattle.model.specs.Limits.{max_runs};
 ghost use Rattle.model.specs.Answers.{answer_or};
 ghost use Rattle.model.specs.Lookups.{lookup};
@@ -129,13 +128,12 @@ fn seen_lengths(
 }
 
 // The starts of some runs.
-fn starts_of(starts: &[u32], runs: &[u32]) -> Kept
-    requires there { All (λ r. r < length starts.now) runs.now }
-    requires few { length runs.now ≤ max_kept }
-    ensures { result ≡ map (λ r. get_or starts.now r 0) runs.now }
+fn starts_of(starts: &[u32], runs: Kept) -> Kept
+    requires { All (λ r. r < length starts.now) runs }
+    ensures { result ≡ map (λ r. get_or starts.now r 0) runs }
 {
     let mut found = Kept::new();
-    for r in runs {
+    for r in runs.as_slice() {
         found.push(starts[*r as usize]);
     }
     found
@@ -160,7 +158,7 @@ fn archive_words(g: CausalGraph) -> Result<Kept, Refusal>
 {
     let g = HeldGraph::of(g)?;
     let runs = point_runs(&g);
-    Ok(starts_of(&g.graph.starts, runs.as_slice()))
+    Ok(starts_of(&g.graph.starts, runs))
 }
 
 // The archive points into `list`, rising, as many as fit.

@@ -12,12 +12,12 @@ returns-in_err-g c =
     let e = c.in_err-g.ensures.err in
     rw (p.1, p.2, e.0, look_broken c.args.g e.1)
 
-pub starts_of-requires-clause-there : goal.starts_of-requires-clause-there
-starts_of-requires-clause-there c = let k = c.in_ok-g.g in points-below k.graph k.held _ (c.as_slice.ensures ∙ c.point_runs-runs.ensures)
+pub starts_of-requires : goal.starts_of-requires
+starts_of-requires c = let k = c.in_ok-g.g in points-below k.graph k.held _ c.point_runs-runs.ensures
 
 pub returns : goal.returns
 returns c =
     let k = c.in_ok-g.g in
     let same = c.in_ok-g.ensures.ok in
     rw (← same.0)
-    (rw (look_done k.graph same.1 false refl) (ap Ok (c.starts_of.ensures ∙ points_are k.graph k.held _ (c.as_slice.ensures ∙ c.point_runs-runs.ensures))))
+    (rw (look_done k.graph same.1 false refl) (ap Ok (c.starts_of.ensures ∙ points_are k.graph k.held _ c.point_runs-runs.ensures)))
