@@ -164,7 +164,7 @@ CALLS = [
 
 MOVES = [
     ("replaying::replay", "opens and applies without moves", "no_moves"),
-    ("replaying::replay", "writes no steps", "writing.rt", "self.count += 1;", "self.count += 0;"),
+    ("replaying::replay", "writes no steps", "writing.rt", "if self.list.len() / 3 <= n {", "if (self.list.len() / 3 <= n) | true {"),
     ("replaying::replay", "moved is 0", "writing.rt", "u128::from(events)", "u128::from(events - events)"),
     ("walking::walk", "moved forgets the advances", "advances_not_moved"),
     ("walking::walk", "moved counts an event for each Apply", "moving.rt", "put_step(Kind::Apply, at, at + 1, 0)", "put_step(Kind::Apply, at, at + 1, 1)"),
@@ -191,10 +191,10 @@ WALK = [
     ("walking::walk", "weighs the oldest first", "oldest_first"),
     ("walking::walk", "measures on after cost 0", "measured_on"),
     ("walking::walk", "a tie goes to the older", "choice.rt", "(a.cost, a.weight) < (b.cost, b.weight)", "(a.cost, a.weight) <= (b.cost, b.weight)"),
-    ("walking::walk", "first is ignored", "walking.rt", "first: bounds.clamped(),", "first: bounds.known,"),
+    ("walking::walk", "first is ignored", "walking.rt", "self.known.max(self.first.min(runs))", "self.known.max(self.known.min(runs))"),
     ("walking::walk", "first below known is taken as it is", "walking.rt", "self.known.max(self.first.min(runs))", "0u32.max(self.first.min(runs))"),
     ("walking::walk", "writes no steps", "ready.rt", "self.ready[self.count] = r;\n        self.count += 1;", "self.ready[self.count] = r;\n        self.count += 0;"),
-    ("replaying::replay", "opens and applies without moves", "replaying.rt", "walking::walk_range(bounds, graph, rows, steps, areas)", "steps.put_applies(a.0, b.0)"),
+    ("replaying::replay", "opens and applies without moves", "replaying.rt", "RangeKind::from(*word)", "RangeKind::from(*word / 2)"),
     ("replaying::replay", "writes no steps", "replaying.rt", "cut[..3 * w.count]", "cut[..0 * w.count]"),
     ("replaying::replay", "works in the first range only", "replaying.rt", "in ranges {", "in &ranges[..ranges.len().min(1)] {"),
     ("replaying::replay", "opens no run", "replaying.rt", "Kind::Open, a.0, b.0, 0)", "Kind::Open, a.0, a.0, 0)"),

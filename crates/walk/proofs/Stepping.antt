@@ -1,5 +1,5 @@
 -- One visit by its parts: what they leave together. Assumes nothing.
-use Rattle.std.proofs.Common.{◌≡◌, ap, ◌∙◌, subst, ℕ, ◌-◌, ◌<◌, arith, get_or}
+use Rattle.std.proofs.Common.{◌≡◌, ap, ◌∙◌, subst, ℕ, ◌-◌, get_or}
 use Rattle.std.specs.Prelude.{Some}
 use Rattle.tables.specs.Reached.{arrived, Holds}
 use Rattle.moves.specs.Moves.{visit_of}
@@ -13,9 +13,6 @@ module _ (g : Given) (t : Progress) (F : Fit g t) (at run : ℕ) (p : at ≡ ind
   run_is : run ≡ run_at g t
   unfolding run_at
   run_is = q ∙ ap (λ (i : ℕ). get_or t.waits.2 i 0) p
-
-  pub run-low : run < g.runs
-  run-low = omega (arith, q, F.ready.low at (omega (arith, p, F.below)))
 
   -- The steps of its visit
   pub visited_is : visit_of g.starts g.base (members_in g) (begins_in g) t.version (row_for g run) g.chains run ≡ visited g t
