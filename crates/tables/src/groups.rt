@@ -1,7 +1,7 @@
 // Rows of numbers in arrays of their own, as the parents of a range's runs are, numbered within it, or the runs' children.
-ghost use Rattle.std.specs.Prelude.{◌≡◌, ◌+◌, ◌<◌, ◌≤◌, length};
+ghost use Rattle.std.specs.Prelude.{◌≡◌, ◌+◌, ◌-◌, ◌<◌, ◌≤◌, length};
 ghost use Rattle.lists.specs.Lists.{concat};
-ghost use Rattle.model.specs.Limits.{max_runs, max_entries};
+ghost use Rattle.model.specs.Limits.{max_entries};
 ghost use Rattle.tables.specs.Jagged.{rows_in, Lies, Below};
 ghost use Rattle.tables.specs.Gather.{put_parent, put_parents};
 ghost use Rattle.tables.specs.Laid.{grouped, shares_of, Sound};
@@ -58,14 +58,15 @@ impl Groups {
         Jagged::new(&self.starts, &self.items, n)
     }
 
-    // The parents of n runs from run a on, of those of all runs.
-    pub fn gather(&mut self, all: &Jagged, a: u32, n: usize)
-        requires runs { (n ≤ max_runs) × (a + n ≤ length all.now) }
+    // The parents of the runs from run a on, of those of all runs.
+    pub fn gather(&mut self, all: &Jagged, a: u32)
+        requires from { a ≤ length all.now }
         requires below { Below all.now }
         requires few { length (concat all.now) ≤ max_entries }
-        ensures grouped { grouped self.new.starts self.new.items n ≡ shares_of all.now a n }
-        ensures sound { Sound self.new.starts self.new.items n }
+        ensures grouped { grouped self.new.starts self.new.items (length all.now - a) ≡ shares_of all.now a (length all.now - a) }
+        ensures sound { Sound self.new.starts self.new.items (length all.now - a) }
     {
+        let n = all.len() - a as usize;
         self.starts[0] = 0;
         let mut at = 0;
         for j in 0..n {

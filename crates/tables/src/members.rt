@@ -102,7 +102,7 @@ impl Members {
         sums_of(&mut self.before, members, starts);
     }
 
-    // The sums of n runs on so many chains.
+    // The sums of n runs on so many chains. Their bound is asked, and stands in no type: behind a range's words lie those of ranges before it.
     pub fn sums(&self, n: usize, chains: usize) -> Sums<'_>
         requires few { (n ≤ max_runs) × (chains ≤ max_runs) }
         requires small { Bounded (2 ^ 41) (take (n + 1) self.now.before) }

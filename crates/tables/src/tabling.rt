@@ -28,7 +28,7 @@ pub fn lay<'a>(
     ensures range_laid { RangeLaid (shares heads.now parents.now a n) n area.old result area.new groups.new tables.new }
 {
     let all = Jagged::new(heads, parents, a as usize + n);
-    groups.gather(&all, a, n);
+    groups.gather(&all, a);
     let own = groups.rows(n);
     rows::lay(area, tables, &mut scratch[..n + 1], &own)
 }

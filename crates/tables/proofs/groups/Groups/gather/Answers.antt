@@ -1,5 +1,5 @@
 -- `tables::groups::Groups::gather` meets its contract: the groups of the runs so far. Assumes nothing.
-use Rattle.std.proofs.Common.{length, ap, ◌∙◌, refl, arith}
+use Rattle.std.proofs.Common.{◌-◌, length, ap, ◌∙◌, refl, arith}
 use Rattle.std.proofs.Math.ListN.{length-set}
 use Rattle.tables.specs.Gather.{Gathered, put_parents}
 use Rattle.tables.proofs.Gathering.{puts_count, gathers_none, turn_room, gathers_next}
@@ -13,29 +13,29 @@ pub put_parents-at-requires : goal.put_parents-at-requires
 put_parents-at-requires c =
     let a = c.args in
     let l = c.loop-j in
-    let room = turn_room a.all.now a.a l.j (omega (arith, c.requires.runs.1)) _ _ l.at l.self.starts l.self.items l.invariant (omega (arith, c.requires.few)) (omega (arith, length-set a.self.now.starts 0 0, c.requires.runs.0)) in
+    let room = turn_room a.all.now a.a l.j (omega (arith, c.len.ensures.value)) _ _ l.at l.self.starts l.self.items l.invariant (omega (arith, c.requires.few)) (omega (arith, length-set a.self.now.starts 0 0, c.len.ensures.few)) in
     omega (arith, room, ap length c.row.ensures, c.requires.few)
 
 pub overflow_cast-self : goal.overflow_cast-self
 overflow_cast-self c =
     let a = c.args in
     let l = c.loop-j in
-    let room = turn_room a.all.now a.a l.j (omega (arith, c.requires.runs.1)) _ _ l.at l.self.starts l.self.items l.invariant (omega (arith, c.requires.few)) (omega (arith, length-set a.self.now.starts 0 0, c.requires.runs.0)) in
+    let room = turn_room a.all.now a.a l.j (omega (arith, c.len.ensures.value)) _ _ l.at l.self.starts l.self.items l.invariant (omega (arith, c.requires.few)) (omega (arith, length-set a.self.now.starts 0 0, c.len.ensures.few)) in
     omega (arith, room, ap length c.row.ensures, c.requires.few, ap (λ (s : Gathered). s.0) c.put_parents-at.ensures, (puts_count a.a (l.at, l.self.items) c.row.result.now).1)
 
 pub loop-j-preserved : goal.loop-j-preserved
 loop-j-preserved c =
     let a = c.args in
     let l = c.loop-j in
-    gathers_next a.all.now a.a l.j (omega (arith, c.requires.runs.1)) _ _ l.at l.self.starts l.self.items l.invariant (omega (arith, c.requires.few)) (omega (arith, length-set a.self.now.starts 0 0, c.requires.runs.0)) _ _ _
+    gathers_next a.all.now a.a l.j (omega (arith, c.len.ensures.value)) _ _ l.at l.self.starts l.self.items l.invariant (omega (arith, c.requires.few)) (omega (arith, length-set a.self.now.starts 0 0, c.len.ensures.few)) _ _ _
     (c.put_parents-at.ensures ∙ ap (put_parents a.a (l.at, l.self.items)) c.row.ensures) refl
 
 pub returns-clause-grouped : goal.returns-clause-grouped
 returns-clause-grouped c =
     let a = c.args in
-    let l = c.loop-j in (gathered a.all.now a.a a.n l.j (omega arith) c.requires.runs.0 c.requires.below _ _ l.at l.self.starts l.self.items l.invariant).0
+    let l = c.loop-j in (gathered a.all.now a.a (length a.all.now - a.a) l.j (omega (arith, c.len.ensures.value)) (omega (arith, c.len.ensures.value, c.len.ensures.few)) c.requires.below _ _ l.at l.self.starts l.self.items l.invariant).0
 
 pub returns-clause-sound : goal.returns-clause-sound
 returns-clause-sound c =
     let a = c.args in
-    let l = c.loop-j in (gathered a.all.now a.a a.n l.j (omega arith) c.requires.runs.0 c.requires.below _ _ l.at l.self.starts l.self.items l.invariant).1
+    let l = c.loop-j in (gathered a.all.now a.a (length a.all.now - a.a) l.j (omega (arith, c.len.ensures.value)) (omega (arith, c.len.ensures.value, c.len.ensures.few)) c.requires.below _ _ l.at l.self.starts l.self.items l.invariant).1
