@@ -1,7 +1,7 @@
 // Rows of numbers in arrays of their own, as the parents of a range's runs are, numbered within it, or the runs' children.
-ghost use Rattle.std.specs.Prelude.{◌≡◌, ◌+◌, ◌-◌, ◌<◌, ◌≤◌, length};
+ghost use Rattle.std.specs.Prelude.{◌≡◌, ◌+◌, ◌-◌, ◌<◌, ◌≤◌, length, replicate};
 ghost use Rattle.lists.specs.Lists.{concat};
-ghost use Rattle.model.specs.Limits.{max_entries};
+ghost use Rattle.model.specs.Limits.{max_entries, max_starts};
 ghost use Rattle.tables.specs.Jagged.{rows_in, Lies, Below};
 ghost use Rattle.tables.specs.Gather.{put_parent, put_parents};
 ghost use Rattle.tables.specs.Laid.{grouped, shares_of, Sound};
@@ -42,7 +42,9 @@ fn put_parents(items: &mut [u32], at: usize, ps: &[u32], a: u32) -> usize
 
 impl Groups {
     // Nothing is grouped.
-    pub fn new() -> Groups {
+    pub fn new() -> Groups
+        ensures { result ≡ record { starts = replicate max_starts 0; items = replicate max_entries 0 } }
+    {
         Groups {
             starts: [0; MAX_STARTS],
             items: [0; MAX_ENTRIES],

@@ -1,5 +1,5 @@
 // Each chain's members one after another, and prefix sums of their events.
-ghost use Rattle.std.specs.Prelude.{◌≡◌, ◌+◌, ◌≤◌, ◌<◌, ◌^◌, length, get_or, take};
+ghost use Rattle.std.specs.Prelude.{◌≡◌, ◌+◌, ◌≤◌, ◌<◌, ◌^◌, length, get_or, take, replicate};
 ghost use Rattle.model.specs.Limits.{max_runs, max_starts};
 ghost use Rattle.tables.specs.Tables.{size_in};
 ghost use Rattle.tables.specs.Indexed.{Summed, Bounded, BoundedTo, Placed, pos, Scattered, Indexable, IndexOf};
@@ -74,7 +74,9 @@ fn sums_of(before: &mut [u64], members: &[u32], starts: &[u32])
 
 impl Members {
     // Nothing is listed.
-    pub fn new() -> Members {
+    pub fn new() -> Members
+        ensures { result ≡ record { starts = replicate max_starts 0; runs = replicate max_starts 0; before = replicate max_starts 0 } }
+    {
         Members {
             starts: [0; MAX_STARTS],
             runs: [0; MAX_STARTS],

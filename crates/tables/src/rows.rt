@@ -1,5 +1,5 @@
 // Chains and rows of a range: each run's row is made of its parents' rows, lent as parts of the row area.
-ghost use Rattle.std.specs.Prelude.{◌≡◌, ◌+◌, ◌<◌, ◌≤◌, ◌^◌, max, length, get_or, take, eqb, MatchOption};
+ghost use Rattle.std.specs.Prelude.{◌≡◌, ◌+◌, ◌<◌, ◌≤◌, ◌^◌, max, length, get_or, take, eqb, MatchOption, replicate};
 ghost use Rattle.std.specs.List.{position, zip};
 ghost use Rattle.model.specs.Limits.{max_runs, max_starts};
 ghost use Rattle.tables.specs.Jagged.{rows_in, Lies, Below};
@@ -91,7 +91,9 @@ pub struct Area {
 
 impl ChainTables {
     // Nothing is laid.
-    pub fn new() -> ChainTables {
+    pub fn new() -> ChainTables
+        ensures { result ≡ record { row_starts = replicate max_starts 0; chains = replicate max_starts 0; places = replicate max_starts 0; lens = replicate max_starts 0 } }
+    {
         ChainTables {
             row_starts: [0; MAX_STARTS],
             chains: [0; MAX_STARTS],
