@@ -45,7 +45,8 @@ invariant_of-given c =
     let l = c.lay in
     let q = c.prepare.new.self in
     let own_is = own_lent g.starts g.parent_starts g.parents a.bounds.from.0 n A a.bounds.from.0 (a.bounds.from.0 + n + 1) refl refl in
-    let R = subst (λ (gs : List ℕ). RangeLaid (shares g.parent_starts g.parents a.bounds.from.0 n) n a.rows.now (Some c.in-Some.area) l.new.rows gs l.new.tables) (sym c.prepare.ensures.groups) c.in-Some.ensures.range_laid in
+    let R = subst (λ (gs : List ℕ). RangeLaid (shares g.parent_starts g.parents a.bounds.from.0 n) n a.rows.now (Some c.in-Some.area) l.new.rows gs l.new.tables)
+    (sym c.prepare.ensures.groups) c.in-Some.ensures.range_laid in
     let M = subst (λ (s : List ℕ). Measured s n c.in-Some.area.chains l.new.rows q.before q.sizes q.tables l.new.tables) own_is c.prepare.ensures.measured in
     let F = subst (λ (s : List ℕ). Related s n q.groups q.children q.tables) own_is c.prepare.ensures.related in
     let f = c.clamped.ensures in
@@ -62,12 +63,14 @@ returns-clause-steps_after c =
     let l = c.lay in
     let q = c.prepare.new.self in
     let own_is = own_lent g.starts g.parent_starts g.parents a.bounds.from.0 n A a.bounds.from.0 (a.bounds.from.0 + n + 1) refl refl in
-    let R = subst (λ (gs : List ℕ). RangeLaid (shares g.parent_starts g.parents a.bounds.from.0 n) n a.rows.now (Some c.in-Some.area) l.new.rows gs l.new.tables) (sym c.prepare.ensures.groups) c.in-Some.ensures.range_laid in
+    let R = subst (λ (gs : List ℕ). RangeLaid (shares g.parent_starts g.parents a.bounds.from.0 n) n a.rows.now (Some c.in-Some.area) l.new.rows gs l.new.tables)
+    (sym c.prepare.ensures.groups) c.in-Some.ensures.range_laid in
     let M = subst (λ (s : List ℕ). Measured s n c.in-Some.area.chains l.new.rows q.before q.sizes q.tables l.new.tables) own_is c.prepare.ensures.measured in
     let F = subst (λ (s : List ℕ). Related s n q.groups q.children q.tables) own_is c.prepare.ensures.related in
     let f = c.clamped.ensures in
     let low : c.clamped.result ≤ n = omega (arith, f, a.bounds.inside.1) in
     let v = c.visits in
     let same = range_same g.starts g.parent_starts g.parents a.bounds.from.0 n A a.rows.now l.new.rows q.groups l.new.tables c.in-Some.area R q.tables q.before q.sizes q.children a.bounds.known c.clamped.result M F (omega (arith, M.kept.size, c.in-Some.ensures.tables_len_unchanged)) (omega (arith, f)) low in
-    range_walked g.starts g.parent_starts g.parents a.bounds.from.0 n a.rows.now l.new.rows q.groups l.new.tables (Some c.in-Some.area) R (a.bounds.end.0 - a.bounds.from.0) a.bounds.known a.bounds.first c.clamped.result _ (so_far a.steps.now) (written v.result v.new.steps) refl c.in-Some.area refl
+    range_walked g.starts g.parent_starts g.parents a.bounds.from.0 n a.rows.now l.new.rows q.groups l.new.tables (Some c.in-Some.area) R
+    (a.bounds.end.0 - a.bounds.from.0) a.bounds.known a.bounds.first c.clamped.result _ (so_far a.steps.now) (written v.result v.new.steps) refl c.in-Some.area refl
     (omega (arith, a.bounds.inside.1)) (omega (arith, f)) same v.ensures.steps_after
