@@ -92,11 +92,25 @@ module _ (g : Graph) (limit : runs g ≤ 512) where
   ranges_count lo (linear a b ∷ cs) end room rows h =
       let this : Replayed = replay_range g (linear a b) rows in
       let later : Replayed = replay_ranges g cs (room - length this.1) this.2 in
-      omega (arith, h.0, h.1, laid_le b cs end h.2, both this later room rows ((b - a) * 1026) ((end - b) * 1026) (linear_count a b rows h.1) (ranges_count b cs end (room - length this.1) this.2 h.2) (eqb room 0) (ltb room (length this.1)) this.0)
+      omega (
+        arith,
+        h.0,
+        h.1,
+        laid_le b cs end h.2,
+        both this later room rows ((b - a) * 1026) ((end - b) * 1026) (linear_count a b rows h.1)
+            (ranges_count b cs end (room - length this.1) this.2 h.2) (eqb room 0) (ltb room (length this.1)) this.0,
+      )
   ranges_count lo (concurrent a b ∷ cs) end room rows h =
       let this : Replayed = replay_range g (concurrent a b) rows in
       let later : Replayed = replay_ranges g cs (room - length this.1) this.2 in
-      omega (arith, h.0, h.1, laid_le b cs end h.2, both this later room rows ((b - a) * 1026) ((end - b) * 1026) (concurrent_count a b rows h.1) (ranges_count b cs end (room - length this.1) this.2 h.2) (eqb room 0) (ltb room (length this.1)) this.0)
+      omega (
+        arith,
+        h.0,
+        h.1,
+        laid_le b cs end h.2,
+        both this later room rows ((b - a) * 1026) ((end - b) * 1026) (concurrent_count a b rows h.1)
+            (ranges_count b cs end (room - length this.1) this.2 h.2) (eqb room 0) (ltb room (length this.1)) this.0,
+      )
 
 -- of a held record, whose numbers fit 32 bits
 module _ (g : CausalGraph) (held : Held g) (small : Below (2 ^ 32) g.starts) where

@@ -118,10 +118,21 @@ module _ (g : Given) (P : Prepared g) where
 
   pub chain-low : (r : ℕ) → r < g.runs → get_or (chains_in g) r 0 < g.chains
   unfolding chains_for
-  chain-low r lt = omega (arith, P.number, chain_fits pss below (chains_in g) (places_in g) (λ m l. P.chain m (omega (arith, size))) (λ m l. P.place m (omega (arith, size))) r (omega (arith, lt, size)))
+  chain-low r lt = omega (
+    arith,
+    P.number,
+    chain_fits pss below (chains_in g) (places_in g) (λ m l. P.chain m (omega (arith, size)))
+        (λ m l. P.place m (omega (arith, size))) r (omega (arith, lt, size)),
+  )
 
   pub place-low : (r : ℕ) → r < g.runs → get_or (places_in g) r 0 < 512
-  place-low r lt = omega (arith, P.few, size, place-fits pss below (chains_in g) (places_in g) (λ m l. P.chain m (omega (arith, size))) (λ m l. P.place m (omega (arith, size))) r (omega (arith, lt, size)))
+  place-low r lt = omega (
+    arith,
+    P.few,
+    size,
+    place-fits pss below (chains_in g) (places_in g) (λ m l. P.chain m (omega (arith, size)))
+        (λ m l. P.place m (omega (arith, size))) r (omega (arith, lt, size)),
+  )
 
   -- as a walk's start needs it
   pub standing : Standing (chains_in g) (places_in g) g.chains g.known
@@ -232,7 +243,9 @@ module _ (g : Given) (P : Prepared g) where
       visit-written : visited g t ≡ recs g.starts (visit W g.base S.version r)
       unfolding visited
       visit-written = visit-is C (begins_in g) (members_in g) P.listed W g.starts g.base r g.chains S.version t.version (row_for g r) (sym chains-is) P.number
-          (prefixed S.version S.closed) (subst (λ (h : List ℕ). (c : ℕ) → c < length C → (i j : ℕ) → i < j → j < length (at C c) → mem (get_or (at C c) j 0) h ≡ true → mem (get_or (at C c) i 0) h ≡ true) (ap (λ (hs : List (List ℕ)). at hs r) (sym history-is)) (prefixed (at H r) (history-closed pss below r (omega (arith, low, size))))) S.reaches
+          (prefixed S.version S.closed) (subst (λ (h : List ℕ). (c : ℕ) → c < length C → (i j : ℕ) → i < j → j < length (at C c) → mem
+          (get_or (at C c) j 0) h ≡ true → mem (get_or (at C c) i 0) h ≡ true) (ap (λ (hs : List (List ℕ)). at hs r) (sym history-is))
+          (prefixed (at H r) (history-closed pss below r (omega (arith, low, size))))) S.reaches
           (subst (λ (h : List ℕ). Reaches C h (row_for g r)) (ap (λ (hs : List (List ℕ)). at hs r) (sym history-is)) (row_is r low))
 
       -- A visit goes on with the walk
@@ -243,11 +256,13 @@ module _ (g : Given) (P : Prepared g) where
         last = some r;
         visited = r ∷ S.visited;
         ready = ready_after W g.known g.first S.visited S.ready r;
-        walking = subst (λ (hs : List (List ℕ)). Walking Writing (written g.starts) (written_none g.starts) (written-append g.starts) W g.base g.known g.first whole (at hs r ++ r ∷ []) (some r) (r ∷ S.visited) (ready_after W g.known g.first S.visited S.ready r) (fuel - 1) v₂) history-is
+        walking = subst (λ (hs : List (List ℕ)). Walking Writing (written g.starts) (written_none g.starts) (written-append g.starts) W g.base g.known g.first whole
+            (at hs r ++ r ∷ []) (some r) (r ∷ S.visited) (ready_after W g.known g.first S.visited S.ready r) (fuel - 1) v₂) history-is
             (walk_next Writing (written g.starts) (written_none g.starts) (written-append g.starts) W g.base g.known g.first whole
             S.version S.last S.visited S.ready fuel v S.walking r choice-is v₂
             (e ∙ ap (emit v) visit-written));
-        reaches = arrive_reaches pss below r (get_or (chains_in g) r 0) (get_or (places_in g) r 0) (row_for g r) u.version (omega (arith, low, size)) (P.chain r low) (P.place r low) (row_is r low)
+        reaches = arrive_reaches pss below r (get_or (chains_in g) r 0) (get_or (places_in g) r 0) (row_for g r) u.version (omega (arith, low, size)) (P.chain r low)
+            (P.place r low) (row_is r low)
             (subst (λ (k : ℕ). Holds (arrived (row_for g r) (get_or (chains_in g) r 0) (get_or (places_in g) r 0)) k u.version) P.number T.version);
         closed = visited_closed pss below r (omega (arith, low, size));
         tells = subst (Tells W g.known g.first (r ∷ S.visited) (ready_after W g.known g.first S.visited S.ready r)) (sym (T.woken ∙ woken-is))
@@ -269,7 +284,12 @@ module _ (g : Given) (P : Prepared g) where
 
           woken-is : woken_of (t.waits.0 - 1, t.waits.1, taken_out t.waits.2 t.waits.0 (index_of (best_in g t))) (children_for g r) r g.known g.first g.runs t.left ≡
               woken_of (t.waits.0 - 1, t.waits.1, taken_out t.waits.2 t.waits.0 (index_of (best_in g t))) (children_of W.parents r) r g.known g.first (length W.parents) t.left
-          woken-is = ap₂ (λ (ks : List ℕ) (n : ℕ). woken_of (t.waits.0 - 1, t.waits.1, taken_out t.waits.2 t.waits.0 (index_of (best_in g t))) ks r g.known g.first n t.left) kids (sym (ap length parents_are ∙ size))
+          woken-is = ap₂ (λ (ks : List ℕ) (n : ℕ). woken_of (
+            t.waits.0 - 1,
+            t.waits.1,
+            taken_out t.waits.2 t.waits.0
+                (index_of (best_in g t)),
+          ) ks r g.known g.first n t.left) kids (sym (ap length parents_are ∙ size))
 
       -- One that was refused: what is written is all that finds room
       pub next-refused : {f : Refusal} {k m : ℕ} {ws : List ℕ} → let v₂ : Writing = (record { count = k; moved = m; outcome = Err f }, ws) in
@@ -299,12 +319,15 @@ module _ (g : Given) (P : Prepared g) where
         (subst (λ (f : ℕ). Walking Writing (written g.starts) (written_none g.starts) (written-append g.starts) W g.base g.known f
         (emit v (recs g.starts (steps_of W g.base g.known g.first))) (upto g.known) none [] (newly_ready W g.known f [] []) (length W.parents) v) clamp
         (walk_start Writing (written g.starts) (written_none g.starts) (written-append g.starts) W g.base g.known g.first v
-        (λ x. subst (λ (ps : List (List ℕ)). Once (at ps x)) (sym parents_are) (once x)) (λ x p m. below x p (rw parents_are at m)) (omega (arith, P.known, P.first, ap length parents_are, size))));
-    reaches = start-reaches pss below (chains_in g) (places_in g) (λ m lt. P.chain m (omega (arith, size))) (λ m lt. P.place m (omega (arith, size))) g.known t.version (omega (arith, P.known, P.first, size))
+        (λ x. subst (λ (ps : List (List ℕ)). Once (at ps x)) (sym parents_are) (once x)) (λ x p m. below x p (rw parents_are at m))
+        (omega (arith, P.known, P.first, ap length parents_are, size))));
+    reaches = start-reaches pss below (chains_in g) (places_in g) (λ m lt. P.chain m (omega (arith, size)))
+        (λ m lt. P.place m (omega (arith, size))) g.known t.version (omega (arith, P.known, P.first, size))
         (subst (λ (k : ℕ). Holds (started (chains_in g) (places_in g) g.known) k t.version) P.number B.version);
     closed = first-closed pss below g.known (omega (arith, P.known, P.first, size));
     tells = subst (Tells W g.known g.first [] (newly_ready W g.known g.first [] [])) (sym waits-are)
-        (start_tells W g.known g.first (replicate g.runs 0) (replicate 512 0) (length-replicate {A = ℕ} g.runs 0 ∙ sym (ap length parents_are ∙ size)) (omega (arith, length-replicate {A = ℕ} 512 0, P.few, ap length parents_are, size)));
+        (start_tells W g.known g.first (replicate g.runs 0) (replicate 512 0) (length-replicate {A = ℕ} g.runs 0 ∙ sym (ap length parents_are ∙ size))
+        (omega (arith, length-replicate {A = ℕ} 512 0, P.few, ap length parents_are, size)));
     left = B.left ∙ sym (left-start W g.known g.first);
     last-is = sym (ap last_of B.last);
   }

@@ -203,14 +203,16 @@ module _ (g : Graph) (ws : List ℕ) where
         first : (replay_range g c rows).1 ≡ ss
         first = ap (λ (x : Replayed). x.1) is
 
-        go : (room - length done < length ss) ⊎ (length ss ≤ room - length done) → Ends done (replay_ranges g (c ∷ cs) (room - length done) rows) (replay_all st (range_of g) (state_at done rows) (c ∷ cs))
+        go : (room - length done < length ss) ⊎ (length ss ≤ room - length done) → Ends done (replay_ranges g (c ∷ cs) (room - length done) rows)
+            (replay_all st (range_of g) (state_at done rows) (c ∷ cs))
         go (inl lt) =
             let short : room < length (done ++ ss) = omega (arith, length-append done ss) in
             let r : replay_ranges g (c ∷ cs) (room - length done) rows ≡ (Err ListTooShort, take (room - length done) ss, rows') =
             ranges_cut g c cs (room - length done) rows left (omega (arith, ap length first)) ∙
             ap (λ (x : Replayed). (Err ListTooShort, take (room - length done) x.1, x.2)) is in
             subst (λ (x : Replayed). Ends done x (replay_all st (range_of g) (state_at done rows) (c ∷ cs))) (sym r)
-            (subst (Ends done (Err ListTooShort, take (room - length done) ss, rows')) (sym (there ∙ stays_refused st (range_of g) (state_at (done ++ ss) rows') cs ListTooShort (full (done ++ ss) short)))
+            (subst (Ends done (Err ListTooShort, take (room - length done) ss, rows'))
+            (sym (there ∙ stays_refused st (range_of g) (state_at (done ++ ss) rows') cs ListTooShort (full (done ++ ss) short)))
             (ends_with done ss rows' (Err ListTooShort) (omega arith) (ap (λ t. cond t (Err ListTooShort) (Ok tt)) (lt-ltb room (length (done ++ ss)) short))))
         go (inr le) =
             let fit : length (done ++ ss) ≤ room = omega (arith, length-append done ss) in
@@ -241,7 +243,8 @@ module _ (g : Graph) (ws : List ℕ) where
       on_full st (range_of g) (state_at done rows) c ListTooShort (fits done (omega arith)) (ap (λ (y : Writing). y.0.outcome) o ∙ full (done ++ opened a b ∷ []) long) ∙
       ap (λ (y : Writing). state_of y rows) o in
       let there : replay_all st (range_of g) (state_at done rows) (c ∷ cs) ≡ (x, rows) =
-      all-next (state_at done rows) c cs ∙ (ap (λ (y : State). replay_all st (range_of g) y cs) on ∙ stays_refused st (range_of g) (x, rows) cs ListTooShort (full (done ++ opened a b ∷ []) long)) in
+      all-next (state_at done rows) c cs ∙ (ap (λ (y : State). replay_all st (range_of g) y cs) on ∙ stays_refused st (range_of g) (x, rows) cs ListTooShort
+      (full (done ++ opened a b ∷ []) long)) in
       let r : replay_ranges g (c ∷ cs) (room - length done) rows ≡ (Err ListTooShort, [], rows) = ranges_full g c cs (room - length done) rows z in
       let none : take (room - length done) (opened a b ∷ []) ≡ [] = rw z in
       subst (λ (y : Replayed). Ends done y (replay_all st (range_of g) (state_at done rows) (c ∷ cs))) (sym r)
@@ -299,7 +302,8 @@ module _ (g : Graph) (ws : List ℕ) where
       is : replay_range g (concurrent a b) rows ≡ form (rows_too_long (range_of g a b) rows)
       is = unfold replay_range in refl
 
-      same : (t : Bool) → form t ≡ cond t (Err RowsTooLong, opened a b ∷ [], rows_into (range_of g a b) rows) (Ok tt, opened a b ∷ steps_of (range_of g a b) a 0 0, rows_into (range_of g a b) rows)
+      same : (t : Bool) → form t ≡ cond t (Err RowsTooLong, opened a b ∷ [], rows_into (range_of g a b) rows)
+          (Ok tt, opened a b ∷ steps_of (range_of g a b) a 0 0, rows_into (range_of g a b) rows)
       same true = refl
       same false = refl
 
@@ -344,7 +348,8 @@ module _ (g : Graph) (ws : List ℕ) where
       (λ ss fit. ranges_end cs (done ++ ss) rows fit)
     where
       go : (length done ≡ room) ⊎ (length done ≡ room → ⊥) →
-          ((ss : List Step) → length (done ++ ss) ≤ room → Ends (done ++ ss) (replay_ranges g cs (room - length (done ++ ss)) rows) (replay_all st (range_of g) (state_at (done ++ ss) rows) cs)) →
+          ((ss : List Step) → length (done ++ ss) ≤ room → Ends (done ++ ss) (replay_ranges g cs (room - length (done ++ ss)) rows)
+          (replay_all st (range_of g) (state_at (done ++ ss) rows) cs)) →
           Ends done (replay_ranges g (linear a b ∷ cs) (room - length done) rows) (replay_all st (range_of g) (state_at done rows) (linear a b ∷ cs))
       go (inl e) rec = no_room done (linear a b) cs a b rows (unfold open_of in refl) e
       go (inr n) rec =
@@ -355,13 +360,15 @@ module _ (g : Graph) (ws : List ℕ) where
       (λ ss more fit. ranges_end cs (done ++ ss) more fit)
     where
       go : (length done ≡ room) ⊎ (length done ≡ room → ⊥) → (t : Bool) → rows_too_long (range_of g a b) rows ≡ t →
-          ((ss : List Step) (more : List ℕ) → length (done ++ ss) ≤ room → Ends (done ++ ss) (replay_ranges g cs (room - length (done ++ ss)) more) (replay_all st (range_of g) (state_at (done ++ ss) more) cs)) →
+          ((ss : List Step) (more : List ℕ) → length (done ++ ss) ≤ room → Ends (done ++ ss) (replay_ranges g cs (room - length (done ++ ss)) more)
+          (replay_all st (range_of g) (state_at (done ++ ss) more) cs)) →
           Ends done (replay_ranges g (concurrent a b ∷ cs) (room - length done) rows) (replay_all st (range_of g) (state_at done rows) (concurrent a b ∷ cs))
       go (inl e) t q rec = no_room done (concurrent a b) cs a b rows (unfold open_of in refl) e
       go (inr n) true q rec = range_rows done a b cs rows (omega (arith, le, n)) q
       go (inr n) false q rec =
           let lt : length done < room = omega (arith, le, n) in
-          range_done done rows (concurrent a b) cs (opened a b ∷ steps_of (range_of g a b) a 0 0) (rows_into (range_of g a b) rows) lt (concurrent_is a b rows false q) (walked_on done a b rows lt q)
+          range_done done rows (concurrent a b) cs (opened a b ∷ steps_of (range_of g a b) a 0 0) (rows_into (range_of g a b) rows) lt
+          (concurrent_is a b rows false q) (walked_on done a b rows lt q)
           (rec (opened a b ∷ steps_of (range_of g a b) a 0 0) (rows_into (range_of g a b) rows))
 
   -- A whole replay

@@ -51,7 +51,8 @@ module _ (st : List ℕ) (range : ℕ → ℕ → Range) (k m : ℕ) (l rows : L
 
 -- The ranges from the i-th on: the next one, one that is refused, and none
 module _ (st : List ℕ) (range : ℕ → ℕ → Range) (rs : List (List ℕ)) (i : ℕ) where
-  pub ranges_next : i < length rs → (s t : State) → t ≡ replay_on st range s (range_in (at rs i)) → replay_all st range t (ranges_in (drop (i + 1) rs)) ≡ replay_all st range s (ranges_in (drop i rs))
+  pub ranges_next : i < length rs → (s t : State) → t ≡ replay_on st range s (range_in (at rs i)) → replay_all st range t
+      (ranges_in (drop (i + 1) rs)) ≡ replay_all st range s (ranges_in (drop i rs))
   unfolding replay_all ranges_in at
   ranges_next lt s t e = rw (add-one i, drop-cons rs i [] lt) (ap (λ (x : State). replay_all st range x (map range_in (drop (suc i) rs))) e)
 

@@ -42,15 +42,17 @@ weigh-view t d w ready i b = go (t (get_or ready i 0))
     r : ℕ
     r = get_or ready i 0
 
-    low : (z y : Bool) → y ≡ z → view ready (pick z b (try_of b (record { cost = d r; weight = w r; at = i }))) ≡ elim y as (λ _. Best) [ true ↦ view ready b | false ↦ better (d r) (w r) r (view ready b) ]
+    low : (z y : Bool) → y ≡ z → view ready (pick z b (try_of b (record { cost = d r; weight = w r; at = i }))) ≡ elim y as
+        (λ _. Best) [ true ↦ view ready b | false ↦ better (d r) (w r) r (view ready b) ]
     low true true e = refl
     low true false e = false_true e
     low false true e = false_true (sym e)
     low false false e = try_view ready b (d r) (w r) i
 
-    go : (u : Bool) → view ready (pick u (try_of b (record { cost = 0; weight = w r; at = i })) (pick (free_c b) b (try_of b (record { cost = d r; weight = w r; at = i })))) ≡ elim u as (λ _. Best) [
-      | true ↦ better 0 (w r) r (view ready b)
-      | false ↦ elim (free (view ready b)) as (λ _. Best) [ true ↦ view ready b | false ↦ better (d r) (w r) r (view ready b) ]
-    ]
+    go : (u : Bool) → view ready (pick u (try_of b (record { cost = 0; weight = w r; at = i }))
+        (pick (free_c b) b (try_of b (record { cost = d r; weight = w r; at = i })))) ≡ elim u as (λ _. Best) [
+          | true ↦ better 0 (w r) r (view ready b)
+          | false ↦ elim (free (view ready b)) as (λ _. Best) [ true ↦ view ready b | false ↦ better (d r) (w r) r (view ready b) ]
+        ]
     go true = try_view ready b 0 (w r) i
     go false = low (free_c b) (free (view ready b)) (free-view ready b)

@@ -47,7 +47,8 @@ pub(crate) fn walk_range(
 ) -> Result<(), Refusal>
     requires { ArraysOf graph.now bounds.end.0 }
     ensures same_list { same_list steps.new steps.old }
-    ensures steps_after { (written result steps.new, rows.new) ≡ walked_in graph.now.starts (range_at graph.now bounds.from.0 bounds.end.0) bounds.from.0 bounds.known bounds.first (so_far steps.old) rows.old }
+    ensures steps_after { (written result steps.new, rows.new) ≡ walked_in graph.now.starts
+        (range_at graph.now bounds.from.0 bounds.end.0) bounds.from.0 bounds.known bounds.first (so_far steps.old) rows.old }
 {
     let a = bounds.from;
     let n = (bounds.end.0 - a.0) as usize;

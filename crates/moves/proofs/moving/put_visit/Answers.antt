@@ -16,10 +16,12 @@ pub returns-in_err-put_moves-2-clause-steps_after : goal.returns-in_err-put_move
 returns-in_err-put_moves-2-clause-steps_after c =
     let a = c.args in
     let p = err_from_is_err_and c.from_residual-in_err-put_moves-2.result c.from_residual-in_err-put_moves-2.ensures.1 in
-    rw (p.1, p.2) (ends_refused _ (visit_advances a.runs.starts.now a.runs.base _ _ a.current.now a.row.now a.chains.count a.run (so_far a.steps.now) _ c.in_ok-put_moves.ensures.steps_after) c.in_err-put_moves-2.ensures.steps_after)
+    rw (p.1, p.2) (ends_refused _ (visit_advances a.runs.starts.now a.runs.base _ _ a.current.now a.row.now a.chains.count a.run
+    (so_far a.steps.now) _ c.in_ok-put_moves.ensures.steps_after) c.in_err-put_moves-2.ensures.steps_after)
 
 pub returns-clause-steps_after : goal.returns-clause-steps_after
 returns-clause-steps_after c =
     let a = c.args in
     c.put_step.ensures.steps_after ∙
-    visit_applies a.runs.starts.now a.runs.base _ _ a.current.now a.row.now a.chains.count a.run (so_far a.steps.now) _ c.in_ok-put_moves.ensures.steps_after _ c.in_ok-put_moves-2.ensures.steps_after
+    visit_applies a.runs.starts.now a.runs.base _ _ a.current.now a.row.now a.chains.count a.run
+    (so_far a.steps.now) _ c.in_ok-put_moves.ensures.steps_after _ c.in_ok-put_moves-2.ensures.steps_after

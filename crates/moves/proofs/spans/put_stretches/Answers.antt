@@ -34,7 +34,8 @@ loop-run-preserved c =
             same_list = put.same_list ∙ l.invariant.same_list;
             first = low;
             last = low;
-            left = goes_on _ (stretch_next a.runs.starts.now a.kind a.runs.base (so_far l.steps) l.first l.last more l.run-index c.loop-run-test.true w.if-run-last.true ∙ l.invariant.left) put.steps_after;
+            left = goes_on _ (stretch_next a.runs.starts.now a.kind a.runs.base
+                (so_far l.steps) l.first l.last more l.run-index c.loop-run-test.true w.if-run-last.true ∙ l.invariant.left) put.steps_after;
           })
       | else-run-last w ↦
           rw (w.steps-is, w.first-is, w.last-is) (record {

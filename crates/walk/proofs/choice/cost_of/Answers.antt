@@ -7,6 +7,7 @@ use Rattle.walk.proofs.choice.cost_of.Goals as goal
 pub returns : goal.returns
 unfolding cost_c
 returns c = (
-  within_same c.distance.result c.limit.ensures (λ i. gaps_from (c.sums.ensures.before i) (c.sums.ensures.begins i) c.args.current.now (c.row.ensures i) 0 (c.sums.ensures.chains i)) c.distance.ensures.value,
+  within_same c.distance.result c.limit.ensures (λ i. gaps_from (c.sums.ensures.before i) (c.sums.ensures.begins i) c.args.current.now (c.row.ensures i) 0
+      (c.sums.ensures.chains i)) c.distance.ensures.value,
   c.distance.ensures.small,
 )

@@ -13,7 +13,8 @@ loop-at-preserved c = let a = c.args in
     let few = ap (λ (s : Wakes). s.0) c.waits.view_is in
     record {
       from = omega (arith, c.loop-at-test.true);
-      left = scan_next (only_c g a.last) (cost_c g a.current.now) (weight_c g) a.waits.now.2 a.waits.now.0 l.at c.saturating_sub-at-start.result (get_or c.waits.inside.ready (l.at - 1) 0) l.best c.weigh-best.result c.loop-at-test.true (omega (arith, l.auto.at, few)) run c.weigh-best.ensures ∙
+      left = scan_next (only_c g a.last) (cost_c g a.current.now) (weight_c g) a.waits.now.2 a.waits.now.0 l.at c.saturating_sub-at-start.result
+          (get_or c.waits.inside.ready (l.at - 1) 0) l.best c.weigh-best.result c.loop-at-test.true (omega (arith, l.auto.at, few)) run c.weigh-best.ensures ∙
           l.invariant.left;
     }
 

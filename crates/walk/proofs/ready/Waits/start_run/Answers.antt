@@ -28,7 +28,8 @@ returns-then-r-given c =
     let known = ap (λ (g : Given). g.known) c.given.view_is in
     let unknown = c.count_unknown.ensures.value ∙ (λ i. count (λ p. leb (known i) p) (c.parents-parents.ensures.value i)) in
     let lt : r < i.runs = omega (arith, c.requires.run, c.requires.long, ap (λ (s : Wakes). length s.1) c.self.view_is, length-take i.runs i.waiting) in
-    kept-known i.count i.runs i.waiting i.ready (omega (arith, c.self.invariant)) r g.known g.first ps c.count_unknown.result c.held_back.result unknown c.held_back.ensures.value lt (omega (arith, known, c.if-r-given.true)) ∙
+    kept-known i.count i.runs i.waiting i.ready (omega (arith, c.self.invariant)) r g.known g.first ps c.count_unknown.result c.held_back.result unknown
+    c.held_back.ensures.value lt (omega (arith, known, c.if-r-given.true)) ∙
     ap (λ (s : Wakes). start_of g.known g.first s r ps) c.self.view_is
 
 pub returns : goal.returns
@@ -40,5 +41,6 @@ returns c =
     let known = ap (λ (g : Given). g.known) c.given.view_is in
     let unknown = c.count_unknown.ensures.value ∙ (λ i. count (λ p. leb (known i) p) (c.parents-parents.ensures.value i)) in
     let lt : r < i.runs = omega (arith, c.requires.run, c.requires.long, ap (λ (s : Wakes). length s.1) c.self.view_is, length-take i.runs i.waiting) in
-    kept-ready i.count i.runs i.waiting i.ready (omega (arith, c.self.invariant)) r g.known g.first ps c.count_unknown.result c.held_back.result unknown c.held_back.ensures.value lt c.if-w-ne0.false (omega (arith, known, c.if-r-given.false)) ∙
+    kept-ready i.count i.runs i.waiting i.ready (omega (arith, c.self.invariant)) r g.known g.first ps c.count_unknown.result c.held_back.result unknown
+    c.held_back.ensures.value lt c.if-w-ne0.false (omega (arith, known, c.if-r-given.false)) ∙
     ap (λ (s : Wakes). start_of g.known g.first s r ps) c.self.view_is

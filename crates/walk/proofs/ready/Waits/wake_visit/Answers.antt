@@ -45,7 +45,8 @@ returns-then-left-gt1 c =
     let known = ap (λ (g : Given). g.known) c.given.view_is in
     let first = ap (λ (g : Given). g.first) c.given.view_is in
     let kids = sym (wake_none c.loop-child.self _ c.loop-child.child-index c.loop-child-test.false) ∙ c.loop-child.invariant ∙ ap (wake_all a.self.now) c.children-child-items.ensures in
-    let q = woken-first a.self.now (children_for g a.run) a.run g.known g.first g.runs a.left (omega (arith, c.if-run-given.false, known)) (omega (arith, c.if-given-run.false, first)) c.if-left-gt1.true in
+    let q = woken-first a.self.now (children_for g a.run) a.run g.known g.first g.runs a.left (omega (arith, c.if-run-given.false, known))
+    (omega (arith, c.if-given-run.false, first)) c.if-left-gt1.true in
     record { ready_after = kids ∙ q.0; left_value = q.1 }
 
 pub returns : goal.returns
@@ -56,8 +57,10 @@ returns c =
     let first = ap (λ (g : Given). g.first) c.given.view_is in
     let kids = sym (wake_none c.loop-child.self _ c.loop-child.child-index c.loop-child-test.false) ∙ c.loop-child.invariant ∙ ap (wake_all a.self.now) c.children-child-items.ensures in
     let runs = ap (λ (g : Given). g.runs) c.given.view_is in
-    let q = woken-last a.self.now (children_for g a.run) a.run g.known g.first g.runs a.left (omega (arith, c.if-run-given.false, known)) (omega (arith, c.if-given-run.false, first)) c.if-left-gt1.false in
+    let q = woken-last a.self.now (children_for g a.run) a.run g.known g.first g.runs a.left (omega (arith, c.if-run-given.false, known))
+    (omega (arith, c.if-given-run.false, first)) c.if-left-gt1.false in
     record {
-      ready_after = sym (range_none c.loop-later.self c.loop-later.later _ c.loop-later-test.false) ∙ c.loop-later.invariant ∙ ((λ i. wake_all (kids i) (from (first i) (runs i - first i))) ∙ q.0);
+      ready_after = sym (range_none c.loop-later.self c.loop-later.later _ c.loop-later-test.false) ∙ c.loop-later.invariant ∙
+          ((λ i. wake_all (kids i) (from (first i) (runs i - first i))) ∙ q.0);
       left_value = q.1;
     }

@@ -47,7 +47,8 @@ loop-preserved c = let a = c.args in
     let z : g.runs - (l.counter + 1) ≡ g.runs - l.counter - 1 = omega arith in
     record {
       same_list = v.same_list ∙ l.invariant.same_list;
-      looped = rw z (looped_next g (so_far a.steps.now) (g.runs - l.counter) l.self (so_far l.steps) l.invariant.looped some c.visit_next.new.self (so_far c.visit_next.new.steps) v.turned v.steps_after);
+      looped = rw z (looped_next g (so_far a.steps.now) (g.runs - l.counter) l.self (so_far l.steps) l.invariant.looped some c.visit_next.new.self
+          (so_far c.visit_next.new.steps) v.turned v.steps_after);
     }
 
 -- No visit is left, so no run is ready

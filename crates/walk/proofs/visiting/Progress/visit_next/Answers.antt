@@ -11,7 +11,8 @@ pub returns-in_err-visit-clause-steps_after : goal.returns-in_err-visit-clause-s
 returns-in_err-visit-clause-steps_after c =
     let a = c.args in
     let p = err_from_is_err_and c.from_residual.result c.from_residual.ensures.1 in
-    rw (p.1, p.2) (c.in_err-visit.ensures.steps_after ∙ ap (emit (so_far a.steps.now)) (visited_is a.given.now a.self.now c.requires.fit a.at c.remove-run.result c.requires.at c.remove-run.ensures.run))
+    rw (p.1, p.2) (c.in_err-visit.ensures.steps_after ∙ ap (emit (so_far a.steps.now))
+    (visited_is a.given.now a.self.now c.requires.fit a.at c.remove-run.result c.requires.at c.remove-run.ensures.run))
 
 pub returns-clause-steps_after : goal.returns-clause-steps_after
 returns-clause-steps_after c =
