@@ -12,7 +12,7 @@ use graph::held::HeldGraph;
 use graph::ranges;
 use model::{CausalGraph, EventRunIndex, Refusal, Walked};
 use moves::writing::Out;
-use tables::rows::Area;
+use tables::jagged::Jagged;
 use tables::tabling;
 
 // What a range came to: what is written, and whether its rows were too long.
@@ -49,11 +49,10 @@ pub(crate) fn walk_range(
 {
     let runs = b.0 - a.0;
     let n = runs as usize;
+    let all = Jagged::new(&graph.parent_starts, &graph.parents, b.0 as usize);
     let Some(area) = tabling::lay(
-        &graph.parent_starts,
-        &graph.parents,
+        &all,
         a.0,
-        n,
         rows,
         &mut areas.parents,
         &mut areas.chains,
