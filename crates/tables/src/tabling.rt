@@ -1,9 +1,9 @@
 // A range's tables, made of each other: parents, chains and rows; and children.
-ghost use Rattle.std.specs.Prelude.{◌+◌, ◌≤◌, length};
+ghost use Rattle.std.specs.Prelude.{◌-◌, ◌≤◌, length};
 ghost use Rattle.lists.specs.Lists.{concat};
 ghost use Rattle.model.specs.Limits.{max_entries};
 ghost use Rattle.tables.specs.Jagged.{Below};
-ghost use Rattle.tables.specs.Laid.{shares, Sound, RangeLaid};
+ghost use Rattle.tables.specs.Laid.{shares_of, RangeLaid};
 ghost use Rattle.tables.specs.Counted.{KidsTabled};
 
 use crate::groups::Groups;
@@ -12,23 +12,22 @@ use crate::rows::{Area, ChainTables};
 use crate::{children, rows};
 use model::MAX_STARTS;
 
-// Parents, chains and rows of the n runs from run a on; none where a row finds no room.
-pub fn lay<'a>(
-    heads: &'a [u32],
-    parents: &'a [u32],
+// Parents, chains and rows of the runs from run a on, by all runs' parents; none where a row finds no room.
+pub fn lay(
+    all: &Jagged,
     a: u32,
-    n: usize,
     area: &mut [u32],
     groups: &mut Groups,
     tables: &mut ChainTables,
     scratch: &mut [u32; MAX_STARTS],
 ) -> Option<Area>
-    requires sound { Sound heads.now parents.now (a + n) }
-    requires few { length parents.now ≤ max_entries }
-    ensures range_laid { RangeLaid (shares heads.now parents.now a n) n area.old result area.new groups.new tables.new }
+    requires from { a ≤ length all.now }
+    requires below { Below all.now }
+    requires few { length (concat all.now) ≤ max_entries }
+    ensures { RangeLaid (shares_of all.now a (length all.now - a)) (length all.now - a) area.old result area.new groups.new tables.new }
 {
-    let all = Jagged::new(heads, parents, a as usize + n);
-    groups.gather(&all, a);
+    groups.gather(all, a);
+    let n = all.len() - a as usize;
     let own = groups.rows(n);
     rows::lay(area, tables, &mut scratch[..n + 1], &own)
 }

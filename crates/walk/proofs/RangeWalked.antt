@@ -10,7 +10,9 @@ use Rattle.std.proofs.lemmas.Option.{MatchOption-at_none, MatchOption-at_some}
 use Rattle.tables.specs.declared.groups.Groups.{Groups}
 use Rattle.tables.specs.declared.rows.Area.{Area}
 use Rattle.tables.specs.declared.rows.ChainTables.{ChainTables}
-use Rattle.tables.specs.Laid.{shares, RangeLaid}
+use Rattle.tables.specs.Jagged.{rows_in}
+use Rattle.tables.specs.Laid.{shares, shares_of, RangeLaid}
+use Rattle.tables.proofs.JaggedRows.{rows-number}
 use Rattle.tables.proofs.Gathering.{shares-length}
 use Rattle.moves.specs.Emit.{Writing, emit}
 use Rattle.moves.specs.Moves.{recs}
@@ -22,6 +24,15 @@ use Rattle.walk.proofs.Answering.{walked-rows, walked-steps}
 -- The graph's arrays up to the range's end
 pub arrays_end : (starts heads parents : List ℕ) (a b n : ℕ) → a ≤ b → n ≡ b - a → Arrays starts heads parents b → Arrays starts heads parents (a + n)
 arrays_end starts heads parents a b n le e A = let q : b ≡ a + n = omega arith in rw q at A
+
+-- Rows laid by all runs' parents are laid by the graph's arrays
+pub laid_by_arrays : (heads parents : List ℕ) (a b : ℕ) → a ≤ b → (all : List (List ℕ)) → all ≡ rows_in heads parents b → (area₀ area : List ℕ) (groups : Groups) (tables : ChainTables) (r : Option Area) →
+    RangeLaid (shares_of all a (length all - a)) (length all - a) area₀ r area groups tables → RangeLaid (shares heads parents a (b - a)) (b - a) area₀ r area groups tables
+unfolding shares
+laid_by_arrays heads parents a b le all made area₀ area groups tables r R =
+    let k : length all ≡ b = ap length made ∙ rows-number heads parents b in
+    let e : a + (b - a) ≡ b = omega arith in
+    rw (e, ← made) (rw k at R)
 
 module _ (starts heads parents : List ℕ) (a n : ℕ) (area₀ area : List ℕ) (groups : Groups) (tables : ChainTables) (r : Option Area) (R : RangeLaid (shares heads parents a n) n area₀ r area groups tables) where
   abbrev w : Range

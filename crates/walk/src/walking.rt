@@ -14,7 +14,7 @@ use graph::held::HeldGraph;
 use graph::ranges;
 use model::{CausalGraph, EventRunIndex, Refusal, Walked};
 use moves::writing::Steps;
-use tables::rows::Area;
+use tables::jagged::Jagged;
 use tables::tabling;
 
 // A walk's range, from one run up to another, how many of its runs are known, and how many come first.
@@ -52,11 +52,10 @@ pub(crate) fn walk_range(
 {
     let a = bounds.from;
     let n = (bounds.end.0 - a.0) as usize;
+    let all = Jagged::new(&graph.parent_starts, &graph.parents, bounds.end.0 as usize);
     let Some(area) = tabling::lay(
-        &graph.parent_starts,
-        &graph.parents,
+        &all,
         a.0,
-        n,
         rows,
         &mut areas.parents,
         &mut areas.chains,

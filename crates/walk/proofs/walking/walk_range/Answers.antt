@@ -4,12 +4,24 @@ use Rattle.moves.specs.Emit.{so_far, written}
 use Rattle.tables.specs.declared.groups.Groups.{Groups}
 use Rattle.tables.specs.declared.rows.ChainTables.{ChainTables}
 use Rattle.tables.specs.Laid.{shares, RangeLaid}
+use Rattle.tables.proofs.JaggedRows.{rows_size, rows-below, rows-fit}
 use Rattle.walk.specs.Ranges.{range_at}
 use Rattle.walk.specs.Prepare.{Measured, Relatable, Related}
 use Rattle.walk.proofs.Preparing.{own_lent}
 use Rattle.walk.proofs.RangeReady.{measurable, relatable, prepared, range_same}
-use Rattle.walk.proofs.RangeWalked.{arrays_end, range_short, range_walked}
+use Rattle.walk.proofs.RangeWalked.{arrays_end, laid_by_arrays, range_short, range_walked}
 use Rattle.walk.proofs.walking.walk_range.Goals as goal
+
+pub lay-requires : goal.lay-requires
+lay-requires c =
+    let g = c.args.graph.now in
+    let A = c.requires in
+    let end = c.args.bounds.end.0 in
+    record {
+      from = omega (arith, c.args.bounds.inside.0, rows_size g.parent_starts g.parents end A.sound c.new-all.result c.new-all.ensures);
+      below = rows-below g.parent_starts g.parents end A.sound c.new-all.result c.new-all.ensures;
+      few = omega (arith, A.few, rows-fit g.parent_starts g.parents end A.sound c.new-all.result c.new-all.ensures);
+    }
 
 pub returns-in_default-clause-steps_after : goal.returns-in_default-clause-steps_after
 unfolding range_at
@@ -17,7 +29,7 @@ returns-in_default-clause-steps_after c =
     let a = c.args in
     let g = a.graph.now in
     let l = c.lay in
-    range_short g.starts g.parent_starts g.parents a.bounds.from.0 (a.bounds.end.0 - a.bounds.from.0) a.rows.now l.new.area l.new.groups l.new.tables l.result l.ensures.range_laid (a.bounds.end.0 - a.bounds.from.0) a.bounds.known a.bounds.first (so_far a.steps.now) refl c.in_default.is
+    range_short g.starts g.parent_starts g.parents a.bounds.from.0 (a.bounds.end.0 - a.bounds.from.0) a.rows.now l.new.area l.new.groups l.new.tables l.result (laid_by_arrays g.parent_starts g.parents a.bounds.from.0 a.bounds.end.0 a.bounds.inside.0 c.new-all.result c.new-all.ensures a.rows.now l.new.area l.new.groups l.new.tables l.result l.ensures) (a.bounds.end.0 - a.bounds.from.0) a.bounds.known a.bounds.first (so_far a.steps.now) refl c.in_default.is
 
 pub prepare-requires-clause-measurable : goal.prepare-requires-clause-measurable
 prepare-requires-clause-measurable c =
@@ -26,7 +38,10 @@ prepare-requires-clause-measurable c =
     let n = (a.bounds.end.0 - a.bounds.from.0) in
     let A = arrays_end g.starts g.parent_starts g.parents a.bounds.from.0 a.bounds.end.0 n a.bounds.inside.0 refl c.requires in
     let l = c.lay in
-    measurable g.starts g.parent_starts g.parents a.bounds.from.0 n A a.rows.now l.new.area l.new.groups l.new.tables c.in-Some.area c.in-Some.ensures.range_laid
+    let laid =
+        laid_by_arrays g.parent_starts g.parents a.bounds.from.0 a.bounds.end.0 a.bounds.inside.0 c.new-all.result c.new-all.ensures
+        a.rows.now l.new.area l.new.groups l.new.tables (Some c.in-Some.area) c.in-Some.ensures in
+    measurable g.starts g.parent_starts g.parents a.bounds.from.0 n A a.rows.now l.new.area l.new.groups l.new.tables c.in-Some.area laid
 
 pub prepare-requires-clause-relatable : goal.prepare-requires-clause-relatable
 prepare-requires-clause-relatable c =
@@ -35,8 +50,11 @@ prepare-requires-clause-relatable c =
     let n = (a.bounds.end.0 - a.bounds.from.0) in
     let A = arrays_end g.starts g.parent_starts g.parents a.bounds.from.0 a.bounds.end.0 n a.bounds.inside.0 refl c.requires in
     let l = c.lay in
+    let laid =
+        laid_by_arrays g.parent_starts g.parents a.bounds.from.0 a.bounds.end.0 a.bounds.inside.0 c.new-all.result c.new-all.ensures
+        a.rows.now l.new.area l.new.groups l.new.tables (Some c.in-Some.area) c.in-Some.ensures in
     let own_is = own_lent g.starts g.parent_starts g.parents a.bounds.from.0 n A a.bounds.from.0 (a.bounds.from.0 + n + 1) refl refl in
-    subst (λ (s : List ℕ). Relatable s n l.new.groups) (sym own_is) (relatable g.starts g.parent_starts g.parents a.bounds.from.0 n A a.rows.now l.new.area l.new.groups l.new.tables c.in-Some.area c.in-Some.ensures.range_laid)
+    subst (λ (s : List ℕ). Relatable s n l.new.groups) (sym own_is) (relatable g.starts g.parent_starts g.parents a.bounds.from.0 n A a.rows.now l.new.area l.new.groups l.new.tables c.in-Some.area laid)
 
 pub invariant_of-given : goal.invariant_of-given
 invariant_of-given c =
@@ -45,9 +63,12 @@ invariant_of-given c =
     let n = (a.bounds.end.0 - a.bounds.from.0) in
     let A = arrays_end g.starts g.parent_starts g.parents a.bounds.from.0 a.bounds.end.0 n a.bounds.inside.0 refl c.requires in
     let l = c.lay in
+    let laid =
+        laid_by_arrays g.parent_starts g.parents a.bounds.from.0 a.bounds.end.0 a.bounds.inside.0 c.new-all.result c.new-all.ensures
+        a.rows.now l.new.area l.new.groups l.new.tables (Some c.in-Some.area) c.in-Some.ensures in
     let q = c.prepare.new.self in
     let own_is = own_lent g.starts g.parent_starts g.parents a.bounds.from.0 n A a.bounds.from.0 (a.bounds.from.0 + n + 1) refl refl in
-    let R₀ = subst (λ (gs : Groups). RangeLaid (shares g.parent_starts g.parents a.bounds.from.0 n) n a.rows.now (Some c.in-Some.area) l.new.area gs l.new.tables) (sym c.prepare.ensures.kept.0) c.in-Some.ensures.range_laid in
+    let R₀ = subst (λ (gs : Groups). RangeLaid (shares g.parent_starts g.parents a.bounds.from.0 n) n a.rows.now (Some c.in-Some.area) l.new.area gs l.new.tables) (sym c.prepare.ensures.kept.0) laid in
     let R = subst (λ (t : ChainTables). RangeLaid (shares g.parent_starts g.parents a.bounds.from.0 n) n a.rows.now (Some c.in-Some.area) l.new.area q.parents t) (sym c.prepare.ensures.kept.1) R₀ in
     let M = subst (λ (s : List ℕ). Measured s n c.in-Some.area.chains l.new.area q.chains q.members q.sizes) own_is c.prepare.ensures.measured in
     let F = subst (λ (s : List ℕ). Related s n q.parents q.children q.weights) own_is c.prepare.ensures.related in
@@ -63,9 +84,12 @@ returns-clause-steps_after c =
     let n = (a.bounds.end.0 - a.bounds.from.0) in
     let A = arrays_end g.starts g.parent_starts g.parents a.bounds.from.0 a.bounds.end.0 n a.bounds.inside.0 refl c.requires in
     let l = c.lay in
+    let laid =
+        laid_by_arrays g.parent_starts g.parents a.bounds.from.0 a.bounds.end.0 a.bounds.inside.0 c.new-all.result c.new-all.ensures
+        a.rows.now l.new.area l.new.groups l.new.tables (Some c.in-Some.area) c.in-Some.ensures in
     let q = c.prepare.new.self in
     let own_is = own_lent g.starts g.parent_starts g.parents a.bounds.from.0 n A a.bounds.from.0 (a.bounds.from.0 + n + 1) refl refl in
-    let R₀ = subst (λ (gs : Groups). RangeLaid (shares g.parent_starts g.parents a.bounds.from.0 n) n a.rows.now (Some c.in-Some.area) l.new.area gs l.new.tables) (sym c.prepare.ensures.kept.0) c.in-Some.ensures.range_laid in
+    let R₀ = subst (λ (gs : Groups). RangeLaid (shares g.parent_starts g.parents a.bounds.from.0 n) n a.rows.now (Some c.in-Some.area) l.new.area gs l.new.tables) (sym c.prepare.ensures.kept.0) laid in
     let R = subst (λ (t : ChainTables). RangeLaid (shares g.parent_starts g.parents a.bounds.from.0 n) n a.rows.now (Some c.in-Some.area) l.new.area q.parents t) (sym c.prepare.ensures.kept.1) R₀ in
     let M = subst (λ (s : List ℕ). Measured s n c.in-Some.area.chains l.new.area q.chains q.members q.sizes) own_is c.prepare.ensures.measured in
     let F = subst (λ (s : List ℕ). Related s n q.parents q.children q.weights) own_is c.prepare.ensures.related in
