@@ -100,9 +100,6 @@ module _ (g : CausalGraph) (held : Held g) where
   starts-same i = ap (λ (l : List ℕ). get_or l i 0) (starts-pad g held) ∙ get_pad 513 (view g).starts i
 
   module _ (a b : ℕ) (le : a ≤ b) (few : b ≤ g.run_count) where
-    pub parents-sound : (n : ℕ) → n ≡ b - a → Sound g.parent_starts g.parents (a + n)
-    parents-sound n e = sound_of g.parent_starts g.parents g.run_count (a + n) (rows_of g held) (omega arith)
-
     pub shares-view : (n : ℕ) → n ≡ b - a → shares g.parent_starts g.parents a n ≡ parents_in (view g) a b
     shares-view n e =
         let end : a + n ≡ b = omega arith in
