@@ -52,9 +52,6 @@ rows_grouped starts items n long =
     ext_get_or [] (rows_in starts items n) (grouped starts items n) (rows-number starts items n ∙ sym (groups-size starts items n long))
     (λ r lt. let q : r < n = omega (arith, lt, rows-number starts items n) in row_part starts items n r q ∙ sym (group_part starts items n r long q))
 
-pub lies_of : (starts items : List ℕ) (n : ℕ) → Sound starts items n → Lies starts items n
-lies_of starts items n sound = record { few = sound.few; rise = λ r lt. (sound.inside r lt).0; inside = λ r lt. (sound.inside r lt).1 }
-
 -- The groups' items are no more than the last start says
 pub items-most : (starts items : List ℕ) (n : ℕ) → Sound starts items n → length (concat (grouped starts items n)) ≤ get_or starts n 0
 items-most starts items n sound =
