@@ -1,5 +1,6 @@
 -- How many steps a walk and a full replay write at most, and so how many events these move. Assumes nothing.
-use Rattle.std.proofs.Common.{Bool, true, false, List, [], ◌∷◌, ◌++◌, ℕ, ◌+◌, ◌-◌, ◌*◌, ◌/◌, ◌≤◌, ◌<◌, arith, length, take, length-take, length-append, ltb, eqb, get_or, get_or-take, ◌^◌, ◌⊎◌, inl, inr}
+use Rattle.std.proofs.Common.{Bool, true, false, List, [], ◌∷◌, ◌++◌, ℕ, ◌+◌, ◌-◌, ◌*◌, ◌/◌, ◌≤◌, ◌<◌, arith, length, take, length-take, length-append, ltb, eqb, get_or, get_or-take, ◌^◌, ◌⊎◌}
+use Rattle.std.proofs.Common.{inl, inr}
 use Rattle.std.specs.Prelude.{Ok, Err}
 use Rattle.std.proofs.lemmas.List.{get_or_past}
 use lib.ListN.{length-map}
@@ -133,4 +134,9 @@ module _ (g : CausalGraph) (held : Held g) (small : Below (2 ^ 32) g.starts) whe
 
   pub replay_few : (rows steps : List ℕ) → (replay_of g rows steps).0.moved < 2 ^ 64
   replay_few rows steps = rw (replay_is g rows steps (not-broken g held))
-      (unfold wrote in omega (arith, few, moved_le (view g) starts_small (replay_ranges (view g) (cut_from (view g) 0) (length steps / 3) rows).1, ranges_count (view g) few 0 (cut_from (view g) 0) (runs (view g)) (length steps / 3) rows (cut_laid (view g) 0)))
+      (unfold wrote in omega (
+        arith,
+        few,
+        moved_le (view g) starts_small (replay_ranges (view g) (cut_from (view g) 0) (length steps / 3) rows).1,
+        ranges_count (view g) few 0 (cut_from (view g) 0) (runs (view g)) (length steps / 3) rows (cut_laid (view g) 0),
+      ))

@@ -17,7 +17,8 @@ pub loop-i-preserved : goal.loop-i-preserved
 loop-i-preserved c =
     let s = c.args.s.now in
     let i = c.loop-i.i in
-    rw (c.loop-i.invariant, pairs_more leb s i (omega arith) (omega arith)) (sym (and_assoc (eqb (get_or s (length s - 1) 0) c.args.last) (pairs leb (take i s)) (leb (get_or s (i - 1) 0) (get_or s i 0))))
+    rw (c.loop-i.invariant, pairs_more leb s i (omega arith) (omega arith))
+    (sym (and_assoc (eqb (get_or s (length s - 1) 0) c.args.last) (pairs leb (take i s)) (leb (get_or s (i - 1) 0) (get_or s i 0))))
 
 pub returns : goal.returns
 returns c =

@@ -16,7 +16,8 @@ weigh_run-requires c =
     let a = c.args in
     let l = c.loop-r in
     let per = c.per_bit-per.ensures.value ∙ ap per_bit c.offset_of.ensures.value in
-    let t = turn_of a.starts.now a.children.now.starts a.children.now.items l.covers c.row.result.now a.n (l.r - 1) c.rows-kids.result c.per_bit-per.result _ _ _ c.requires.2 (omega arith) (omega arith) per
+    let t = turn_of a.starts.now a.children.now.starts a.children.now.items l.covers c.row.result.now a.n (l.r - 1) c.rows-kids.result c.per_bit-per.result _ _ _ c.requires.2 (omega arith)
+    (omega arith) per
     c.offset_of-in-loop-r.ensures.value c.offset_of-in-loop-r-2.ensures.value c.div_ceil-high.ensures c.rows-kids.ensures.rows c.row.ensures in
     record { rising = t.rising; within = t.within; few = t.few; room = t.room; inside = t.inside }
 

@@ -36,7 +36,11 @@ walked-requires c =
     let rs = c.as_chunks.result.0.now in
     let read = cut_reads g.graph g.held _ w.new.list w.result refl w.ensures rs (records_are g.graph g.held _ w.new.list w.result refl w.ensures rs c.as_chunks.ensures.front) in
     let e = c.replay_all-outcome.ensures.steps_after ∙ ap (λ (x : Writing). replay_all g.graph.starts (range_at g.graph) (x, a.rows.now) (ranges_in rs)) c.over-written.ensures.begun in
-    omega (arith, ap (λ (x : WalkResult). x.0.moved) (replay_whole g.graph g.held a.rows.now a.steps.now (ranges_in rs) read _ e), replay_few g.graph g.held c.starts_fit.ensures a.rows.now a.steps.now)
+    omega (
+      arith,
+      ap (λ (x : WalkResult). x.0.moved) (replay_whole g.graph g.held a.rows.now a.steps.now (ranges_in rs) read _ e),
+      replay_few g.graph g.held c.starts_fit.ensures a.rows.now a.steps.now,
+    )
 
 pub returns : goal.returns
 returns c =

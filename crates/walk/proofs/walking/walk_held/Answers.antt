@@ -20,7 +20,11 @@ walked-requires c =
     let g = a.g.now.graph in
     let w = c.walk_range-outcome in
     let e = w.ensures.steps_after ∙ ap (λ (x : Writing). walked_in g.starts (range_at g b.from.0 b.end.0) b.from.0 b.known b.first x a.rows.now) c.over-written.ensures.begun in
-    omega (arith, ap (λ (x : WalkResult). x.0.moved) (walk_whole g b.from.0 b.end.0 b.known b.first a.rows.now a.steps.now a.g.now.held b.inside.0 c.requires _ e), walk_few g a.g.now.held c.starts_fit.ensures b.from.0 b.end.0 b.known b.first a.rows.now a.steps.now)
+    omega (
+      arith,
+      ap (λ (x : WalkResult). x.0.moved) (walk_whole g b.from.0 b.end.0 b.known b.first a.rows.now a.steps.now a.g.now.held b.inside.0 c.requires _ e),
+      walk_few g a.g.now.held c.starts_fit.ensures b.from.0 b.end.0 b.known b.first a.rows.now a.steps.now,
+    )
 
 pub returns : goal.returns
 returns c =

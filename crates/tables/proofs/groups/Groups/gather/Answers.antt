@@ -13,21 +13,24 @@ pub put_parents-at-requires : goal.put_parents-at-requires
 put_parents-at-requires c =
     let a = c.args in
     let l = c.loop-j in
-    let room = turn_room a.all.now a.a l.j (omega (arith, c.len.ensures.value)) _ _ l.at l.self.starts l.self.items l.invariant (omega (arith, c.requires.few)) (omega (arith, length-set a.self.now.starts 0 0, c.len.ensures.few)) in
+    let room = turn_room a.all.now a.a l.j (omega (arith, c.len.ensures.value)) _ _ l.at l.self.starts l.self.items l.invariant (omega (arith, c.requires.few))
+    (omega (arith, length-set a.self.now.starts 0 0, c.len.ensures.few)) in
     omega (arith, room, ap length c.row.ensures, c.requires.few)
 
 pub overflow_cast-self : goal.overflow_cast-self
 overflow_cast-self c =
     let a = c.args in
     let l = c.loop-j in
-    let room = turn_room a.all.now a.a l.j (omega (arith, c.len.ensures.value)) _ _ l.at l.self.starts l.self.items l.invariant (omega (arith, c.requires.few)) (omega (arith, length-set a.self.now.starts 0 0, c.len.ensures.few)) in
+    let room = turn_room a.all.now a.a l.j (omega (arith, c.len.ensures.value)) _ _ l.at l.self.starts l.self.items l.invariant (omega (arith, c.requires.few))
+    (omega (arith, length-set a.self.now.starts 0 0, c.len.ensures.few)) in
     omega (arith, room, ap length c.row.ensures, c.requires.few, ap (λ (s : Gathered). s.0) c.put_parents-at.ensures, (puts_count a.a (l.at, l.self.items) c.row.result.now).1)
 
 pub loop-j-preserved : goal.loop-j-preserved
 loop-j-preserved c =
     let a = c.args in
     let l = c.loop-j in
-    gathers_next a.all.now a.a l.j (omega (arith, c.len.ensures.value)) _ _ l.at l.self.starts l.self.items l.invariant (omega (arith, c.requires.few)) (omega (arith, length-set a.self.now.starts 0 0, c.len.ensures.few)) _ _ _
+    gathers_next a.all.now a.a l.j (omega (arith, c.len.ensures.value)) _ _ l.at l.self.starts l.self.items l.invariant (omega (arith, c.requires.few))
+    (omega (arith, length-set a.self.now.starts 0 0, c.len.ensures.few)) _ _ _
     (c.put_parents-at.ensures ∙ ap (put_parents a.a (l.at, l.self.items)) c.row.ensures) refl
 
 pub returns-clause-grouped : goal.returns-clause-grouped
