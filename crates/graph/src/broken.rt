@@ -159,7 +159,8 @@ impl<'a> Counted<'a> {
     }
 }
 
-// Whether a graph is broken.
+// Whether a graph is broken. Inlined into `HeldGraph::of` it costs a call 2 µs more.
+#[inline(never)]
 pub fn is_broken(g: CausalGraph) -> bool
     ensures { result ≡ Broken.broken g }
 {

@@ -94,17 +94,31 @@ spot_most row lens c (suc k) = go (eqb (get_or row c 0) (get_or lens c 0)) (spot
     go false h = omega arith
 
 -- so from the first on
-pub spot_found : (row lens : List ℕ) (n : ℕ) (o : Option ℕ) → n ≤ length row → n ≤ length lens → o ≡ position (λ p. eqb p.0 p.1) (zip (take n row) (take n lens)) →
-    (unwrap_or o n ≡ spot_from row lens 0 n) × (unwrap_or o n ≤ n)
-spot_found row lens n o p q e = (found, omega (arith, found, spot_most row lens 0 n))
+pub spot_found : (row lens : List ℕ) (k : ℕ) (o : Option ℕ) → length row ≡ length lens → o ≡ position (λ p. eqb p.0 p.1) (zip row lens) → k ≡ unwrap_or o (length lens) →
+    (k ≡ spot_from row lens 0 (length lens)) × (k ≤ length lens)
+spot_found row lens k o size e f = (found, omega (arith, found, spot_most row lens 0 (length lens)))
   where
-    found : unwrap_or o n ≡ spot_from row lens 0 n
+    start : (l : List ℕ) (i : ℕ) → get_or l i 0 ≡ get_or l (0 + i) 0
+    start l i = ap (λ (j : ℕ). get_or l j 0) (omega arith)
+
+    found : k ≡ spot_from row lens 0 (length lens)
     found =
-        ap (λ (x : Option ℕ). unwrap_or x n) (e ∙ position_from-zero (λ p. eqb p.0 p.1) (zip (take n row) (take n lens))) ∙
-        (ap (unwrap_or (position_from (λ p. eqb p.0 p.1) 0 (zip (take n row) (take n lens)))) (omega arith) ∙
-        spot_zip (take n row) (take n lens) row lens 0 n
-        (λ i lt. get_or-take n row i 0 lt ∙ ap (λ (j : ℕ). get_or row j 0) (omega arith)) (λ i lt. get_or-take n lens i 0 lt ∙ ap (λ (j : ℕ). get_or lens j 0) (omega arith))
-        (length-take-le n row p) (length-take-le n lens q))
+        f ∙ ap (λ (x : Option ℕ). unwrap_or x (length lens)) (e ∙ position_from-zero (λ p. eqb p.0 p.1) (zip row lens)) ∙
+        (ap (unwrap_or (position_from (λ p. eqb p.0 p.1) 0 (zip row lens))) (omega arith) ∙
+        spot_zip row lens row lens 0 (length lens) (λ i lt. start row i) (λ i lt. start lens i) size refl)
+
+-- The first n places are those of longer lists
+spot_same : (row row' lens lens' : List ℕ) (c k : ℕ) → ((i : ℕ) → i < c + k → get_or row i 0 ≡ get_or row' i 0) → ((i : ℕ) → i < c + k → get_or lens i 0 ≡ get_or lens' i 0) →
+    spot_from row lens c k ≡ spot_from row' lens' c k
+unfolding spot_from
+spot_same row row' lens lens' c zero f g = refl
+spot_same row row' lens lens' c (suc k) f g = rw (f c (omega arith), g c (omega arith), spot_same row row' lens lens' (c + 1) k (λ i lt. f i (omega arith)) (λ i lt. g i (omega arith))) refl
+
+pub spot_cut : (row lens : List ℕ) (k n w : ℕ) → n ≤ length lens → n ≤ w → k ≡ spot_from (take n row) (take n lens) 0 (length (take n lens)) → k ≡ spot_from row (take w lens) 0 n
+spot_cut row lens k n w long le e =
+    e ∙ (ap (spot_from (take n row) (take n lens) 0) (length-take-le n lens long) ∙
+    spot_same (take n row) row (take n lens) (take w lens) 0 n (λ i lt. get_or-take n row i 0 (omega arith))
+    (λ i lt. get_or-take n lens i 0 (omega arith) ∙ sym (get_or-take w lens i 0 (omega arith))))
 
 -- A run that does not fit, and one that does
 pub lay_stop : (w : Laying) (r : ℕ) (ps row : List ℕ) (k width : ℕ) → row ≡ row_of w ps → k ≡ spot_from row w.0.lens 0 w.0.count → width ≡ max w.0.count (k + 1) →

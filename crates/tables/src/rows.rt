@@ -1,5 +1,5 @@
 // Chains and rows of a range: each run's row is made of its parents' rows, lent as parts of the row area.
-ghost use Rattle.std.specs.Prelude.{◌≡◌, ◌+◌, ◌<◌, ◌≤◌, ◌^◌, max, length, get_or, take, eqb, MatchOption, replicate};
+ghost use Rattle.std.specs.Prelude.{◌≡◌, ◌+◌, ◌<◌, ◌≤◌, ◌^◌, max, length, get_or, eqb, MatchOption, replicate};
 ghost use Rattle.std.specs.List.{position, zip};
 ghost use Rattle.model.specs.Limits.{max_runs, max_starts};
 ghost use Rattle.tables.specs.Jagged.{rows_in, Lies, Below};
@@ -62,24 +62,22 @@ impl<'a> Rows<'a> {
     }
 }
 
-// The first of the first n chains of which the row has all.
-fn find_spot(row: &[u32], lens: &[u32], n: usize) -> Option<usize>
-    requires { (n ≤ length row.now) × (n ≤ length lens.now) }
-    ensures { result ≡ position (λ p. eqb p.0 p.1) (zip (take n row.now) (take n lens.now)) }
+// The first chain of which the row has all.
+fn find_spot(row: &[u32], lens: &[u32]) -> Option<usize>
+    ensures { result ≡ position (λ p. eqb p.0 p.1) (zip row.now lens.now) }
 {
-    row[..n]
-        .iter()
-        .zip(&lens[..n])
+    row.iter()
+        .zip(lens)
         .position(|(reached, len)| *reached == *len)
 }
 
 // The chain that a run joins, by its row: that one, or else a new one.
-fn pick_chain(row: &[u32], lens: &[u32], n: usize) -> usize
-    requires { (n ≤ length row.now) × (n ≤ length lens.now) }
-    ensures spot { result ≡ spot_from row.now lens.now 0 n }
-    ensures upper_bound { result ≤ n }
+fn pick_chain(row: &[u32], lens: &[u32]) -> usize
+    requires { length row.now ≡ length lens.now }
+    ensures spot { result ≡ spot_from row.now lens.now 0 (length lens.now) }
+    ensures upper_bound { result ≤ length lens.now }
 {
-    find_spot(row, lens, n).unwrap_or(n)
+    find_spot(row, lens).unwrap_or(lens.len())
 }
 
 // How many chains there are, and how much of the row area is used.
@@ -145,8 +143,9 @@ fn lay_run(
     };
     row.fill(0);
     laid.join_all(row, parents);
-    let k = pick_chain(row, &tables.lens[..w], area.chains);
-    let width = area.chains.max(k + 1);
+    let n = area.chains;
+    let k = pick_chain(&row[..n], &tables.lens[..n]);
+    let width = n.max(k + 1);
     let used = area.used;
     if rows.len() < used + width {
         return None;

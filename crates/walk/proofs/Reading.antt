@@ -17,6 +17,7 @@ module _ (g : Given) (P : Prepared g) (run : ℕ) (lt : run < g.runs) where
   unfolding child_starts
   children_bounds = let few : run < length (parents_for g) = omega (arith, lt, size g P) in (P.children.climb run few, P.children.inside run few)
 
+  -- and its parents
   pub parents_lent : part (get_or g.areas.parents.starts run 0) (get_or g.areas.parents.starts (run + 1) 0) g.areas.parents.items ≡ at (parents_for g) run
   unfolding at parents_for
   parents_lent = sym (group_of g.areas.parents.starts g.areas.parents.items g.runs run P.sound.long lt)
