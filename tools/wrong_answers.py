@@ -113,6 +113,7 @@ VERSIONS = [
     ("archive::archive_points", "a child at the run itself counts as one below it", "archive.rt", "first.is_none_or(|child| run <= child)", "first.is_none_or(|child| run < child)"),
     ("archive::archive_points", "counts one head too many", "archive.rt", "let mut heads = 0;", "let mut heads = 1;"),
     ("archive::archive_points", "a run without parents has seen itself", "archive.rt", "return EventRunIndex(0);", "return run;"),
+    ("archive::archive_points", "count 0 where the list is too short", "words.rt", "count: n,\n            outcome: Err(Refusal::ListTooShort),", "count: 0,\n            outcome: Err(Refusal::ListTooShort),"),
     ("archive::archive_points", "the first is left out", "archive.rt", "for r in runs.as_slice() {", "for r in &runs.as_slice()[runs.len().min(1)..] {"),
     ("concurrent::concurrent_runs", "all runs, itself too", "concurrent.rt", "flags[run.0 as usize] = true;", "flags[run.0 as usize] = false;"),
     ("concurrent::concurrent_runs", "writes the runs that fit where the list is too short", "concurrent.rt", "put_all(concurrent_words(g, run), list)", "crate::words::put_fitting(concurrent_words(g, run), list)"),

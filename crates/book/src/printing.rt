@@ -139,7 +139,8 @@ pub(crate) fn last_line(outcome: Result<(), Refusal>, moved: u64) -> Line
     }
 }
 
-// How many bytes of a lent buffer are used, and whether a line did not fit: a flag and no `Err`, since `used` is told either way.
+// How many bytes of a lent buffer are used, and whether a line did not fit: a flag and no `Err`, since no
+// refusal of 01 stands for it, and `used` is told either way.
 #[derive(Clone, Copy)]
 pub struct Printed {
     pub used: usize,

@@ -63,7 +63,7 @@ calls_in ws = elim (start_size ws) [ zero ↦ [] | suc n ↦ calls_after (suc n)
 abbrev pub called_by : List ℕ → CausalGraph × Log
 called_by ws = made_by (fresh_in ws) (calls_in ws)
 
--- the graph after a list of calls: `afterCalls` without the log
+-- the graph after a list of calls: `after_calls` without the log
 unfoldable pub graph_after : CausalGraph → List Call → CausalGraph
 graph_after g [] = g
 graph_after g (c ∷ cs) = graph_after (answer g c).1 cs

@@ -6,7 +6,8 @@ ghost use Rattle.graph.specs.Loops.{lowest, marks_of, marked};
 use lists::Kept;
 use model::{CausalGraph, MAX_LEN, MAX_RUNS};
 
-// The least seen length from each run on.
+// The least seen length from each run on. That an array of fixed size has room for them is a clause, here and in `marks_of`: a slice's type
+// bounds no length.
 fn lows(seen: &[u32]) -> [u32; MAX_RUNS]
     requires { length seen.now ≤ max_runs }
     ensures { (k : ℕ) → k < length seen.now → get_or result k 0 ≡ lowest (drop k seen.now) }
@@ -20,7 +21,8 @@ fn lows(seen: &[u32]) -> [u32; MAX_RUNS]
     a
 }
 
-// The runs of which every run from it on has seen at least its start. The end stands after the starts.
+// The runs of which every run from it on has seen at least its start. The end stands after the starts. A filter
+// of its own, as `lists::keep_all` is: it goes over two lists at once.
 pub fn marks_of<'a>(starts: &'a [u32], seen: &'a [u32]) -> Kept
     requires starts_cover { length seen.now < length starts.now }
     requires few { length seen.now ≤ max_runs }

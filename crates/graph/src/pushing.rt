@@ -151,7 +151,8 @@ pub fn push_held(
     push_known(g, parents, len, counts)
 }
 
-// Appends a chain of `len` events whose first has `parents`, and answers the first of them and the end.
+// Appends a chain of `len` events whose first has `parents`, and answers the first of them and the end. Alike `start_run_at` but for the call:
+// one function for both would take it as a closure, and its contract would say the call's equation again.
 pub fn push(g: CausalGraph, parents: &[u32], len: u32) -> Changed<(EventIndex, EventIndex)>
     ensures { result ≡ push_of g parents.now len }
 {

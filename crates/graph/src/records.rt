@@ -5,6 +5,7 @@ ghost use Rattle.graph.specs.Records.{state, after, same_list, blank, put};
 use model::{Refusal, Written};
 
 // A lent list, and how many records were written into it.
+// Each contract says `same_list`, of a call's begin and end: no invariant can hold it.
 #[derive(Drop)]
 pub struct Records<'a> {
     list: &'a mut [u32],

@@ -17,7 +17,7 @@ pub fn zeros<const N: usize>() -> [u32; N]
     [0; N]
 }
 
-// Whether the numbers are strictly rising. The scans here have no way out inside, so that they run many places at a time.
+// Whether the numbers are strictly rising. This scan and the next three have no way out inside, so that they run many places at a time.
 pub fn is_rising(s: &[u32]) -> bool
     ensures { result ≡ rising s.now }
 {
@@ -45,7 +45,6 @@ pub fn all_below(s: &[u32], limit: u32) -> bool
     ensures { result ≡ below limit s.now }
 {
     let mut is_below = true;
-    // A `fold` is slower.
     for x in s {
         is_below &= *x < limit;
     }

@@ -15,7 +15,7 @@ run_graph parents = record { is_event = λ r. ltb r (length parents); parents = 
 unfoldable pub reached : List (List ℕ) → List ℕ → ℕ → Bool
 reached hs ps m = any (λ p. eqb m p || mem m (at hs p)) ps
 
--- The history of each run, rising, given those of the runs before: its ancestors in `runGraph`, as `history` of `Meaning` says
+-- The history of each run, rising, given those of the runs before: its ancestors in `run_graph`, as `history` of `Meaning` says
 unfoldable pub histories_from : List (List ℕ) → List (List ℕ) → List (List ℕ)
 histories_from hs [] = hs
 histories_from hs (ps ∷ pss) = histories_from (hs ++ filter (reached hs ps) (upto (length hs)) ∷ []) pss

@@ -94,7 +94,7 @@ fn weigh_run(covers: &mut [CoverWord], low: usize, high: usize, r: usize, childr
     count_bits(&z)
 }
 
-// The weights of n runs, the last first.
+// The weights of n runs, the last first: of each area, which has room for any range, the first n places.
 pub fn weights_of(
     weights: &mut [u32],
     covers: &mut [CoverWord],

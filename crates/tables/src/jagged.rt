@@ -8,6 +8,7 @@ use crate::words::item;
 use std::marker::Model;
 
 // Where each of `rows` rows starts, where the last ends, and the items.
+// That each row is below its number, and how many items there are, is asked where it is needed: rows of parents are so, rows of other numbers not.
 #[derive(Drop)]
 pub struct Jagged<'a> {
     starts: &'a [u32],

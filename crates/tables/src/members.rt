@@ -10,6 +10,7 @@ use crate::words::{item, sum_up};
 use model::MAX_STARTS;
 
 // Of a range's chains, one after another: where each one's members begin, the members, and the events of the members before each.
+// Arrays of fixed size, since no heap is used: of n runs the first n places are meant, so n goes beside them.
 #[derive(Drop)]
 pub struct Members {
     pub starts: [u32; MAX_STARTS],

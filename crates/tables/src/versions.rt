@@ -1,4 +1,5 @@
-// Versions as how far along each chain they reach.
+// Versions as how far along each chain they reach: an array with room for any number of chains, of which the first are meant, so that their
+// number goes beside it (no heap is used).
 ghost use Rattle.std.specs.Prelude.{◌+◌, ◌≤◌, ◌<◌, length, get_or};
 ghost use Rattle.model.specs.Limits.{max_runs};
 ghost use Rattle.tables.specs.Reached.{started, arrived, Holds, Standing};

@@ -107,7 +107,7 @@ pub fn reader(list: &[u32], out: &mut Out) -> io::Result<()> {
     Ok(())
 }
 
-// A step's kind by its number, its first run, and the end of its runs.
+// A step's kind by its number, its first run, and the end of its runs. No `From`: both types are of other crates.
 fn step_words(step: WalkStep) -> [u64; 3] {
     let (kind, first, end) = match step {
         WalkStep::Retreat(a, b) => (0, a.0, u64::from(b.0)),

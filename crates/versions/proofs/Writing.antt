@@ -1,5 +1,6 @@
 -- Words that a call found, written into a lent list: what the code leaves is what the definitions say. Assumes nothing.
 use Rattle.std.proofs.Common.{◌≡◌, refl, ap, Bool, true, false, cond, List, [], ◌∷◌, ◌++◌, map, ℕ, ◌/◌, ◌≤◌, ◌<◌, min, arith, length, take, drop, length-take, take_all, ltb, lt-ltb, le-ltb, Ok, Err}
+use Rattle.std.proofs.Common.{◌+◌, get_or, add-one, drop-cons}
 use Rattle.std.proofs.lemmas.List.{take-map, length-map}
 use Rattle.lists.specs.Lists.{concat}
 use Rattle.lists.specs.Areas.{over}
@@ -7,6 +8,7 @@ use Rattle.model.specs.declared.answers.Written.{Written}
 use Rattle.model.specs.declared.answers.Refusal.TheVariants.{ListTooShort}
 use Rattle.model.specs.Refusals.{first_of, Outcome}
 use Rattle.model.specs.Cut.{writing, unwritten}
+use Rattle.graph.specs.Records.{put, put_all}
 use Rattle.versions.specs.Words.{counted, all_put, some_put}
 
 one_each : (xs : List ℕ) → concat (map (λ (x : ℕ). x ∷ []) xs) ≡ xs
@@ -62,6 +64,12 @@ module _ (ws lent : List ℕ) where
   records_put =
       let room : length lent / 1 ≡ length lent = omega arith in
       rw (room, take-map (λ (e : ℕ). e ∷ []) (length lent) ws, length-map ws (λ (e : ℕ). e ∷ []), length-map (take (length lent) ws) (λ (e : ℕ). e ∷ []), one_each (take (length lent) ws)) refl
+
+-- Records of some numbers written one by one: after the one at i those from the next on are left
+pub record_next : (f : ℕ → List ℕ) (items : List ℕ) (i : ℕ) (w : Written × List ℕ) → i < length items →
+    put_all 1 (put 1 w (f (get_or items i 0))) (map f (drop (i + 1) items)) ≡ put_all 1 w (map f (drop i items))
+unfolding put_all
+record_next f items i w h = rw (drop-cons items i 0 h, add-one) refl
 
 -- What the code that writes as many words as fit goes by
 pub ruleset fitting = (some_left, none_left)

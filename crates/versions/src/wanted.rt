@@ -80,7 +80,8 @@ fn top_event(flag: bool, end: Option<EventIndex>) -> Option<EventIndex>
     end.map(|e| EventIndex(e.0.saturating_sub(1)))
 }
 
-// The last marked events of the runs of which something is marked and that are not flagged.
+// The last marked events of the runs of which something is marked and that are not flagged. A filter of its own, as `lists::keep_all` is: it
+// changes what it keeps.
 // Their number is bounded by a clause: no heap is used, and that a `Kept` of fixed memory has room for all is no part of a slice's type.
 #[tactic(auto, using(crate::proofs::RangeTurns::topping), unfolding(crate::specs::Ranges::is_top))]
 fn top_events(flags: &[bool], ends: &[Option<EventIndex>]) -> Kept

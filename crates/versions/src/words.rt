@@ -2,6 +2,7 @@
 ghost use Rattle.std.specs.Prelude.{◌≡◌};
 ghost use Rattle.versions.specs.Words.{counted, all_put, some_put, fitting_put};
 
+use graph::records::unwritten;
 use lists::Kept;
 use model::{Refusal, Written};
 
@@ -28,10 +29,7 @@ pub(crate) fn put_all(found: Result<Kept, Refusal>, list: &mut [u32]) -> Written
             count,
             outcome: Ok(()),
         },
-        Err(r) => Written {
-            count: 0,
-            outcome: Err(r),
-        },
+        Err(r) => unwritten(r),
     }
 }
 
@@ -61,9 +59,6 @@ pub(crate) fn put_fitting(found: Result<Kept, Refusal>, list: &mut [u32]) -> Wri
 {
     match found {
         Ok(words) => put_some(words.as_slice(), list),
-        Err(r) => Written {
-            count: 0,
-            outcome: Err(r),
-        },
+        Err(r) => unwritten(r),
     }
 }

@@ -10,12 +10,13 @@ use tables::members::Members;
 use tables::rows::ChainTables;
 use tables::{covers, distance, tabling};
 
-// Nothing is asked of what lies in them when a range is begun.
+// Nothing is asked of what lies in them when a range is begun. Arrays of fixed size, since no heap is used: a range has the first places of each,
+// so that its number of runs goes beside them. Methods say which areas they leave, since callers hold facts of those.
 #[derive(Drop)]
 pub(crate) struct Areas {
     // Each run's parents.
     pub(crate) parents: Groups,
-    // Where each run's row starts, its chain, and its place along it.
+    // Where each run's row starts, its chain, its place along it, and each chain's length.
     pub(crate) chains: ChainTables,
     // The chains' members, and the events before each.
     pub(crate) members: Members,

@@ -11,7 +11,8 @@ use std::marker::Model;
 use tables::distance::Sums;
 
 // Where the graph's runs start, the range's rows and tables, its first run, how many runs and chains it has, how many runs are
-// known and how many come first. The tables are those of the range.
+// known and how many come first. The tables are those of the range. What reads of a run asks that it is one of the range: steps and lists
+// have bare numbers for runs, so no type says it.
 #[derive(Drop)]
 pub(crate) struct Given<'a> {
     pub(crate) starts: &'a [u32],
@@ -50,7 +51,7 @@ impl<'a> Model for Given<'a> {
     }) };
 }
 
-// The part of a list between two places.
+// The part of a list between two places. Beside `Jagged::row`, which reads a start past the last as 0: here both are there.
 #[tactic(auto, unfolding(lists::specs::Areas::part))]
 fn part(list: &[u32], from: u32, to: u32) -> &[u32]
     requires { (from ≤ to) × (to ≤ length list.now) }

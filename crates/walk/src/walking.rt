@@ -96,7 +96,7 @@ fn walk_held(g: &HeldGraph, bounds: Bounds, rows: &mut [u32], steps: &mut [u32])
     written.walked(outcome)
 }
 
-// The walk over the runs from `first_run` up to `end_run`: rows into `rows`, steps into `steps`.
+// The walk over the runs from `first_run` up to `end_run`: rows into `rows`, steps into `steps`. `known` and `first` stand alone, as in 01's call.
 pub fn walk(
     g: CausalGraph,
     first_run: EventRunIndex,

@@ -1,4 +1,4 @@
--- `calls::start_again` meets its contract: 02's law of what its four calls left. Assumes nothing.
+-- `calls::start_again` meets its contract: 02's law of what its four calls left. Cited here: a search that was given the law did not find it. Assumes nothing.
 use Rattle.calls.proofs.Again.{starts-again}
 use Rattle.calls.proofs.start_again.Goals as goal
 

@@ -6,4 +6,4 @@ use Rattle.versions.proofs.words.put_fitting.Goals as goal
 
 pub returns-in-Err : goal.returns-in-Err
 unfolding fitting_put unwritten
-returns-in-Err c = rw c.in-Err.is refl
+returns-in-Err c = rw (c.in-Err.is, c.unwritten.ensures) refl
