@@ -29,15 +29,12 @@ pub fn is_rising(s: &[u32]) -> bool
     rises
 }
 
-// Whether every number is 0. A scan beside `all_below`: by `all_below(s, 1)` a call that tests its graph takes 2 µs longer.
+// Whether every number is 0.
+#[tactic(auto, using(crate::proofs::Scanning::below_one))]
 pub fn is_zero(s: &[u32]) -> bool
     ensures { result ≡ zeros s.now }
 {
-    let mut is_zero = true;
-    for x in s {
-        is_zero &= *x == 0;
-    }
-    is_zero
+    all_below(s, 1)
 }
 
 // Whether the numbers are below `limit`.
