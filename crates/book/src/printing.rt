@@ -147,7 +147,7 @@ pub struct Printed {
     pub short: bool,
 }
 
-// Lines put one after the other into a lent buffer.
+// Lines put one after the other into a lent buffer. Each contract says `same_buffer`, of a call's begin and end: no invariant can hold it.
 #[derive(Drop)]
 pub(crate) struct Lines<'a> {
     out: &'a mut [u8],

@@ -58,7 +58,7 @@ pub(crate) fn next_start<'a>(words: &'a [u32]) -> Option<(Start<'a>, &'a [u32])>
 }
 
 impl Operation {
-    // What a call's first word says, and whether lent.
+    // What a call's first word says, and whether lent. No `TryFrom`: it answers two values, in a pair that is no type of this crate.
     fn said(word: u32) -> Option<(Form, Operation)>
         ensures { MatchOption result ((ws : List ℕ) → call_size (word ∷ ws) ≡ 0) (λ t. word ≡ operation_word (is_lent t.0) t.1) }
     {

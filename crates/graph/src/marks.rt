@@ -6,8 +6,8 @@ ghost use Rattle.graph.specs.Loops.{lowest, marks_of, marked};
 use lists::Kept;
 use model::{CausalGraph, MAX_LEN, MAX_RUNS};
 
-// The least seen length from each run on. That an array of fixed size has room for them is a clause, here and in `marks_of`: a slice's type
-// bounds no length.
+// The least seen length from each run on. That an array of fixed size has room for them is a clause, here and in `marks_of`: no heap is
+// used, and a type of short slices would ask it where each is made.
 fn lows(seen: &[u32]) -> [u32; MAX_RUNS]
     requires { length seen.now ≤ max_runs }
     ensures { (k : ℕ) → k < length seen.now → get_or result k 0 ≡ lowest (drop k seen.now) }

@@ -2,7 +2,7 @@
 
 // The second form of the calls that change a graph: over a graph that the caller lends. Each answers what the call by value answers, and
 // leaves the graph that it gives back; a refused call leaves the graph as it was. Three functions, alike but for the call: each call of 01
-// has parameters, an answer and an equation of its own.
+// has parameters, an answer and an equation of its own, which a trait would say again.
 ghost use Rattle.std.specs.Prelude.{◌≡◌};
 ghost use Rattle.model.specs.Push.{push_of};
 ghost use Rattle.model.specs.Start.{start_run_at_of, take_changed_from_of};

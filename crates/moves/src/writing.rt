@@ -14,7 +14,7 @@ pub enum Kind {
 }
 
 // A lent list, how many steps were written into it, and the events that they move. 128 bits hold the sum of any list's steps, so no function
-// that writes asks for a bound; that a call's sum fits 64 is shown once, where it is answered. A writer beside `graph`'s `Records`: each step
+// that writes asks for a bound; that a call's sum fits 64 is asked once, where it is answered. A writer beside `graph`'s `Records`: each step
 // counts in `moved`, and this crate does not know `graph`. Each contract says `same_list`, of a call's begin and end: no invariant can hold it.
 #[derive(Drop)]
 pub struct Steps<'a> {

@@ -9,7 +9,7 @@ ghost use Rattle.reader.specs.RoundTrip.{RoundTrip};
 
 use model::{EventRunIndex, Refusal, WalkStep};
 
-// A step by its kind, first run and end run, as document 01 writes it; none where the kind is above 3.
+// A step by its kind, first run and end run, as document 01 writes it; none where the kind is above 3. No `TryFrom`: a step is of another crate.
 #[tactic(auto, unfolding(model::specs::Reader::decoded))]
 pub fn step_of(kind: u32, a: EventRunIndex, b: EventRunIndex) -> Option<WalkStep>
     ensures { MatchOption result (decoded kind a.0 b.0 ≡ none) (λ s. decoded kind a.0 b.0 ≡ some (step_read s)) }

@@ -38,7 +38,7 @@ pub struct Script<'a> {
 
 impl<'a> Script<'a> {
     // The script that the words are.
-    pub fn new(words: &'a [u32; WORDS]) -> Script<'a> {
+    pub(crate) fn new(words: &'a [u32; WORDS]) -> Script<'a> {
         Script {
             times: words[0],
             task: Task::from(words[1]),
@@ -49,7 +49,7 @@ impl<'a> Script<'a> {
 }
 
 // A word, then a count of words and these, and what follows; none if not all of them are there.
-pub fn counted(words: &[u32]) -> Option<(u32, &[u32], &[u32])> {
+pub(crate) fn counted(words: &[u32]) -> Option<(u32, &[u32], &[u32])> {
     let [first, count, rest @ ..] = words else {
         return None;
     };

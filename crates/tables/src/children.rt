@@ -21,7 +21,8 @@ fn count_parents(starts: &mut [u32], ps: &[u32])
     }
 }
 
-// How many children each run has, one place on.
+// How many children each run has, one place on. That a list has a place more than the runs are is a clause, here and in four functions more: a
+// type of two lists, one longer than the other, would ask it where each is made.
 fn count_all(starts: &mut [u32], parents: &Jagged)
     requires sized { length starts.old ≡ length parents.now + 1 }
     requires below { Below parents.now }

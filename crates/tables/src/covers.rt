@@ -76,7 +76,8 @@ fn offset_of(starts: &[u32], r: usize) -> usize
     item(starts, r, 0).saturating_sub(item(starts, 0, 0)) as usize
 }
 
-// Run r's cover, of the bits from `low` up to `high` and its children's, and its weight.
+// Run r's cover, of the bits from `low` up to `high` and its children's, and its weight. That a number is one of few runs is a clause, here and
+// in three functions more: lists and steps have bare numbers.
 fn weigh_run(covers: &mut [CoverWord], low: usize, high: usize, r: usize, children: &[u32]) -> u32
     requires rising { low ≤ high }
     requires within { high ≤ cover_bits }
@@ -94,7 +95,8 @@ fn weigh_run(covers: &mut [CoverWord], low: usize, high: usize, r: usize, childr
     count_bits(&z)
 }
 
-// The weights of n runs, the last first: of each area, which has room for any range, the first n places.
+// The weights of n runs, the last first: of each area, which has room for any range since no heap is used, the
+// first n places.
 pub fn weights_of(
     weights: &mut [u32],
     covers: &mut [CoverWord],

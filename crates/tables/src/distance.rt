@@ -13,8 +13,8 @@ pub struct Sums<'a> {
     pub before: &'a [u64],
     pub begins: &'a [u32],
     pub chains: usize,
-    ghost few: { chains ≤ max_runs },
-    ghost small: { Bounded (2 ^ 41) before.now },
+    pub ghost few: { chains ≤ max_runs },
+    pub ghost small: { Bounded (2 ^ 41) before.now },
 }
 
 impl<'a> Sums<'a> {

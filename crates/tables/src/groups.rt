@@ -9,7 +9,7 @@ ghost use Rattle.tables.specs.Laid.{grouped, shares_of, Sound};
 use crate::jagged::Jagged;
 use model::{MAX_ENTRIES, MAX_STARTS};
 
-// Where each run's items begin and the last run's end, and the items.
+// Where each run's items begin and the last run's end, and the items. Arrays of fixed size, since no heap is used.
 #[derive(Drop)]
 pub struct Groups {
     pub starts: [u32; MAX_STARTS],

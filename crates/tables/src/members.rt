@@ -36,7 +36,7 @@ fn position<'a>(begins: &'a [u32], chain: &'a [u32], place: &'a [u32], m: usize)
     item(begins, k, 0) as usize + item(place, m, 0) as usize
 }
 
-// Each chain's members, in order.
+// Each chain's members, in order. All lists are as long as the runs' number and one, which goes beside them as it does beside the areas.
 fn members_of<'a>(
     members: &mut [u32],
     begins: &'a [u32],
@@ -62,7 +62,8 @@ pub fn size_of(starts: &[u32], m: usize) -> u32
     item(starts, m + 1, 0).saturating_sub(item(starts, m, 0))
 }
 
-// The events of the members before each. Beside `sum_up`: these sums are wider, and of sizes that stand in no list.
+// The events of the members before each. Beside `sum_up`: these sums are wider, and of sizes that stand in no
+// list. That the members are few is a clause, which the sums' bound needs: a type of short slices would ask it where each is made.
 fn sums_of(before: &mut [u64], members: &[u32], starts: &[u32])
     requires { (length members.now ≤ max_runs) × (length members.now < length before.old) }
     ensures { Summed (λ i. size_in starts.now (get_or members.now i 0)) (length members.now) before.new × BoundedTo (length members.now) (2 ^ 41) before.new }
@@ -105,7 +106,7 @@ impl Members {
         sums_of(&mut self.before, members, starts);
     }
 
-    // The sums of n runs on so many chains. Their bound is asked, and stands in no type: behind a range's words lie those of ranges before it.
+    // The sums of n runs on so many chains. Their bounds are asked here alone, where a range's sums are taken: `index` says them of the first n + 1.
     pub fn sums(&self, n: usize, chains: usize) -> Sums<'_>
         requires few { (n ≤ max_runs) × (chains ≤ max_runs) }
         requires small { Bounded (2 ^ 41) (take (n + 1) self.now.before) }

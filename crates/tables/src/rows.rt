@@ -11,7 +11,8 @@ use crate::words::item;
 use model::MAX_STARTS;
 
 // Where each run's row starts and the last ends, each run's chain, its place along it, and each chain's length.
-// An array for each, not one of structs: the chains' lengths are compared with a row as a list.
+// An array for each, not one of structs: the chains' lengths are compared with a row as a list, and clauses say of chains and of places as lists
+// what pairs would be taken apart for.
 #[derive(Drop)]
 pub struct ChainTables {
     pub row_starts: [u32; MAX_STARTS],

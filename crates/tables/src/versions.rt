@@ -1,5 +1,5 @@
-// Versions as how far along each chain they reach: an array with room for any number of chains, of which the first are meant, so that their
-// number goes beside it (no heap is used).
+// Versions as how far along each chain they reach: an array with room for any number of chains, of which the first are meant. Their number goes
+// beside it: of a slice of them a caller would have to say again of its array what was said of the slice.
 ghost use Rattle.std.specs.Prelude.{◌+◌, ◌≤◌, ◌<◌, length, get_or};
 ghost use Rattle.model.specs.Limits.{max_runs};
 ghost use Rattle.tables.specs.Reached.{started, arrived, Holds, Standing};

@@ -4,7 +4,10 @@ use model::{Containing, Refusal};
 use std::io;
 
 // An answer with its values.
-pub fn put<const N: usize>(answer: Result<[u32; N], Refusal>, out: &mut Out) -> io::Result<()> {
+pub(crate) fn put<const N: usize>(
+    answer: Result<[u32; N], Refusal>,
+    out: &mut Out,
+) -> io::Result<()> {
     let (refusal, values) = match answer {
         Ok(values) => (0, values),
         Err(r) => (u32::from(r), [0; N]),
@@ -13,8 +16,8 @@ pub fn put<const N: usize>(answer: Result<[u32; N], Refusal>, out: &mut Out) -> 
     out.words(&values)
 }
 
-// Where an event lies: 0 a run, which follows; 1 before the graph; 2 not yet known.
-pub fn side(answer: Containing) -> [u32; 2] {
+// Where an event lies: 0 a run, which follows; 1 before the graph; 2 not yet known. No `From`: both types are of other crates.
+pub(crate) fn side(answer: Containing) -> [u32; 2] {
     match answer {
         Containing::Run(r) => [0, r.0],
         Containing::Before => [1, 0],

@@ -7,13 +7,13 @@ use std::io;
 use std::io::Write;
 
 // A new graph.
-pub fn new(g: &mut CausalGraph, out: &mut Out) -> io::Result<()> {
+pub(crate) fn new(g: &mut CausalGraph, out: &mut Out) -> io::Result<()> {
     *g = graph::fresh::new();
     out.write_all(b"new")
 }
 
 // A graph after so many events, with a frontier.
-pub fn after(
+pub(crate) fn after(
     g: &mut CausalGraph,
     events: EventIndex,
     frontier: &[u32],
@@ -35,7 +35,12 @@ fn form(number: u32) -> Form {
 }
 
 // A push, in either form.
-pub fn push(g: &mut CausalGraph, len: u32, parents: &[u32], out: &mut Out) -> io::Result<()> {
+pub(crate) fn push(
+    g: &mut CausalGraph,
+    len: u32,
+    parents: &[u32],
+    out: &mut Out,
+) -> io::Result<()> {
     let pushed = form(len).push(*g, parents, len);
     *g = pushed.graph;
     out.write_all(b"push")?;
@@ -43,7 +48,7 @@ pub fn push(g: &mut CausalGraph, len: u32, parents: &[u32], out: &mut Out) -> io
 }
 
 // A run start, in either form.
-pub fn start(g: &mut CausalGraph, at: EventIndex, out: &mut Out) -> io::Result<()> {
+pub(crate) fn start(g: &mut CausalGraph, at: EventIndex, out: &mut Out) -> io::Result<()> {
     let started = form(at.0).start_run_at(*g, at);
     *g = started.graph;
     out.write_all(b"start")?;
@@ -51,7 +56,7 @@ pub fn start(g: &mut CausalGraph, at: EventIndex, out: &mut Out) -> io::Result<(
 }
 
 // A take of the first changed run, lent.
-pub fn take(g: &mut CausalGraph, out: &mut Out) -> io::Result<()> {
+pub(crate) fn take(g: &mut CausalGraph, out: &mut Out) -> io::Result<()> {
     let taken = Form::Lent.take_changed_from(*g);
     *g = taken.graph;
     out.write_all(b"take")?;
@@ -59,7 +64,7 @@ pub fn take(g: &mut CausalGraph, out: &mut Out) -> io::Result<()> {
 }
 
 // Takes a record of the script as it is.
-pub fn raw(g: &mut CausalGraph, record: &CausalGraph, out: &mut Out) -> io::Result<()> {
+pub(crate) fn raw(g: &mut CausalGraph, record: &CausalGraph, out: &mut Out) -> io::Result<()> {
     *g = *record;
     out.write_all(b"raw")
 }

@@ -19,7 +19,7 @@ pub struct Source {
 
 impl Source {
     // Nothing is read yet.
-    pub fn new(stdin: Stdin) -> Source {
+    pub(crate) fn new(stdin: Stdin) -> Source {
         Source {
             stdin,
             bytes: [0; BUFFER],
@@ -41,7 +41,7 @@ impl Source {
     }
 
     // The next word; `Bad` if the input has no whole word left.
-    pub fn word(&mut self) -> Result<u32, Stop> {
+    pub(crate) fn word(&mut self) -> Result<u32, Stop> {
         self.fill()?;
         let left = &self.bytes[self.at..self.end];
         match left.first_chunk() {
@@ -55,7 +55,7 @@ impl Source {
     }
 
     // The first word of a call; `Ended` if the input has not a byte more.
-    pub fn first_word(&mut self) -> Result<u32, Stop> {
+    pub(crate) fn first_word(&mut self) -> Result<u32, Stop> {
         self.fill()?;
         if self.at == self.end {
             return Err(Stop::Ended);
@@ -64,7 +64,7 @@ impl Source {
     }
 
     // Fills a list with the next words.
-    pub fn read(&mut self, list: &mut [u32]) -> Result<(), Stop> {
+    pub(crate) fn read(&mut self, list: &mut [u32]) -> Result<(), Stop> {
         for word in list.iter_mut() {
             *word = self.word()?;
         }
@@ -72,14 +72,14 @@ impl Source {
     }
 
     // The next words, so many as the caller's array has.
-    pub fn words<const N: usize>(&mut self) -> Result<[u32; N], Stop> {
+    pub(crate) fn words<const N: usize>(&mut self) -> Result<[u32; N], Stop> {
         let mut all = [0; N];
         self.read(&mut all)?;
         Ok(all)
     }
 
     // A word that counts words, and these, at the start of a list; `Bad` if they are more than the list has.
-    pub fn counted<'a>(&mut self, list: &'a mut [u32]) -> Result<&'a [u32], Stop> {
+    pub(crate) fn counted<'a>(&mut self, list: &'a mut [u32]) -> Result<&'a [u32], Stop> {
         let n = self.word()? as usize;
         match list.get_mut(..n) {
             Some(part) => {

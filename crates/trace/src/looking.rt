@@ -6,7 +6,7 @@ use std::io;
 use std::io::Write;
 
 // A run's start, events and parents.
-pub fn run(g: &CausalGraph, run: EventRunIndex, out: &mut Out) -> io::Result<()> {
+pub(crate) fn run(g: &CausalGraph, run: EventRunIndex, out: &mut Out) -> io::Result<()> {
     out.write_all(b"run")?;
     let start = graph::lookups::start(*g, run);
     answers::put(start.map(|e| [e.0]), out)?;
@@ -24,21 +24,21 @@ pub fn run(g: &CausalGraph, run: EventRunIndex, out: &mut Out) -> io::Result<()>
 }
 
 // The run that holds an event.
-pub fn event(g: &CausalGraph, event: EventIndex, out: &mut Out) -> io::Result<()> {
+pub(crate) fn event(g: &CausalGraph, event: EventIndex, out: &mut Out) -> io::Result<()> {
     out.write_all(b"event")?;
     let side = graph::lookups::containing(*g, event);
     answers::put(side.map(answers::side), out)
 }
 
 // Whether a push on these parents extends the last run.
-pub fn extends(g: &CausalGraph, parents: &[u32], out: &mut Out) -> io::Result<()> {
+pub(crate) fn extends(g: &CausalGraph, parents: &[u32], out: &mut Out) -> io::Result<()> {
     out.write_all(b"extends")?;
     let does = graph::lookups::extends_last_event(*g, parents);
     answers::put(does.map(|b| [u32::from(b)]), out)
 }
 
 // The whole graph, if it is not broken: its length, the first event held, whether there are no runs, and its lists.
-pub fn graph(g: &CausalGraph, out: &mut Out) -> io::Result<()> {
+pub(crate) fn graph(g: &CausalGraph, out: &mut Out) -> io::Result<()> {
     out.write_all(b"graph")?;
     match graph::lookups::len(*g) {
         Ok(len) => {
@@ -89,7 +89,7 @@ fn parents(starts: &[u32], entries: &[u32], out: &mut Out) -> io::Result<()> {
 }
 
 // The step reader over a list of the script: each step that it hands out, and then the end or the refusal.
-pub fn reader(list: &[u32], out: &mut Out) -> io::Result<()> {
+pub(crate) fn reader(list: &[u32], out: &mut Out) -> io::Result<()> {
     out.write_all(b"reader")?;
     let mut at = 0;
     for _ in 0..list.len() / 3 + 1 {

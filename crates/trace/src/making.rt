@@ -8,7 +8,12 @@ use std::io;
 use std::io::Write;
 
 // Makes a call, and puts its line.
-pub fn make(g: &mut CausalGraph, call: Call, lists: &mut Lists, out: &mut Out) -> io::Result<()> {
+pub(crate) fn make(
+    g: &mut CausalGraph,
+    call: Call,
+    lists: &mut Lists,
+    out: &mut Out,
+) -> io::Result<()> {
     put(g, call, lists, out)?;
     out.write_all(b"\n")
 }

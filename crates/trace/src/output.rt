@@ -40,7 +40,7 @@ impl Write for Out {
 
 impl Out {
     // Nothing is written yet.
-    pub fn new(stdout: Stdout) -> Out {
+    pub(crate) fn new(stdout: Stdout) -> Out {
         Out {
             stdout,
             bytes: [0; BUFFER],
@@ -58,12 +58,12 @@ impl Out {
     }
 
     // A space and a number in decimal.
-    pub fn number(&mut self, n: u64) -> io::Result<()> {
+    pub(crate) fn number(&mut self, n: u64) -> io::Result<()> {
         write!(self, " {n}")
     }
 
     // A list's words, a space before each.
-    pub fn words(&mut self, list: &[u32]) -> io::Result<()> {
+    pub(crate) fn words(&mut self, list: &[u32]) -> io::Result<()> {
         for word in list {
             self.number(u64::from(*word))?;
         }
@@ -71,7 +71,7 @@ impl Out {
     }
 
     // A colon and a list's words.
-    pub fn list(&mut self, list: &[u32]) -> io::Result<()> {
+    pub(crate) fn list(&mut self, list: &[u32]) -> io::Result<()> {
         self.write_all(b" :")?;
         self.words(list)
     }

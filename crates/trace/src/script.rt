@@ -63,7 +63,7 @@ pub enum Call<'a> {
 }
 
 // Reads the next call. Rooms are tested once all its words are read.
-pub fn read<'a>(source: &mut Source, words: &'a mut Words) -> Result<Call<'a>, Stop> {
+pub(crate) fn read<'a>(source: &mut Source, words: &'a mut Words) -> Result<Call<'a>, Stop> {
     match source.first_word()? {
         0 => Ok(Call::New),
         1 => {

@@ -42,7 +42,7 @@ impl<const MOST: usize> TryFrom<u32> for Room<MOST> {
 
 impl<const MOST: usize> Room<MOST> {
     // The part of the list that the call is lent.
-    pub fn of(self, list: &mut [u32; MOST]) -> &mut [u32] {
+    pub(crate) fn of(self, list: &mut [u32; MOST]) -> &mut [u32] {
         &mut list[..self.words]
     }
 }
@@ -84,7 +84,7 @@ fn walked(
 }
 
 // The cut from a run on.
-pub fn cut(
+pub(crate) fn cut(
     g: &CausalGraph,
     from: EventRunIndex,
     words: &mut [u32],
@@ -95,13 +95,13 @@ pub fn cut(
 }
 
 // The archive points.
-pub fn archive(g: &CausalGraph, words: &mut [u32], out: &mut Out) -> io::Result<()> {
+pub(crate) fn archive(g: &CausalGraph, words: &mut [u32], out: &mut Out) -> io::Result<()> {
     let w = versions::archive::archive_points(*g, words);
     written("archive", w, words, out)
 }
 
 // The concurrency list of a run.
-pub fn concurrent(
+pub(crate) fn concurrent(
     g: &CausalGraph,
     run: EventRunIndex,
     words: &mut [u32],
@@ -112,13 +112,18 @@ pub fn concurrent(
 }
 
 // The parents that give just the events of the ranges.
-pub fn wanted(g: &CausalGraph, ranges: &[u32], words: &mut [u32], out: &mut Out) -> io::Result<()> {
+pub(crate) fn wanted(
+    g: &CausalGraph,
+    ranges: &[u32],
+    words: &mut [u32],
+    out: &mut Out,
+) -> io::Result<()> {
     let w = versions::wanted::wanted_parents(*g, ranges, words);
     written("wanted", w, words, out)
 }
 
 // A walk over a range of runs.
-pub fn walk(
+pub(crate) fn walk(
     g: &CausalGraph,
     first_run: EventRunIndex,
     end_run: EventRunIndex,
@@ -133,7 +138,7 @@ pub fn walk(
 }
 
 // The full replay.
-pub fn replay(
+pub(crate) fn replay(
     g: &CausalGraph,
     rows: &mut [u32],
     steps: &mut [u32],

@@ -16,7 +16,7 @@ use graph::held::HeldGraph;
 use lists::Kept;
 use model::{CausalGraph, EventRunIndex, MAX_RUNS, Refusal, Written};
 
-// Flags some runs. That they lie inside the list is asked here and by four functions more: parents are plain numbers, below another bound in
+// Flags some runs. That they lie inside the list is asked here and by five functions more: parents are plain numbers, below another bound in
 // each, and a type of numbers below a bound would say each bound again.
 #[tactic(auto, using(crate::proofs::Passes::flagging))]
 pub(crate) fn flag_all(flags: &mut [bool], runs: &[u32])

@@ -11,7 +11,7 @@ use tables::rows::ChainTables;
 use tables::{covers, distance, tabling};
 
 // Nothing is asked of what lies in them when a range is begun. Arrays of fixed size, since no heap is used: a range has the first places of each,
-// so that its number of runs goes beside them. Methods say which areas they leave, since callers hold facts of those.
+// so that its numbers of runs and of chains go beside them. Methods say which areas they leave, since callers hold facts of those.
 #[derive(Drop)]
 pub(crate) struct Areas {
     // Each run's parents.

@@ -12,7 +12,7 @@ use tables::distance::Sums;
 
 // Where the graph's runs start, the range's rows and tables, its first run, how many runs and chains it has, how many runs are
 // known and how many come first. The tables are those of the range. What reads of a run asks that it is one of the range: steps and lists
-// have bare numbers for runs, so no type says it.
+// have bare numbers for runs, and a type of the range's runs would ask it wherever one is made.
 #[derive(Drop)]
 pub(crate) struct Given<'a> {
     pub(crate) starts: &'a [u32],
@@ -51,7 +51,8 @@ impl<'a> Model for Given<'a> {
     }) };
 }
 
-// The part of a list between two places. Beside `Jagged::row`, which reads a start past the last as 0: here both are there.
+// The part of a list between two places. Beside `Jagged::row`: a `Jagged` would be made anew at each read, and its reads
+// test two starts that are there.
 #[tactic(auto, unfolding(lists::specs::Areas::part))]
 fn part(list: &[u32], from: u32, to: u32) -> &[u32]
     requires { (from ≤ to) × (to ≤ length list.now) }
