@@ -4,7 +4,7 @@ use Rattle.std.proofs.Common.{get_or-set_other, get_or-take, length-take-le}
 use Rattle.lists.specs.Lists.{sum, from}
 use Rattle.lists.proofs.Truth.{eq_or-not}
 use Rattle.model.specs.History.{at}
-use Rattle.tables.specs.Indexed.{sum_below, Summed}
+use Rattle.tables.specs.Indexed.{sum_below, Summed, Bounded}
 
 -- A list of sums, one place longer
 pub sums_next : (out : List ℕ) (f : ℕ → ℕ) (c v : ℕ) → c + 1 < length out → ((k : ℕ) → k ≤ c → get_or out k 0 ≡ sum_below f k) → v ≡ get_or out c 0 + f c →
@@ -29,6 +29,14 @@ bound_more out c v b lt old e k le = go (eq_or-not k (c + 1))
     go : (k ≡ c + 1) ⊎ (k ≡ c + 1 → ⊥) → get_or (set out (c + 1) v) k 0 ≤ b
     go (inl q) = rw (q, get_or-set_same out (c + 1) v 0 lt) e
     go (inr n) = rw (get_or-set_other out (c + 1) k v 0 n) (old k (omega arith))
+
+-- and so are all words, if they were
+pub bound_set : (out : List ℕ) (c v b : ℕ) → c < length out → v ≤ b → Bounded b out → Bounded b (set out c v)
+bound_set out c v b lt e old k = go (eq_or-not k c)
+  where
+    go : (k ≡ c) ⊎ (k ≡ c → ⊥) → get_or (set out c v) k 0 ≤ b
+    go (inl q) = rw (q, get_or-set_same out c v 0 lt) e
+    go (inr n) = rw (get_or-set_other out c k v 0 n) (old k)
 
 sum_shift : (f : ℕ → ℕ) (n : ℕ) → sum_below f (suc n) ≡ f 0 + sum_below (λ i. f (suc i)) n
 unfolding sum_below
