@@ -87,7 +87,8 @@ sum_ones [] = refl
 sum_ones (c ∷ cs) = ap₂ ◌+◌ (sym (ones c)) (sum_ones cs)
 
 -- Sums along a chain's stretch of the members
-pub stretch_sum : (b members : List ℕ) (size : ℕ → ℕ) (n s k : ℕ) (c : List ℕ) → Summed (λ i. size (get_or members i 0)) n b → ((i : ℕ) → i < length c → get_or members (s + i) 0 ≡ get_or c i 0) → k ≤ length c → s + length c ≤ n →
+pub stretch_sum : (b members : List ℕ) (size : ℕ → ℕ) (n s k : ℕ) (c : List ℕ) → Summed (λ i. size (get_or members i 0)) n b →
+    ((i : ℕ) → i < length c → get_or members (s + i) 0 ≡ get_or c i 0) → k ≤ length c → s + length c ≤ n →
     get_or b (s + k) 0 ≡ get_or b s 0 + sum size (take k c)
 unfolding sum
 stretch_sum b members size n s zero c h m le fits = let e : s + 0 ≡ s = omega arith in rw e (omega arith)
