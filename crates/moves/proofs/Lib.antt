@@ -5,6 +5,8 @@ pub mod Closing
 -- Stretches of runs, chain by chain
 pub mod Stretching
 pub mod ByChain
+-- How many events a visit moves at most
+pub mod Bounds
 -- The definitions' steps
 pub mod Pieces
 pub mod Defined

@@ -4,7 +4,7 @@ use Rattle.std.proofs.Common.{get_or-set_other, get_or-take, length-take-le}
 use Rattle.lists.specs.Lists.{sum, from}
 use Rattle.lists.proofs.Truth.{eq_or-not}
 use Rattle.model.specs.History.{at}
-use Rattle.tables.specs.Indexed.{sum_below, Summed}
+use Rattle.tables.specs.Indexed.{sum_below, Summed, Bounded}
 
 -- A list of sums, one place longer
 pub sums_next : (out : List ℕ) (f : ℕ → ℕ) (c v : ℕ) → c + 1 < length out → ((k : ℕ) → k ≤ c → get_or out k 0 ≡ sum_below f k) → v ≡ get_or out c 0 + f c →
@@ -29,6 +29,14 @@ bound_more out c v b lt old e k le = go (eq_or-not k (c + 1))
     go : (k ≡ c + 1) ⊎ (k ≡ c + 1 → ⊥) → get_or (set out (c + 1) v) k 0 ≤ b
     go (inl q) = rw (q, get_or-set_same out (c + 1) v 0 lt) e
     go (inr n) = rw (get_or-set_other out (c + 1) k v 0 n) (old k (omega arith))
+
+-- and so are all words, if they were
+pub bound_set : (out : List ℕ) (c v b : ℕ) → c < length out → v ≤ b → Bounded b out → Bounded b (set out c v)
+bound_set out c v b lt e old k = go (eq_or-not k c)
+  where
+    go : (k ≡ c) ⊎ (k ≡ c → ⊥) → get_or (set out c v) k 0 ≤ b
+    go (inl q) = rw (q, get_or-set_same out c v 0 lt) e
+    go (inr n) = rw (get_or-set_other out c k v 0 n) (old k)
 
 sum_shift : (f : ℕ → ℕ) (n : ℕ) → sum_below f (suc n) ≡ f 0 + sum_below (λ i. f (suc i)) n
 unfolding sum_below
@@ -79,7 +87,8 @@ sum_ones [] = refl
 sum_ones (c ∷ cs) = ap₂ ◌+◌ (sym (ones c)) (sum_ones cs)
 
 -- Sums along a chain's stretch of the members
-pub stretch_sum : (b members : List ℕ) (size : ℕ → ℕ) (n s k : ℕ) (c : List ℕ) → Summed (λ i. size (get_or members i 0)) n b → ((i : ℕ) → i < length c → get_or members (s + i) 0 ≡ get_or c i 0) → k ≤ length c → s + length c ≤ n →
+pub stretch_sum : (b members : List ℕ) (size : ℕ → ℕ) (n s k : ℕ) (c : List ℕ) → Summed (λ i. size (get_or members i 0)) n b →
+    ((i : ℕ) → i < length c → get_or members (s + i) 0 ≡ get_or c i 0) → k ≤ length c → s + length c ≤ n →
     get_or b (s + k) 0 ≡ get_or b s 0 + sum size (take k c)
 unfolding sum
 stretch_sum b members size n s zero c h m le fits = let e : s + 0 ≡ s = omega arith in rw e (omega arith)

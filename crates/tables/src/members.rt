@@ -66,7 +66,8 @@ pub fn size_of(starts: &[u32], m: usize) -> u32
 // list. That the members are few is a clause, which the sums' bound needs: a type of short slices would ask it where each is made.
 fn sums_of(before: &mut [u64], members: &[u32], starts: &[u32])
     requires { (length members.now ≤ max_runs) × (length members.now < length before.old) }
-    ensures { Summed (λ i. size_in starts.now (get_or members.now i 0)) (length members.now) before.new × BoundedTo (length members.now) (2 ^ 41) before.new }
+    ensures sums { Summed (λ i. size_in starts.now (get_or members.now i 0)) (length members.now) before.new × BoundedTo (length members.now) (2 ^ 41) before.new }
+    ensures small { Bounded (2 ^ 41) before.old → Bounded (2 ^ 41) before.new }
 {
     before[0] = 0;
     for (j, m) in members.iter().enumerate() {
@@ -89,8 +90,9 @@ impl Members {
     // The members of the chains of n runs, and their sums.
     pub fn index(&mut self, starts: &[u32], n: usize, tables: &ChainTables)
         requires { Indexable n (take (n + 1) tables.now.lens) (take (n + 1) tables.now.chains) (take (n + 1) tables.now.places) }
-        ensures { IndexOf starts.now n (take (n + 1) tables.now.lens) (take (n + 1) tables.now.chains) (take (n + 1) tables.now.places)
+        ensures index { IndexOf starts.now n (take (n + 1) tables.now.lens) (take (n + 1) tables.now.chains) (take (n + 1) tables.now.places)
             (take (n + 1) self.new.starts) (take (n + 1) self.new.runs) self.new.before }
+        ensures small { Bounded (2 ^ 41) self.old.before → Bounded (2 ^ 41) self.new.before }
     {
         let w = n + 1;
         begins_of(&mut self.starts[..w], &tables.lens[..n]);

@@ -15,6 +15,6 @@ returns-clause-measured c =
     let s = c.sums-sums.ensures in
     let number : length c.rows-rows.result ≡ a.n = ap length c.rows-rows.ensures ∙ rows-number a.self.now.chains.row_starts a.rows.now a.n in
     record {
-      index = c.index.ensures;
+      index = c.index.ensures.index;
       sizes = λ r lt. c.sizes_of.ensures r (omega (arith, number, lt)) ∙ (λ i. events_from (s.before i) (s.begins i) (at (c.rows-rows.ensures i) r) 0 (s.chains i));
     }
