@@ -96,7 +96,7 @@ pub fn is_between<'a>(first: u32, highs: &'a [u32], s: &'a [u32]) -> bool
         .all(|(x, high)| first <= *x && *x <= *high)
 }
 
-// Those that are not among `ps`. Filters into a list by value differ in what they go over and in their test, and share `push_if`.
+// Those that are not among `ps`. Filters into a list by value differ in what they go over and in their test, and share `Kept`'s methods.
 pub fn keep_all(a: &[u32], ps: &[u32]) -> Kept
     requires { length a.now ≤ max_kept }
     ensures { result ≡ filter (λ e. not (mem e ps.now)) a.now }

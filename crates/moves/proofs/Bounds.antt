@@ -6,7 +6,7 @@ use Rattle.model.specs.Refusals.{Outcome}
 use Rattle.lists.specs.Areas.{part}
 use Rattle.moves.specs.declared.writing.Kind.{Kind}
 use Rattle.moves.specs.declared.writing.Kind.TheVariants.{Retreat, Advance, Apply}
-use Rattle.moves.specs.Emit.{Rec, Writing, step_of, going, stopped, if_going, pick, put3, kind_word, emit_one, emit}
+use Rattle.moves.specs.Emit.{Rec, Writing, step_of, going, stopped, if_going, pick, put3, kind_word, emit_one, emit, applies}
 use Rattle.moves.specs.Stretches.{Below, span_of, pick_l, stretch_from, stretches}
 use Rattle.moves.specs.Moves.{runs_of, moves_from, visit_of}
 
@@ -35,6 +35,14 @@ one_moved w r =
     let full : Writing = (stopped w.0.count w.0.moved, w.1) in
     let fits : Bool = ltb w.0.count (length w.1 / 3) in
     if_moved w.0.outcome (pick fits put full) w (w.0.moved + r.events) (pick_moved fits put full (w.0.moved + r.events) (omega arith) (omega arith)) (omega arith)
+
+-- Applies move none
+pub applies_moved : (w : Writing) (a n : ℕ) → (emit w (applies a n)).0.moved ≤ w.0.moved
+unfolding emit applies
+applies_moved w a zero = omega arith
+applies_moved w a (suc n) =
+    let r : Rec = step_of Apply a (a + 1) 0 in
+    omega (arith, applies_moved (emit_one w r) (a + 1) n, one_moved w r)
 
 -- so many records move fewer than 2 ^ 32 each
 pub emit_moved : (w : Writing) (rs : List Rec) → Light rs → (emit w rs).0.moved ≤ w.0.moved + length rs * 2 ^ 32

@@ -76,7 +76,7 @@ fn offset_of(starts: &[u32], r: usize) -> usize
     item(starts, r, 0).saturating_sub(item(starts, 0, 0)) as usize
 }
 
-// Run r's cover, of the bits from `low` up to `high` and its children's, and its weight. That a number is one of few runs is a clause, here and
+// Run r's cover, of the bits from `low` up to `high` and its children's, and its weight. That a number is below `max_runs` is a clause, here and
 // in three functions more: lists and steps have bare numbers.
 fn weigh_run(covers: &mut [CoverWord], low: usize, high: usize, r: usize, children: &[u32]) -> u32
     requires rising { low ≤ high }

@@ -36,7 +36,8 @@ fn position<'a>(begins: &'a [u32], chain: &'a [u32], place: &'a [u32], m: usize)
     item(begins, k, 0) as usize + item(place, m, 0) as usize
 }
 
-// Each chain's members, in order. All lists are as long as the runs' number and one, which goes beside them as it does beside the areas.
+// Each chain's members, in order. `members` has room for any range, the other lists are as long as the runs' number and one; so the number
+// goes beside them, as it does beside the areas.
 fn members_of<'a>(
     members: &mut [u32],
     begins: &'a [u32],
@@ -108,7 +109,8 @@ impl Members {
         sums_of(&mut self.before, members, starts);
     }
 
-    // The sums of n runs on so many chains. Their bounds are asked here alone, where a range's sums are taken: `index` says them of the first n + 1.
+    // The sums of n runs on so many chains. That the sums are small is asked here alone, where a range's sums are taken: `index`
+    // says it of the first n + 1. That runs and chains are few is asked where their numbers go beside the arrays.
     pub fn sums(&self, n: usize, chains: usize) -> Sums<'_>
         requires few { (n ≤ max_runs) × (chains ≤ max_runs) }
         requires small { Bounded (2 ^ 41) (take (n + 1) self.now.before) }
