@@ -208,7 +208,7 @@ BOOK = [
     ("reading::read", "a book of 65,537 bytes is taken", "reading.rt", "if MAX_BOOK < bytes.len() {", "if MAX_BOOK < bytes.len() - 1 {"),
     ("reading::read", "the header's frontier is not tried, and pushes are made under a header that is refused", "reading.rt", "header.frontier);", "&header.frontier[0..0]);"),
     ("reading::read", "a refused header is told as push 0", "reading.rt", "answered(held, Err(BookRefusal::Refused(r)))", "answered(held, Err(BookRefusal::PushRefused(r, 0)))"),
-    ("reading::read", "a refused push does not end it", "reading.rt", "Err(r) => Err(BookRefusal::PushRefused(r, k)),", "Err(_) => Ok(left),"),
+    ("reading::read", "a refused push does not end it", "reading.rt", "Err(r) => Err(BookRefusal::PushRefused(r, k)),", "Err(r) => Err(BookRefusal::PushRefused(r, k)).or(Ok(left)),"),
     ("reading::read", "no bytes are refused with 14", "reading.rt", "return answered(fresh(), Ok(()));", "return answered(fresh(), Err(BookRefusal::Refused(Refusal::BookTooShort)));"),
     ("reading::read", "a book of one byte is taken for the empty one", "reading.rt", "if bytes.is_empty() {", "if bytes[..bytes.len() / 2].is_empty() {"),
     ("replaying::replayed", "prints no steps", "replaying.rt", "&steps[..words]", "&steps[..0]"),
