@@ -1,7 +1,6 @@
 -- Records written into a lent list, one after the other: what they leave, in closed form. Assumes nothing.
 use Rattle.std.proofs.Common.{◌≡◌, refl, sym, ap, ◌∙◌, Bool, cond, List, [], ◌∷◌, ◌++◌, map, append_assoc, ℕ, zero, suc, ◌+◌, ◌*◌, ◌/◌, ◌<◌, ◌≤◌, div-mul-le_self, suc-mul, zero-mul}
-use Rattle.std.proofs.Common.{zero-add, add-one, arith, length, take, drop, length-append, length-drop, take_all, take_at, drop-drop, ltb, lt-ltb, le-ltb, Ok, Err}
-use lib.ListN.{length-map}
+use Rattle.std.proofs.Common.{zero-add, add-one, arith, length, take, drop, length-append, length-drop, take_at, drop-drop, ltb, lt-ltb, le-ltb, Ok, Err}
 use lib.Seq.{take-nil, drop-append-add}
 use lib.Dec.{leb-suc-suc}
 use Rattle.lists.specs.Lists.{concat}
@@ -95,19 +94,3 @@ module _ {A : Type 0} (size : ℕ) (f : A → List ℕ) (same : (x : A) → leng
   put-writing xs lent =
       put-room xs (length lent / size) 0 [] lent (sym (zero-mul size)) (div-mul-le_self (length lent) size) (omega arith) ∙
       put_eq (zero-add (length (take (length lent / size) (map f xs)))) refl refl
-
-flat : (xs : List ℕ) → concat (map (λ (x : ℕ). x ∷ []) xs) ≡ xs
-unfolding concat
-flat [] = refl
-flat (x ∷ xs) = ap (λ (l : List ℕ). x ∷ l) (flat xs)
-
--- Words that all fit
-pub words_fit : (xs lent : List ℕ) → length xs ≤ length lent →
-    put_all 1 (blank, lent) (map (λ x. x ∷ []) xs) ≡ (record { count = length xs; outcome = Ok tt }, over xs lent)
-unfolding writing
-words_fit xs lent h =
-    put-writing 1 (λ (x : ℕ). x ∷ []) (λ x. refl) xs lent ∙
-    rw (take_all (length lent / 1) (map (λ x. x ∷ []) xs) (omega (arith, same_length)), same_length, le-ltb (length lent / 1) (length xs) (omega arith), flat xs)
-  where
-    same_length : length (map (λ (x : ℕ). x ∷ []) xs) ≡ length xs
-    same_length = length-map xs (λ x. x ∷ [])

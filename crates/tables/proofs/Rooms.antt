@@ -1,5 +1,5 @@
 -- There is room for every run's kids: where they begin climbs, and there are no more of them than parents. Assumes nothing.
-use Rattle.std.proofs.Common.{◌≡◌, refl, ap, ◌⊎◌, inl, inr, List, [], ◌∷◌, ◌++◌, ℕ, zero, suc, ◌+◌, ◌≤◌, ◌<◌, arith, length, take, replicate, length-append, eqb, eq-eqb, ne_eqb}
+use Rattle.std.proofs.Common.{◌≡◌, refl, ap, ◌⊎◌, inl, inr, List, [], ◌∷◌, ◌++◌, ℕ, zero, suc, ◌+◌, ◌≤◌, arith, length, take, replicate, length-append, eqb, eq-eqb, ne_eqb}
 use lib.ListN.{length-replicate}
 use Rattle.lists.specs.Lists.{bit, count, occurs, concat}
 use Rattle.lists.proofs.Truth.{eq_or-not}
@@ -9,16 +9,11 @@ use Rattle.tables.specs.Counted.{tally, kids, kids_from}
 use Rattle.tables.proofs.Counting.{tally-none, tally-next}
 use Rattle.tables.proofs.JaggedRows.{rows_more, rows-most}
 
--- Sums of no terms above 0, of the same terms, of terms added, and of more terms
+-- Sums of no terms above 0, of terms added, and of more terms
 sum-none : (n : ℕ) → sum_below (λ i. 0) n ≡ 0
 unfolding sum_below
 sum-none zero = refl
 sum-none (suc n) = omega (arith, sum-none n)
-
-pub sums_same : (f g : ℕ → ℕ) (n : ℕ) → ((i : ℕ) → i < n → f i ≡ g i) → sum_below f n ≡ sum_below g n
-unfolding sum_below
-sums_same f g zero h = refl
-sums_same f g (suc n) h = omega (arith, sums_same f g n (λ i lt. h i (omega arith)), h n (omega arith))
 
 sum-plus : (f g : ℕ → ℕ) (n : ℕ) → sum_below (λ i. f i + g i) n ≡ sum_below f n + sum_below g n
 unfolding sum_below

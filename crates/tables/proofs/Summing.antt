@@ -65,7 +65,7 @@ unfolding sum_below
 sum_eq f g zero h = refl
 sum_eq f g (suc n) h = ap₂ ◌+◌ (sum_eq f g n h) (h n)
 
-sum_same : (f g : ℕ → ℕ) (n : ℕ) → ((i : ℕ) → i < n → f i ≡ g i) → sum_below f n ≡ sum_below g n
+pub sum_same : (f g : ℕ → ℕ) (n : ℕ) → ((i : ℕ) → i < n → f i ≡ g i) → sum_below f n ≡ sum_below g n
 unfolding sum_below
 sum_same f g zero h = refl
 sum_same f g (suc n) h = ap₂ ◌+◌ (sum_same f g n (λ i lt. h i (omega arith))) (h n (omega arith))
