@@ -2,6 +2,7 @@
 ghost use Rattle.std.specs.Prelude.{◌≡◌, ◌≤◌, OnOk};
 ghost use Rattle.stdio.specs.declared.TheConstants.{BUFFER};
 
+use itoa::Buffer;
 use std::io;
 use std::io::{Stdout, Write};
 use stdio::BUFFER;
@@ -23,6 +24,12 @@ impl Write for Out {
 
     // Puts bytes into the buffer. Where it is full, it is written first.
     fn write_all(&mut self, text: &[u8]) -> io::Result<()> {
+        let end = self.used + text.len();
+        if end <= BUFFER {
+            self.bytes[self.used..end].copy_from_slice(text);
+            self.used = end;
+            return Ok(());
+        }
         for byte in text {
             if self.used == BUFFER {
                 self.empty()?;
@@ -59,7 +66,8 @@ impl Out {
 
     // A space and a number in decimal.
     pub(crate) fn number(&mut self, n: u64) -> io::Result<()> {
-        write!(self, " {n}")
+        self.write_all(b" ")?;
+        self.write_all(Buffer::new().format(n).as_bytes())
     }
 
     // A list's words, a space before each.
