@@ -3,7 +3,6 @@ use Rattle.std.proofs.Common.{◌≡◌, refl, sym, ◌∙◌, ap, List, [], ◌
 use Rattle.std.proofs.Common.{length-drop, Bool, true, false, subst, ltb, drop-drop, get_or-drop, get_or-take}
 use Rattle.std.proofs.Math.Option.{none, some, none-ne-some, some-injective}
 use Rattle.std.specs.List.{IsSplitAt}
-use Rattle.byteorder.specs.Endian.{little_number, IsRead}
 use Rattle.model.specs.Book.{word, words_of, take_words}
 use Rattle.model.proofs.BookWords.{Parted, taken, cut_off}
 
@@ -30,25 +29,13 @@ take_words_lem (suc m) n bs =
     let e : suc m + n ≡ suc (m + n) = omega arith in
     ap (λ k. take (suc m) (words_of k bs)) e ∙ ap (λ ws. word bs ∷ ws) (take_words_lem m n (drop 4 bs))
 
--- A word of a part is the word of the whole, where the part has it
-word_part : (bs : List ℕ) (n k : ℕ) → k < n → little_number 4 (drop (4 * k) (take (4 * n) bs)) ≡ word (drop (4 * k) bs)
-unfolding word
-word_part bs n k h = omega (arith, byte 0 (omega arith), byte 1 (omega arith), byte 2 (omega arith), byte 3 (omega arith))
-  where
-    byte : (j : ℕ) → j < 4 → get_or (drop (4 * k) (take (4 * n) bs)) j 0 ≡ get_or (drop (4 * k) bs) j 0
-    byte j l = get_or-drop (4 * k) (take (4 * n) bs) j 0 ∙ get_or-take (4 * n) bs (4 * k + j) 0 (omega arith) ∙ sym (get_or-drop (4 * k) bs j 0)
-
-each_word : (ws bs : List ℕ) → ((k : ℕ) → k < length ws → get_or ws k 0 ≡ word (drop (4 * k) bs)) → ws ≡ words_of (length ws) bs
+-- A list of the words that stand at every fourth byte
+pub each_word : (ws bs : List ℕ) → ((k : ℕ) → k < length ws → get_or ws k 0 ≡ word (drop (4 * k) bs)) → ws ≡ words_of (length ws) bs
 unfolding words_of
 each_word [] bs h = refl
 each_word (w ∷ ws) bs h =
     ap (λ x. x ∷ ws) (h 0 (omega arith))
     ∙ ap (λ xs. word bs ∷ xs) (each_word ws (drop 4 bs) (λ k l. h (suc k) (omega arith) ∙ ap word (sym (after_one k bs))))
-
--- What was read of the bytes
-pub words_read : (bs part ws : List ℕ) (n : ℕ) → length ws ≡ n → part ≡ take (4 * n) bs → IsRead (λ m xs. little_number m xs) 4 part ws → ws ≡ words_of n bs
-words_read bs part ws n len e read =
-    each_word ws bs (λ k l. read k l ∙ ap (λ xs. little_number 4 (drop (4 * k) xs)) e ∙ word_part bs n k (omega arith)) ∙ ap (λ m. words_of m bs) len
 
 -- Words taken from the front, where `ws` are the words of the bytes `bs`
 module _ (bs ws : List ℕ) (d : ws ≡ words_of (length bs / 4) bs) (n : ℕ) where
