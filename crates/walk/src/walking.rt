@@ -57,8 +57,12 @@ pub(crate) fn walk_range(
         &all,
         a.0,
         rows,
-        &mut areas.parents,
-        &mut areas.chains,
+        &mut areas.parents.starts,
+        &mut areas.parents.items,
+        &mut areas.chains.row_starts,
+        &mut areas.chains.chains,
+        &mut areas.chains.places,
+        &mut areas.chains.lens,
         &mut areas.scratch,
     ) else {
         return Err(Refusal::RowsTooLong);
