@@ -1,16 +1,13 @@
 // A range's tables, made of each other: parents, chains and rows; and children.
-ghost use Rattle.std.specs.Prelude.{◌-◌, ◌<◌, ◌≤◌, length};
+ghost use Rattle.std.specs.Prelude.{◌-◌, ◌<◌, ◌≤◌, ◌^◌, length};
 ghost use Rattle.lists.specs.Lists.{concat};
-ghost use Rattle.model.specs.Limits.{max_entries};
 ghost use Rattle.tables.specs.Jagged.{Below};
 ghost use Rattle.tables.specs.Laid.{shares_of, RangeLaid};
 ghost use Rattle.tables.specs.Counted.{KidsTabled};
 
-use crate::groups::Groups;
 use crate::jagged::Jagged;
 use crate::rows::Area;
 use crate::{children, groups, rows};
-use model::MAX_STARTS;
 
 // Parents, chains and rows of the runs from run a on, by all runs' parents; none where a row finds no room.
 // `starts` and `items` hold the parents, the next four lists what `rows::lay` says, and `scratch` a row that is made.
@@ -50,14 +47,17 @@ pub fn lay(
     )
 }
 
-// Each run's children, by the runs' parents.
-pub fn children(parents: &Jagged, children: &mut Groups, scratch: &mut [u32; MAX_STARTS])
+// Each run's children, by the runs' parents: where each one's begin, and the children.
+pub fn children(parents: &Jagged, starts: &mut [u32], items: &mut [u32], scratch: &mut [u32])
     requires below { Below parents.now }
-    requires few { length (concat parents.now) ≤ max_entries }
-    ensures { KidsTabled parents.now (length parents.now) children.new.starts children.new.items }
+    requires starts { length parents.now < length starts.old }
+    requires scratch { length parents.now < length scratch.old }
+    requires room { length (concat parents.now) ≤ length items.old }
+    requires few { length items.old ≤ 2 ^ 20 }
+    ensures { KidsTabled parents.now (length parents.now) starts.new items.new }
 {
     let w = parents.len() + 1;
-    children::starts_of(&mut children.starts[..w], parents);
-    scratch[..w].copy_from_slice(&children.starts[..w]);
-    children::children_of(&mut children.items, &mut scratch[..w], parents);
+    children::starts_of(&mut starts[..w], parents);
+    scratch[..w].copy_from_slice(&starts[..w]);
+    children::children_of(items, &mut scratch[..w], parents);
 }

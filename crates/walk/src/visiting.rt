@@ -36,7 +36,8 @@ impl Progress {
     {
         versions::start_version(
             &mut self.version,
-            &given.areas.chains,
+            &given.areas.chains.chains,
+            &given.areas.chains.places,
             given.chains,
             given.known as usize,
         );
