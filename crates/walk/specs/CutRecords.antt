@@ -1,5 +1,5 @@
 -- The ranges of a cut as records of three words: kind (0 Linear, else Concurrent), first run, end run (exclusive). Assumes nothing.
-use Rattle.std.specs.Prelude.{cond, List, map, ℕ, ◌+◌, ◌≤◌, ◌<◌, length, get_or, eqb}
+use Rattle.std.specs.Prelude.{List, map, ℕ, ◌+◌, ◌≤◌, ◌<◌, length, get_or}
 use Rattle.model.specs.History.{at}
 use Rattle.model.specs.Cut.{HistoryRange, linear, concurrent}
 use Rattle.model.specs.declared.record.CausalGraph.{CausalGraph}
