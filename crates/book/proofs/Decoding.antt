@@ -1,8 +1,9 @@
--- The words that bytes begin with: how many, the next of them, those that are left after some. Assumes nothing.
+-- The words that bytes begin with: how many, each by its bytes, the next of them, those that are left after some. Assumes nothing.
 use Rattle.std.proofs.Common.{◌≡◌, refl, sym, ◌∙◌, ap, List, [], ◌∷◌, ℕ, zero, suc, ◌+◌, ◌-◌, ◌*◌, ◌/◌, ◌<◌, ◌≤◌, length, get_or, take, drop, arith}
-use Rattle.std.proofs.Common.{length-drop, Bool, true, false, subst, ltb, drop-drop, get_or-drop, get_or-take}
+use Rattle.std.proofs.Common.{length-drop, Bool, true, false, subst, ltb, drop-drop, get_or-drop, ◌⊎◌, inl, inr, set, get_or-set_same, get_or-set_other}
 use Rattle.std.proofs.Math.Option.{none, some, none-ne-some, some-injective}
 use Rattle.std.specs.List.{IsSplitAt}
+use Rattle.lists.proofs.Truth.{lt_or_le}
 use Rattle.model.specs.Book.{word, words_of, take_words}
 use Rattle.model.proofs.BookWords.{Parted, taken, cut_off}
 
@@ -28,6 +29,21 @@ take_words_lem zero n bs = refl
 take_words_lem (suc m) n bs =
     let e : suc m + n ≡ suc (m + n) = omega arith in
     ap (λ k. take (suc m) (words_of k bs)) e ∙ ap (λ ws. word bs ∷ ws) (take_words_lem m n (drop 4 bs))
+
+-- A word by its bytes
+pub word_bytes : (bs : List ℕ) (at : ℕ) →
+    word (drop at bs) ≡ get_or bs at 0 + get_or bs (at + 1) 0 * 256 + get_or bs (at + 2) 0 * 65536 + get_or bs (at + 3) 0 * 16777216
+unfolding word
+word_bytes bs at = let e : at + 0 ≡ at = omega arith in rw (get_or-drop at bs 0 0, get_or-drop at bs 1 0, get_or-drop at bs 2 0, get_or-drop at bs 3 0, e)
+
+-- One word more in its place
+pub put_word : (bs ws : List ℕ) (i w : ℕ) → i < length ws → w ≡ word (drop (4 * i) bs) → ((k : ℕ) → k < i → get_or ws k 0 ≡ word (drop (4 * k) bs)) →
+    (k : ℕ) → k < i + 1 → get_or (set ws i w) k 0 ≡ word (drop (4 * k) bs)
+put_word bs ws i w l e h k m = go (lt_or_le k i)
+  where
+    go : (k < i) ⊎ (i ≤ k) → get_or (set ws i w) k 0 ≡ word (drop (4 * k) bs)
+    go (inl u) = get_or-set_other ws i k w 0 (λ q. absurd (omega arith)) ∙ h k u
+    go (inr u) = let q : k ≡ i = omega arith in rw q (get_or-set_same ws i w 0 l ∙ e)
 
 -- A list of the words that stand at every fourth byte
 pub each_word : (ws bs : List ℕ) → ((k : ℕ) → k < length ws → get_or ws k 0 ≡ word (drop (4 * k) bs)) → ws ≡ words_of (length ws) bs

@@ -20,7 +20,6 @@ fn word_at(bytes: &[u8], at: usize) -> u32
 }
 
 // The little-endian words that bytes begin with, as many as the list has places.
-#[tactic(auto, using(crate::proofs::Decoding::each_word))]
 pub(crate) fn decode(bytes: &[u8], words: &mut [u32])
     requires { 4 * length words.old ≤ length bytes.now }
     ensures { words.new ≡ words_of (length words.old) bytes.now }
