@@ -24,13 +24,13 @@ returns-clause-index c =
     let long : length members ≡ a.n + 1 = omega (arith, c.members_of.auto.members, length-take-le (a.n + 1) a.runs.now (omega (arith, c.requires.room.1))) in
     let same = take_at begins (drop (a.n + 1) a.begins.now) (a.n + 1) size in
     let listed = take_at members (drop (a.n + 1) a.runs.now) (a.n + 1) long in
-    rw (same, listed) record {
+    rw same record {
       begins = c.begins_of.ensures.0;
       begins_small = c.begins_of.ensures.1;
-      members = rw same at c.members_of.ensures.0;
-      members_long = omega (arith, long);
-      members_small = c.members_of.ensures.1;
-      before = rw listed at c.sums_of.ensures.sums.0;
+      members = rw (listed, ← same) c.members_of.ensures.0;
+      members_long = rw listed (omega (arith, long));
+      members_small = rw listed c.members_of.ensures.1;
+      before = c.sums_of.ensures.sums.0;
       before_small = c.sums_of.ensures.sums.1;
     }
 
