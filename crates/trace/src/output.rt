@@ -64,8 +64,27 @@ impl Out {
         Ok(())
     }
 
+    // Puts a space and a number in decimal, if they fit in the buffer; whether they did. A `bool`, since an `io::Result` has 96 bytes: with one
+    // for each number a list took a third more time.
+    fn put_number(&mut self, n: u64) -> bool {
+        let mut buffer = Buffer::new();
+        let digits = buffer.format(n).as_bytes();
+        let at = self.used;
+        let end = at + 1 + digits.len();
+        if BUFFER < end {
+            return false;
+        }
+        self.bytes[at] = b' ';
+        self.bytes[at + 1..end].copy_from_slice(digits);
+        self.used = end;
+        true
+    }
+
     // A space and a number in decimal.
     pub(crate) fn number(&mut self, n: u64) -> io::Result<()> {
+        if self.put_number(n) {
+            return Ok(());
+        }
         self.write_all(b" ")?;
         self.write_all(Buffer::new().format(n).as_bytes())
     }
@@ -73,7 +92,10 @@ impl Out {
     // A list's words, a space before each.
     pub(crate) fn words(&mut self, list: &[u32]) -> io::Result<()> {
         for word in list {
-            self.number(u64::from(*word))?;
+            let n = u64::from(*word);
+            if !self.put_number(n) {
+                self.number(n)?;
+            }
         }
         Ok(())
     }
