@@ -24,6 +24,14 @@ set-read l k v i lt = go (eq_or-not i k)
     go (inl e) = rw (eq-eqb k i (sym e), e) (get_or-set_same l k v 0 lt)
     go (inr n) = rw (ne_eqb k i (λ e. n (sym e))) (get_or-set_other l k i v 0 n)
 
+-- One more of the first n words
+pub holds-next : (f : ℕ → ℕ) (l : List ℕ) (n v : ℕ) → n < length l → v ≡ f n → Holds f n l → Holds f (n + 1) (set l n v)
+holds-next f l n v lt e h c cl = go (eq_or-not c n)
+  where
+    go : (c ≡ n) ⊎ (c ≡ n → ⊥) → get_or (set l n v) c 0 ≡ f c
+    go (inl q) = rw q (get_or-set_same l n v 0 lt ∙ e)
+    go (inr q) = get_or-set_other l n c v 0 q ∙ h c (omega arith)
+
 -- One more of the first runs
 pub started-next : (chain place l : List ℕ) (r n : ℕ) → get_or chain r 0 < length l → Holds (started chain place r) n l →
     Holds (started chain place (r + 1)) n (set l (get_or chain r 0) (get_or place r 0 + 1))
