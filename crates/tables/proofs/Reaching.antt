@@ -10,7 +10,7 @@ use Rattle.model.specs.History.{at, histories}
 use Rattle.model.proofs.Histories.{Below}
 use Rattle.tables.specs.Laid.{chs, chain_of, place_of, row_at}
 use Rattle.tables.specs.Tables.{Reaches}
-use Rattle.tables.specs.Reached.{started, arrived, Holds}
+use Rattle.tables.specs.Reached.{started, arrived, Holds, Standing}
 use Rattle.tables.proofs.Chaining.{cnt, chain-short, place_at}
 use Rattle.tables.proofs.Holding.{own, own_here, own_there, row-later}
 use Rattle.tables.proofs.Standing.{chain_in, first-own, first-other, history-own}
@@ -96,6 +96,10 @@ module _ (pss : List (List ℕ)) (b : Below pss) where
 
     pub place-fits : (m : ℕ) → m < length pss → get_or place m 0 < length pss
     place-fits m lt = omega (arith, places m lt, (place_at H m (length pss) lt).0, chain-short H (length pss) (chain_of H m))
+
+    -- the first runs stand as `start_version` needs it
+    pub first_standing : (known : ℕ) → known ≤ length pss → length pss ≤ 512 → Standing chain place (length C) known
+    first_standing known le few = record { chains = λ r lt. chain_fits r (omega arith); places = λ r lt. omega (arith, place-fits r (omega arith)) }
 
     started-is : (k c : ℕ) → k ≤ length pss → started chain place k c ≡ cnt (upto k) (at C c)
     unfolding started
