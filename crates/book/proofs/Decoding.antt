@@ -30,6 +30,19 @@ take_words_lem (suc m) n bs =
     let e : suc m + n ≡ suc (m + n) = omega arith in
     ap (λ k. take (suc m) (words_of k bs)) e ∙ ap (λ ws. word bs ∷ ws) (take_words_lem m n (drop 4 bs))
 
+-- m words from the place a on
+pub words-part : (bs : List ℕ) (n a m : ℕ) → a + m ≤ n → take m (drop a (words_of n bs)) ≡ words_of m (drop (4 * a) bs)
+words-part bs n a m h =
+    let e : n ≡ a + (m + (n - (a + m))) = omega arith in
+    ap (λ k. take m (drop a (words_of k bs))) e ∙ ap (take m) (drop-words a (m + (n - (a + m))) bs) ∙ take_words_lem m (n - (a + m)) (drop (4 * a) bs)
+
+-- the word at a place
+pub words-at : (bs : List ℕ) (n i : ℕ) → i < n → get_or (words_of n bs) i 0 ≡ word (drop (4 * i) bs)
+unfolding words_of
+words-at bs zero i h = absurd (omega arith)
+words-at bs (suc n) zero h = refl
+words-at bs (suc n) (suc i) h = words-at (drop 4 bs) n i (omega arith) ∙ ap word (after_one i bs)
+
 -- A word by its bytes
 pub word_bytes : (bs : List ℕ) (at : ℕ) →
     word (drop at bs) ≡ get_or bs at 0 + get_or bs (at + 1) 0 * 256 + get_or bs (at + 2) 0 * 65536 + get_or bs (at + 3) 0 * 16777216

@@ -38,7 +38,7 @@ module _ (g : Given) (v₀ : Writing) (fuel : ℕ) (t : Progress) (v : Writing) 
   pub looped_fit : 0 < t.waits.0 → Fit g t
   looped_fit some = fit g L.prepared (whole_of g v₀) (most_of g v₀) fuel t v L.walks some
 
-  looped_some : 0 < t.waits.0 → 1 ≤ fuel
+  pub looped_some : 0 < t.waits.0 → 1 ≤ fuel
   looped_some some = fuel_some g L.prepared (whole_of g v₀) (most_of g v₀) fuel t v L.walks some
 
   -- Where no visit is left, no run is ready
