@@ -65,7 +65,7 @@ GRAPH = [
     ("fresh::after", "refuses a rising frontier and takes one that is not", "fresh.rt", "if !lists::is_rising(frontier)", "if lists::is_rising(frontier)"),
     ("fresh::after", "refuses a frontier of exactly 512 events", "fresh.rt", "if MAX_FRONTIER < frontier.len()", "if MAX_FRONTIER < frontier.len() + 1"),
     ("pushing::push", "refuses a push that ends at 4,294,967,295", "pushing.rt", "over(MAX_LEN as usize, start.0", "over(MAX_LEN as usize - 1, start.0"),
-    ("pushing::push", "a run that saw all before it counts as seen up to its start", "splitting.rt", "return end;", "return start;"),
+    ("pushing::push", "a run that saw all before it counts as seen up to its start", "growth.rt", "EventIndex(g.graph.starts[next]),", "EventIndex(g.graph.starts[place]),"),
     ("pushing::push", "a held parent takes no entry", "pushing.rt", "held: t.held + 1,", "held: t.held + 0,"),
     ("pushing::push", "counts the held parents before it among the splits", "pushing.rt", "splits: t.splits + usize::from(!ended),", "splits: t.held + usize::from(!ended),"),
     ("pushing::push", "a parent's run is split though it ends in the parent", "splitting.rt", "if !crate::broken::is_next(p.0, end) {", "if !crate::broken::is_next(p.0, p.0) {"),
@@ -128,7 +128,8 @@ VERSIONS = [
     ("wanted::wanted_parents", "refuses a range that ends at len", "ranges.rt", "EventIndex(*high) <= end", "EventIndex(*high) < end"),
     ("wanted::wanted_parents", "takes an event before the first held one", "ranges.rt", "first <= EventIndex(*low) &&", "EventIndex(0) <= EventIndex(*low) &&"),
     ("wanted::wanted_parents", "writes the parents that fit where the list is too short", "wanted.rt", "put_all(wanted_words(g, ranges), list)", "crate::words::put_fitting(wanted_words(g, ranges), list)"),
-    ("wanted::wanted_parents", "17 in place of 11", "words.rt", "return Err(Refusal::ListTooShort);", "return Err(Refusal::NoSuchParents);"),
+    ("wanted::wanted_parents", "17 in place of 11", "wanted.rt", "    put_all(wanted_words(g, ranges), list)\n",
+     "    let put = put_all(wanted_words(g, ranges), list);\n    match put.outcome {\n        Err(Refusal::ListTooShort) => graph::records::unwritten(Refusal::NoSuchParents),\n        _ => put,\n    }\n"),
 ]
 
 READER = [

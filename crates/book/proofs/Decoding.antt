@@ -1,9 +1,9 @@
--- The words that bytes begin with: how many, the next of them, those that are left after some. Assumes nothing.
+-- The words that bytes begin with: how many, each by its bytes, the next of them, those that are left after some. Assumes nothing.
 use Rattle.std.proofs.Common.{◌≡◌, refl, sym, ◌∙◌, ap, List, [], ◌∷◌, ℕ, zero, suc, ◌+◌, ◌-◌, ◌*◌, ◌/◌, ◌<◌, ◌≤◌, length, get_or, take, drop, arith}
-use Rattle.std.proofs.Common.{length-drop, Bool, true, false, subst, ltb, drop-drop, get_or-drop, get_or-take}
+use Rattle.std.proofs.Common.{length-drop, Bool, true, false, subst, ltb, drop-drop, get_or-drop, ◌⊎◌, inl, inr, set, get_or-set_same, get_or-set_other}
 use Rattle.std.proofs.Math.Option.{none, some, none-ne-some, some-injective}
 use Rattle.std.specs.List.{IsSplitAt}
-use Rattle.byteorder.specs.Endian.{little_number, IsRead}
+use Rattle.lists.proofs.Truth.{lt_or_le}
 use Rattle.model.specs.Book.{word, words_of, take_words}
 use Rattle.model.proofs.BookWords.{Parted, taken, cut_off}
 
@@ -30,25 +30,41 @@ take_words_lem (suc m) n bs =
     let e : suc m + n ≡ suc (m + n) = omega arith in
     ap (λ k. take (suc m) (words_of k bs)) e ∙ ap (λ ws. word bs ∷ ws) (take_words_lem m n (drop 4 bs))
 
--- A word of a part is the word of the whole, where the part has it
-word_part : (bs : List ℕ) (n k : ℕ) → k < n → little_number 4 (drop (4 * k) (take (4 * n) bs)) ≡ word (drop (4 * k) bs)
-unfolding word
-word_part bs n k h = omega (arith, byte 0 (omega arith), byte 1 (omega arith), byte 2 (omega arith), byte 3 (omega arith))
-  where
-    byte : (j : ℕ) → j < 4 → get_or (drop (4 * k) (take (4 * n) bs)) j 0 ≡ get_or (drop (4 * k) bs) j 0
-    byte j l = get_or-drop (4 * k) (take (4 * n) bs) j 0 ∙ get_or-take (4 * n) bs (4 * k + j) 0 (omega arith) ∙ sym (get_or-drop (4 * k) bs j 0)
+-- m words from the place a on
+pub words-part : (bs : List ℕ) (n a m : ℕ) → a + m ≤ n → take m (drop a (words_of n bs)) ≡ words_of m (drop (4 * a) bs)
+words-part bs n a m h =
+    let e : n ≡ a + (m + (n - (a + m))) = omega arith in
+    ap (λ k. take m (drop a (words_of k bs))) e ∙ ap (take m) (drop-words a (m + (n - (a + m))) bs) ∙ take_words_lem m (n - (a + m)) (drop (4 * a) bs)
 
-each_word : (ws bs : List ℕ) → ((k : ℕ) → k < length ws → get_or ws k 0 ≡ word (drop (4 * k) bs)) → ws ≡ words_of (length ws) bs
+-- the word at a place
+pub words-at : (bs : List ℕ) (n i : ℕ) → i < n → get_or (words_of n bs) i 0 ≡ word (drop (4 * i) bs)
+unfolding words_of
+words-at bs zero i h = absurd (omega arith)
+words-at bs (suc n) zero h = refl
+words-at bs (suc n) (suc i) h = words-at (drop 4 bs) n i (omega arith) ∙ ap word (after_one i bs)
+
+-- A word by its bytes
+pub word_bytes : (bs : List ℕ) (at : ℕ) →
+    word (drop at bs) ≡ get_or bs at 0 + get_or bs (at + 1) 0 * 256 + get_or bs (at + 2) 0 * 65536 + get_or bs (at + 3) 0 * 16777216
+unfolding word
+word_bytes bs at = let e : at + 0 ≡ at = omega arith in rw (get_or-drop at bs 0 0, get_or-drop at bs 1 0, get_or-drop at bs 2 0, get_or-drop at bs 3 0, e)
+
+-- One word more in its place
+pub put_word : (bs ws : List ℕ) (i w : ℕ) → i < length ws → w ≡ word (drop (4 * i) bs) → ((k : ℕ) → k < i → get_or ws k 0 ≡ word (drop (4 * k) bs)) →
+    (k : ℕ) → k < i + 1 → get_or (set ws i w) k 0 ≡ word (drop (4 * k) bs)
+put_word bs ws i w l e h k m = go (lt_or_le k i)
+  where
+    go : (k < i) ⊎ (i ≤ k) → get_or (set ws i w) k 0 ≡ word (drop (4 * k) bs)
+    go (inl u) = get_or-set_other ws i k w 0 (λ q. absurd (omega arith)) ∙ h k u
+    go (inr u) = let q : k ≡ i = omega arith in rw q (get_or-set_same ws i w 0 l ∙ e)
+
+-- A list of the words that stand at every fourth byte
+pub each_word : (ws bs : List ℕ) → ((k : ℕ) → k < length ws → get_or ws k 0 ≡ word (drop (4 * k) bs)) → ws ≡ words_of (length ws) bs
 unfolding words_of
 each_word [] bs h = refl
 each_word (w ∷ ws) bs h =
     ap (λ x. x ∷ ws) (h 0 (omega arith))
     ∙ ap (λ xs. word bs ∷ xs) (each_word ws (drop 4 bs) (λ k l. h (suc k) (omega arith) ∙ ap word (sym (after_one k bs))))
-
--- What was read of the bytes
-pub words_read : (bs part ws : List ℕ) (n : ℕ) → length ws ≡ n → part ≡ take (4 * n) bs → IsRead (λ m xs. little_number m xs) 4 part ws → ws ≡ words_of n bs
-words_read bs part ws n len e read =
-    each_word ws bs (λ k l. read k l ∙ ap (λ xs. little_number 4 (drop (4 * k) xs)) e ∙ word_part bs n k (omega arith)) ∙ ap (λ m. words_of m bs) len
 
 -- Words taken from the front, where `ws` are the words of the bytes `bs`
 module _ (bs ws : List ℕ) (d : ws ≡ words_of (length bs / 4) bs) (n : ℕ) where

@@ -161,6 +161,11 @@ module _ (b : BookRead) (w₀ w₁ : Printed × List ℕ) where
   put_refused r l e el q =
       q ∙ ap (put_line w₀) el ∙ ap (λ (a : Result (Unit {0}) BookRefusal). put_lines w₀ (map ended (by_answer b.graph a))) (sym e)
 
+-- those of the book that was read are what is to be printed
+pub printed-is : (bytes : List ℕ) → lines_of (book_of bytes) ≡ printed bytes
+unfolding lines_of printed
+printed-is bytes = refl
+
 -- and what they leave from the start of a buffer
 pub printed_is : (bytes out : List ℕ) (b : BookRead) (w : Printed × List ℕ) → b ≡ book_of bytes → w ≡ put_lines (unused, out) (map ended (lines_of b)) →
     w ≡ printing (printed bytes) out

@@ -1,5 +1,5 @@
 // What `replay` prints, line by line, into a lent buffer: the whole lines that fit.
-ghost use Rattle.std.specs.Prelude.{◌≡◌, not, ◌&&◌, ℕ, List, [], ◌++◌, ◌+◌, ◌≤◌, length, take, leb};
+ghost use Rattle.std.specs.Prelude.{◌≡◌, not, ◌&&◌, ℕ, List, [], ◌++◌, ◌+◌, ◌<◌, ◌≤◌, length, take, drop, leb};
 ghost use Rattle.model.specs.Refusals;
 ghost use Rattle.model.specs.Print;
 ghost use Rattle.model.specs.Print.{ascii, last_line, refused_line, push_refused_line, refusal_line};
@@ -8,12 +8,44 @@ ghost use Rattle.book.specs.Output;
 ghost use Rattle.book.specs.Output.{max_line, step_bytes, word_lines, put_line, put_lines};
 ghost use Rattle.book.specs.Writing.{unused, state, same_buffer};
 
-use itoa::Buffer;
 use model::{BookRefusal, EventRunIndex, Refusal, WalkStep};
 use std::marker::Model;
 
 // How many bytes a line has room for: no line of 01's is longer.
 const MAX_LINE: usize = 64;
+
+// A number's digits, from place `at` on.
+#[derive(Clone, Copy)]
+struct Digits {
+    bytes: [u8; 20],
+    at: usize,
+}
+
+// The digit of a number below 10.
+fn digit(n: u64) -> u8
+    requires { n < 10 }
+    ensures { result ≡ 48 + n }
+{
+    48 + n as u8
+}
+
+// A number in decimal, by a loop of its own, which counts nothing and goes on while a digit more is left: of what is printed nothing is taken
+// from a crate of the kit, so that no statement of one is trusted.
+fn decimal(n: u64) -> Digits
+    ensures { (drop result.at result.bytes ≡ Print.decimal n) × (result.at < 20) }
+{
+    let mut bytes = [0; 20];
+    let mut at = 20;
+    let mut left = n;
+    while 10 <= left {
+        at -= 1;
+        bytes[at] = digit(left % 10);
+        left /= 10;
+    }
+    at -= 1;
+    bytes[at] = digit(left);
+    Digits { bytes, at }
+}
 
 // A line, of which `count` bytes are used.
 #[derive(Drop)]
@@ -56,13 +88,13 @@ impl Line {
     }
 
     // The line with a number after it, in decimal.
-    #[tactic(auto, using(crate::proofs::Decimals::decimal_is))]
     fn number(self, n: u64) -> Self
         requires { length self + 20 ≤ max_line }
         ensures text { result ≡ self ++ Print.decimal n }
         ensures len { length result ≤ length self + 20 }
     {
-        self.text(Buffer::new().format(n).as_bytes())
+        let digits = decimal(n);
+        self.text(&digits.bytes[digits.at..])
     }
 }
 

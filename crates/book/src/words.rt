@@ -1,9 +1,7 @@
 // A book's words, taken from its front.
-ghost use Rattle.std.specs.Prelude.{◌≡◌, [], ◌∷◌, ◌/◌, ◌*◌, ◌≤◌, length, MatchOption};
+ghost use Rattle.std.specs.Prelude.{◌≡◌, [], ◌∷◌, ◌/◌, ◌*◌, ◌+◌, ◌≤◌, drop, length, MatchOption};
 ghost use Rattle.std.proofs.Math.Option.{none, some};
-ghost use Rattle.model.specs.Book.{words_of, take_words, take_counted};
-
-use byteorder::{ByteOrder, LittleEndian};
+ghost use Rattle.model.specs.Book.{word, words_of, take_words, take_counted};
 
 // What is left of a book: its bytes, and the whole words that they begin with.
 #[derive(Clone, Copy)]
@@ -13,13 +11,22 @@ pub(crate) struct Words<'a> {
     ghost decoded: { words.now ≡ words_of (length bytes.now / 4) bytes.now },
 }
 
+// The little-endian word whose bytes stand from `at` on.
+fn word_at(bytes: &[u8], at: usize) -> u32
+    requires { at + 4 ≤ length bytes.now }
+    ensures { result ≡ word (drop at bytes.now) }
+{
+    u32::from_le_bytes([bytes[at], bytes[at + 1], bytes[at + 2], bytes[at + 3]])
+}
+
 // The little-endian words that bytes begin with, as many as the list has places.
-#[tactic(auto, using(crate::proofs::Decoding::words_read))]
 pub(crate) fn decode(bytes: &[u8], words: &mut [u32])
     requires { 4 * length words.old ≤ length bytes.now }
     ensures { words.new ≡ words_of (length words.old) bytes.now }
 {
-    LittleEndian::read_u32_into(&bytes[..4 * words.len()], words);
+    for (k, place) in words.iter_mut().enumerate() {
+        *place = word_at(bytes, 4 * k);
+    }
 }
 
 impl<'a> Words<'a> {

@@ -5,7 +5,7 @@ use Rattle.model.specs.declared.record.CausalGraph.{CausalGraph}
 use Rattle.model.specs.Fresh.{new_of}
 use Rattle.model.specs.Log.{Fresh, new, after, Call, push, start_run_at, take_changed_from, Log, begin, begin_log, answer, note, after_calls, made_by}
 use Rattle.calls.specs.Words.{operation, list_in, listed, start_size, start_of, call_operation, call_size, call_of, calls_after, fresh_in, calls_in, graph_after, start_words, call_words}
-use Rattle.calls.proofs.Reading.{whole-all}
+use Rattle.calls.proofs.Reading.{whole-all, call_in}
 
 -- A call that ends in a list is whole where other words follow it
 listed_front : (op n : ℕ) (ps ws : List ℕ) → listed (op ∷ n ∷ length ps ∷ (ps ++ ws)) ≡ 3 + length ps
@@ -39,7 +39,7 @@ size-some lent (start_run_at at) = omega arith
 size-some lent take_changed_from = omega arith
 
 -- The calls after n words and m more
-after-add : (n m : ℕ) (ws : List ℕ) → calls_after (n + m) ws ≡ calls_after m (drop n ws)
+pub after-add : (n m : ℕ) (ws : List ℕ) → calls_after (n + m) ws ≡ calls_after m (drop n ws)
 unfolding calls_after
 after-add zero m ws = let e : 0 + m ≡ m = omega arith in ap (λ k. calls_after k ws) e
 after-add (suc n) m [] = refl
@@ -53,10 +53,10 @@ after_front front ws =
     ap (λ k. calls_after k (front ++ ws)) plus ∙ after-add (length front) 0 (front ++ ws) ∙ ap (calls_after 0) (drop-append_seam front ws)
 
 -- The call at the front, and those after it
-front_next : (ws : List ℕ) → 0 < length ws → 0 < call_size ws → calls_after 0 ws ≡ call_of ws ∷ calls_after (call_size ws) ws
+pub front_next : (ws : List ℕ) → 0 < call_size ws → calls_after 0 ws ≡ call_of ws ∷ calls_after (call_size ws) ws
 unfolding calls_after
-front_next [] k h = absurd (omega arith)
-front_next (w ∷ ws) k h = go (call_size (w ∷ ws)) h
+front_next [] h = absurd (omega (arith, call_in []))
+front_next (w ∷ ws) h = go (call_size (w ∷ ws)) h
   where
     go : (s : ℕ) → 0 < s → elim s [ zero ↦ [] | suc n ↦ call_of (w ∷ ws) ∷ calls_after n ws ] ≡ call_of (w ∷ ws) ∷ calls_after s (w ∷ ws)
     go zero h = absurd (omega arith)
@@ -68,11 +68,12 @@ module _ (lent : Bool) (c : Call) (ws : List ℕ) where
 
   pub calls_next : calls_after 0 (call_words lent c ++ ws) ≡ c ∷ calls_after 0 ws
   calls_next =
-      front_next (call_words lent c ++ ws) (omega (arith, words_shorter)) (omega (arith, size_front lent c ws, size-some lent c)) ∙
+      front_next (call_words lent c ++ ws) (omega (arith, size_front lent c ws, size-some lent c)) ∙
       ap (λ d. d ∷ calls_after (call_size (call_words lent c ++ ws)) (call_words lent c ++ ws)) (call_front lent c ws) ∙
       ap (λ k. c ∷ calls_after k (call_words lent c ++ ws)) (size_front lent c ws) ∙ ap (λ ds. c ∷ ds) (after_front (call_words lent c) ws)
 
-calls_none : (ws : List ℕ) → call_size ws ≡ 0 → calls_after 0 ws ≡ []
+-- and none
+pub calls_none : (ws : List ℕ) → call_size ws ≡ 0 → calls_after 0 ws ≡ []
 unfolding calls_after
 calls_none [] e = refl
 calls_none (w ∷ ws) e = go (call_size (w ∷ ws)) e
@@ -142,10 +143,24 @@ unfolding after_calls graph_after
 log_free g l [] = refl
 log_free g l (c ∷ cs) = log_free (answer g c).1 (note l c (answer g c).0) cs
 
+pub made_by_lem : (f : Fresh) (cs : List Call) → (made_by f cs).0 ≡ graph_after (begin f).1 cs
+unfolding made_by
+made_by_lem f cs = log_free (begin f).1 (begin_log f (begin f).0) cs
+
 -- The graph of words with no start, and of words with one
 pub none_made : (ws : List ℕ) → start_size ws ≡ 0 → new_of ≡ (made_by (fresh_in ws) (calls_in ws)).0
 unfolding made_by after_calls begin
 none_made ws h = sym (ap (λ f. (made_by f (calls_in ws)).0) (unsaid ws h).0 ∙ ap (λ cs. (made_by new cs).0) (unsaid ws h).1)
+
+pub started : (ws : List ℕ) → 0 < start_size ws → graph_after (begin (start_of ws)).1 (calls_after (start_size ws) ws) ≡ (made_by (fresh_in ws) (calls_in ws)).0
+unfolding fresh_in calls_in
+started ws h = go (start_size ws) h
+  where
+    go : (s : ℕ) → 0 < s →
+        graph_after (begin (start_of ws)).1 (calls_after s ws) ≡
+        (made_by (elim s [ zero ↦ new | suc n ↦ start_of ws ]) (elim s [ zero ↦ [] | suc n ↦ calls_after (suc n) ws ])).0
+    go zero h = absurd (omega arith)
+    go (suc n) h = sym (made_by_lem (start_of ws) (calls_after (suc n) ws))
 
 start_made : (f : Fresh) (ws : List ℕ) →
     graph_after (begin f).1 (calls_after 0 ws) ≡ (made_by (fresh_in (start_words f ++ ws)) (calls_in (start_words f ++ ws))).0

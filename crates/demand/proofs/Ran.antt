@@ -20,14 +20,14 @@ use Rattle.demand.specs.Running.{book_by, Replayed, WalkedOver, BookPrinted}
 
 -- A result that is 01's, of a graph and a log of which the claim holds
 module _ (made : CausalGraph × Log) (C : Claimed made.0 made.1) (rows steps : List ℕ) (x : WalkResult) where
-  replayed : x ≡ replay_of made.0 rows steps → Replayed made rows steps x
+  pub replayed : x ≡ replay_of made.0 rows steps → Replayed made rows steps x
   replayed e = record {
     is = e;
     follows = λ d. subst (λ (y : WalkResult). ReplayFollows made.1 y) (sym e) (C.replays rows steps (ap (λ (y : WalkResult). y.0.outcome) (sym e) ∙ d));
     done = λ p q. ap (λ (y : WalkResult). y.0.outcome) e ∙ C.replay_done rows steps p q;
   }
 
-  walked-over : (a b known first : ℕ) → x ≡ walk_of made.0 a b known first rows steps → WalkedOver made a b known first rows steps x
+  pub walked-over : (a b known first : ℕ) → x ≡ walk_of made.0 a b known first rows steps → WalkedOver made a b known first rows steps x
   walked-over a b known first e = record {
     is = e;
     follows = λ d.

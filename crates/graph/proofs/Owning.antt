@@ -1,7 +1,7 @@
 -- The loop over a new run's parents: the run of each held one joins the entries, and what it has seen is kept if it is the most. Assumes
 -- nothing.
 use Rattle.std.proofs.Common.{◌≡◌, refl, sym, ap, ◌∙◌, Bool, true, false, cond, List, [], ◌∷◌, ◌++◌, map, append_assoc, append-nil, ℕ, suc, ◌+◌, ◌<◌, ◌≤◌, max, arith, add-one, length, drop}
-use Rattle.std.proofs.Common.{get_or, set, length-append, drop_of_length-le, drop-cons, eqb}
+use Rattle.std.proofs.Common.{get_or, set, length-append, length-set, drop_of_length-le, drop-cons, eqb}
 use Rattle.lists.specs.Lists.{bit, filter, count, mem, largest, concat}
 use Rattle.lists.specs.Areas.{pad}
 use Rattle.lists.specs.Scans.{last_at_most}
@@ -66,6 +66,15 @@ own-count xs ss n t p = go (is_held (side_in xs n p)) _
         ≡ t.1.count + bit b
     go true u = refl
     go false u = omega arith
+
+-- and the array keeps its length
+pub own-long : (xs ss : List ℕ) (n : ℕ) (t : Owned) (p : ℕ) → length (add_own xs ss n t p).0 ≡ length t.0
+unfolding add_own
+own-long xs ss n t p = go (is_held (side_in xs n p)) _
+  where
+    go : (b : Bool) (u : Own) → length (cond b (set t.0 t.1.count (last_at_most xs p n), u) t).0 ≡ length t.0
+    go true u = length-set t.0 t.1.count (last_at_most xs p n)
+    go false u = refl
 
 pub own-step : (xs ss : List ℕ) (n : ℕ) (t : Owned) (ps : List ℕ) (i : ℕ) → i < length ps →
     own_all xs ss n t (drop i ps) ≡ own_all xs ss n (add_own xs ss n t (get_or ps i 0)) (drop (i + 1) ps)

@@ -1,6 +1,6 @@
 -- Splits in a record's lent arrays: the code's test for a split and its count are the graph's, a turn of the loop over the parents is a
 -- split of the graph that the arrays hold, and what that needs. Assumes nothing.
-use Rattle.std.proofs.Common.{◌≡◌, refl, sym, ap, ◌∙◌, ◌⊎◌, inl, inr, Bool, true, false, cond, not, List, [], ◌∷◌, ℕ, suc, ◌+◌, ◌≤◌, ◌<◌, add-one, arith, length, take, get_or, eqb, eq-eqb, ne_eqb}
+use Rattle.std.proofs.Common.{◌≡◌, refl, sym, ap, ◌∙◌, ◌⊎◌, inl, inr, Bool, true, false, cond, not, List, [], ◌∷◌, ℕ, suc, ◌+◌, ◌≤◌, ◌<◌, ◌^◌, add-one, arith, length, take, get_or, eqb, eq-eqb, ne_eqb}
 use Rattle.lists.specs.Lists.{bit, count, filter, rising}
 use Rattle.lists.specs.Areas.{pad}
 use Rattle.lists.specs.Scans.{last_at_most}
@@ -169,6 +169,11 @@ module _ (g : CausalGraph) (x : Parts) (good : Held (with_parts g x)) where
             ap (with_parts g) (sym (after_no x p e)) ∙ good.stored ∙ ap store (sym (after-stays (view (with_parts g x)) p (sym needs_here ∙ e)))
         go true e =
             ap (with_parts g) (sym (after_yes x _ p _ refl e refl)) ∙ with_split p (placed (with_parts g x) good p room (sym needs_here ∙ e))
+
+-- `changed_from` of a record that is held fits
+pub changed-fits : (g : CausalGraph) (x : Parts) → Held (with_parts g x) → x.counts.changed < 2 ^ 32
+unfolding with_parts view
+changed-fits g x good = omega (arith, good.formed.changed, runs-view (with_parts g x) good, (facts (with_parts g x) good).runs)
 
 -- The record itself as the arrays
 

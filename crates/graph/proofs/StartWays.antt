@@ -1,5 +1,6 @@
 -- The ways out of a run start and of a take, each as one law in the words of the code's tests. Assumes nothing.
-use Rattle.std.proofs.Common.{◌≡◌, refl, sym, ap, ◌∙◌, Bool, true, false, not, ℕ, suc, ◌+◌, ◌<◌, ◌≤◌, arith, get_or, lt-ltb, le-ltb, eq-eqb, ne_eqb}
+use Rattle.std.proofs.Common.{◌≡◌, refl, sym, ap, ◌∙◌, Bool, true, false, not, ℕ, suc, ◌+◌, ◌<◌, ◌≤◌, arith, take, get_or, lt-ltb, le-ltb, eq-eqb, ne_eqb}
+use Rattle.lists.specs.Lists.{mem}
 use Rattle.lists.proofs.Truth.{false_true}
 use Rattle.model.specs.declared.record.CausalGraph.{CausalGraph}
 use Rattle.model.specs.declared.answers.Refusal.TheVariants.{Broken, TooManyRuns, TooManyEntries}
@@ -14,7 +15,8 @@ use Rattle.model.proofs.Siding.{run-told}
 use Rattle.model.proofs.Stored.{held-store}
 use Rattle.model.proofs.FormedCalls.{start-formed, start-limits, starting-out, starting_in_lem, in_there, in_alone, in_splits}
 use Rattle.model.proofs.Sides.{sides}
-use Rattle.graph.proofs.Views.{runs-view, entries-view, tips_view, marks-view, start-view, starts-pad, heads-pad, parents-pad, frontier-pad, seen-pad, marks-pad}
+use Rattle.model.proofs.Lasting.{marks_list as marks-mem}
+use Rattle.graph.proofs.Views.{runs-view, entries-view, tips_view, marks-view, start-view, marks_list, starts-pad, heads-pad, parents-pad, frontier-pad, seen-pad, marks-pad}
 use Rattle.std.specs.Prelude.{Ok, Err}
 use Rattle.model.specs.Answers.{Started, Taken}
 
@@ -141,6 +143,11 @@ module _ (g : CausalGraph) (held : Held g) (at run : ℕ) (there : side (view g)
           let done = split_done (view g) (omega (arith, runs-view g held)) (omega (arith, entries-view g held)) in
           rw (e, ← is-run) (held-store (split (view g) (containing (view g) at) at) (start-formed (view g) held.formed at parts)
           (start-limits (view g) held.formed held.limits at parts done))
+
+-- A run is marked exactly if it is among the marks
+pub marked-mem : (g : CausalGraph) → Held g → (run : ℕ) → run < g.run_count →
+    mem run (take g.mark_count g.critical_versions) ≡ marked (view g) run
+marked-mem g held run h = ap (mem run) (sym (marks_list g held)) ∙ marks-mem (view g) run (omega (arith, runs-view g held))
 
 -- A run alone: marked, and the last or before a marked one
 module _ (g : Graph) (r : ℕ) where

@@ -91,6 +91,10 @@ module _ (g : CausalGraph) (held : Held g) where
   unfolding view
   frontier_list = refl
 
+  pub seen_list : (view g).seen ≡ take g.run_count g.seen_prefix_len
+  unfolding view
+  seen_list = refl
+
   pub changed-view : (view g).changed ≡ g.changed_from.0
   unfolding view
   changed-view = refl

@@ -67,9 +67,8 @@ pub fn parents(g: CausalGraph, run: EventRunIndex) -> Result<ParentRuns, Refusal
     })
 }
 
-// Where an event lies, by the rising starts of the runs and the end after them. No other function compares an event with the first held
-// one or with the number of events to tell that. It looks from the end on, and not by halves: most events that are asked for are recent.
-pub(crate) fn containing_in(starts: &[u32], event: EventIndex) -> Containing
+// Where an event lies, by a look from the end of the starts on, and not by halves: most events that are asked for are recent.
+fn from_the_end(starts: &[u32], event: EventIndex) -> Containing
     requires some { 0 < length starts.now }
     requires few { length starts.now ≤ max_starts }
     requires rises { rising starts.now ≡ true }
@@ -82,6 +81,20 @@ pub(crate) fn containing_in(starts: &[u32], event: EventIndex) -> Containing
         return Containing::Unknown;
     }
     Containing::Run(EventRunIndex(place as u32))
+}
+
+// Where an event lies, by the rising starts of the runs and the end after them. No other function compares an event with the first held
+// one or with the number of events to tell that. One before the graph is told by the first start alone, however many runs there are.
+pub(crate) fn containing_in(starts: &[u32], event: EventIndex) -> Containing
+    requires some { 0 < length starts.now }
+    requires few { length starts.now ≤ max_starts }
+    requires rises { rising starts.now ≡ true }
+    ensures { result ≡ containing_at (side_in starts.now (length starts.now - 1) event.0) }
+{
+    if event.0 < starts[0] {
+        return Containing::Before;
+    }
+    from_the_end(starts, event)
 }
 
 // The run that holds an event, or on which side of the graph it lies.

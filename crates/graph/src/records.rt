@@ -1,5 +1,5 @@
 // Records of words written into a lent list, one after the other.
-ghost use Rattle.std.specs.Prelude.{◌≡◌, ◌<◌, Err};
+ghost use Rattle.std.specs.Prelude.{◌≡◌, ◌<◌, Ok, Err};
 ghost use Rattle.graph.specs.Records.{state, after, same_list, blank, put};
 
 use model::{Refusal, Written};
@@ -19,6 +19,14 @@ impl<'a> Records<'a> {
         ensures begun { state result ≡ (blank, list.old) }
     {
         Records { list, count: 0 }
+    }
+
+    // So many written already.
+    pub fn going_on(list: &'a mut [u32], count: usize) -> Records<'a>
+        ensures over { result.list.ghost_name ≡ list.entry.ghost_name }
+        ensures begun { state result ≡ (record { count = count; outcome = Ok tt }, list.old) }
+    {
+        Records { list, count }
     }
 
     // One record after the others, if it fits.

@@ -23,6 +23,10 @@ within-after a b r p = rw (le-ltb r b p) (and_false (leb a r))
 pub within_true : (a b r : ℕ) → within (a, b) r ≡ true → (a ≤ r) × (r < b)
 within_true a b r h = (leb-true a r (and_left (leb a r) (ltb r b) h), ltb-true r b (and_right (leb a r) (ltb r b) h))
 
+-- From 0 on
+pub within-zero : (n r : ℕ) → within (0, n) r ≡ ltb r n
+within-zero n r = rw (le-leb 0 r (omega arith))
+
 -- No number lies between a bound and itself
 pub none_within : (a r : ℕ) → within (a, a) r ≡ false
 none_within a r = go (lt_or_le r a)

@@ -1,5 +1,5 @@
 -- Filters of a list that grows at its end. Assumes nothing.
-use Rattle.std.proofs.Common.{◌≡◌, refl, Bool, true, false, not, cond, List, [], ◌∷◌, ◌++◌, ℕ, ◌+◌, ◌≤◌, ◌<◌, add-one, arith, length, take, get_or, length-take, take-suc, eqb}
+use Rattle.std.proofs.Common.{◌≡◌, refl, ap, ◌∙◌, Bool, true, false, not, cond, List, [], ◌∷◌, ◌++◌, ℕ, ◌+◌, ◌≤◌, ◌<◌, add-one, arith, length, take, get_or, length-take, take-suc, eqb}
 use Rattle.std.specs.List.{list_any}
 use Rattle.lists.specs.Lists.{mem, filter}
 use Rattle.lists.proofs.Counts.{filter-length}
@@ -22,9 +22,13 @@ filter_snoc p (y ∷ ys) x = rw (filter_snoc p ys x) (go (p y) (p x))
 pub filter-first : (p : ℕ → Bool) (a : List ℕ) (i : ℕ) → length (filter p (take i a)) ≤ i
 filter-first p a i = omega (arith, filter-length p (take i a), length-take i a)
 
--- A turn of a filter: one item more is asked, and kept where it is not among the numbers `ps`
-pub keep_turn : (ps a : List ℕ) (i : ℕ) (kept : List ℕ) (found : Bool) → i < length a → kept ≡ filter (λ e. not (mem e ps)) (take i a) →
+-- A turn of a filter: the next number is added where it passes
+pub keep_turn : (p : ℕ → Bool) (a : List ℕ) (i : ℕ) (kept : List ℕ) (t : Bool) → i < length a →
+    t ≡ p (get_or a i 0) → kept ≡ filter p (take i a) → cond t (kept ++ get_or a i 0 ∷ []) kept ≡ filter p (take (i + 1) a)
+keep_turn p a i kept t h e q = rw (q, e, add-one i, take-suc a i 0 h, filter_snoc p (take i a) (get_or a i 0))
+
+-- where it is asked whether it is not among the numbers `ps`
+pub keep_other : (ps a : List ℕ) (i : ℕ) (kept : List ℕ) (found : Bool) → i < length a → kept ≡ filter (λ e. not (mem e ps)) (take i a) →
     found ≡ list_any (λ y. eqb y (get_or a i 0)) ps →
     cond (not found) (kept ++ get_or a i 0 ∷ []) kept ≡ filter (λ e. not (mem e ps)) (take (i + 1) a)
-keep_turn ps a i kept found h e f =
-    rw (f, mem-list_any (get_or a i 0) ps, e, add-one i, take-suc a i 0 h, filter_snoc (λ e. not (mem e ps)) (take i a) (get_or a i 0))
+keep_other ps a i kept found h e f = keep_turn (λ e. not (mem e ps)) a i kept (not found) h (ap not (f ∙ mem-list_any (get_or a i 0) ps)) e

@@ -3,8 +3,8 @@ use Rattle.std.proofs.Common.{◌≡◌, refl, sym, ap, ◌∙◌, Bool, true, f
 use Rattle.std.proofs.Common.{length-append, length-take, length-drop, take-append-drop, take_at, drop_at, leb, eqb, leb-true, eqb-true}
 use Rattle.std.proofs.Math.Nat.{sub-zero}
 use Rattle.std.proofs.lemmas.List.{drop-replicate}
-use lib.ListN.{length-replicate}
-use lib.Seq.{set_at}
+use lib.ListN.{length-replicate, get_or-append}
+use lib.Seq.{set_at, get_or-append-add, get_or-drop}
 use Rattle.lists.specs.Lists.{all, concat}
 use Rattle.lists.specs.Areas.{zeros, pad, over, fitting}
 use Rattle.lists.specs.Padded.{length-area}
@@ -64,7 +64,11 @@ padded m n a l q h e t =
     let k : length (drop n a) ≡ m - length l = rw (← t) (simp (length-take, length-drop) (omega arith)) in
     sym (take-append-drop n a) ∙ rw (← k, ← zeros_are (drop n a) e, t)
 
--- Words written from the start of a lent list: the length, the words in front, the rest behind
+-- Words written from the start of a lent list: none, the length, the words in front, the rest behind
+pub over_none : (lent : List ℕ) → over [] lent ≡ lent
+unfolding over
+over_none lent = refl
+
 pub length_over : (words lent : List ℕ) → length words ≤ length lent → length (over words lent) ≡ length lent
 unfolding over
 length_over words lent h = simp (length-append, length-drop) (omega arith)
@@ -76,6 +80,18 @@ take-over words lent n e = take_at words (drop (length words) lent) n e
 pub drop-over : (words lent : List ℕ) (n : ℕ) → length words ≡ n → drop n (over words lent) ≡ drop n lent
 unfolding over
 drop-over words lent n e = drop_at words (drop (length words) lent) n e ∙ ap (λ (k : ℕ). drop k lent) e
+
+-- A read of what was written
+pub get_over : (words lent : List ℕ) (k : ℕ) → k < length words → get_or (over words lent) k 0 ≡ get_or words k 0
+unfolding over
+get_over words lent k h = get_or-append words (drop (length words) lent) 0 k h
+
+-- A read past what was written
+pub get_past-over : (words lent : List ℕ) (k : ℕ) → length words ≤ k → get_or (over words lent) k 0 ≡ get_or lent k 0
+unfolding over
+get_past-over words lent k h =
+    let e : length words + (k - length words) ≡ k = omega arith in
+    ap (λ (j : ℕ). get_or (words ++ drop (length words) lent) j 0) (sym e) ∙ get_or-append-add words (drop (length words) lent) (k - length words) 0 ∙ get_or-drop (length words) lent (k - length words) 0 ∙ ap (λ (j : ℕ). get_or lent j 0) e
 
 -- The whole records that fit take no more room than there is
 pub fitting_fit : (room : ℕ) (rs : List (List ℕ)) → length (concat (fitting room rs)) ≤ room

@@ -1,5 +1,5 @@
 // A list by value.
-ghost use Rattle.std.specs.Prelude.{◌≡◌, [], ◌∷◌, ◌++◌, ◌<◌, ◌≤◌, cond, length};
+ghost use Rattle.std.specs.Prelude.{◌≡◌, [], ◌∷◌, ◌++◌, ◌+◌, ◌<◌, ◌≤◌, cond, length, set};
 ghost use Rattle.lists.specs.Areas.{pad};
 ghost use Rattle.lists.specs.Scans.{max_kept};
 
@@ -7,6 +7,19 @@ use std::marker::Model;
 
 // How many numbers a list by value has room for.
 pub const MAX_KEPT: usize = 512;
+
+// Where a test passes, one number more in a lent list of which the first n places are in use; answers how many are then.
+pub fn put_if(b: bool, items: &mut [u32], n: usize, v: u32) -> usize
+    requires { n < length items.old }
+    ensures list { items.new ≡ cond b (set items.old n v) items.old }
+    ensures count { result ≡ cond b (n + 1) n }
+{
+    if !b {
+        return n;
+    }
+    items[n] = v;
+    n + 1
+}
 
 // A list of at most MAX_KEPT numbers: `count` of them, then zeros.
 #[derive(Clone, Copy)]

@@ -3,12 +3,12 @@
 // Scans, insertions and filters over lists of numbers. What they find and leave is in specs/. It knows nothing of graphs.
 mod kept;
 
-ghost use Rattle.std.specs.Prelude.{◌≡◌, [], true, not, ◌&&◌, ℕ, ◌+◌, ◌<◌, ◌≤◌, ◌^◌, ◌-◌, get_or, length, take};
+ghost use Rattle.std.specs.Prelude.{◌≡◌, [], true, not, ◌&&◌, ℕ, ◌+◌, ◌<◌, ◌≤◌, ◌^◌, ◌-◌, get_or, length, take, drop};
 ghost use Rattle.lists.specs.Lists.{rising, below, mem, filter};
 ghost use Rattle.lists.specs.Areas.{zeros, pad, climbs, groups, part};
 ghost use Rattle.lists.specs.Scans.{max_kept, grow, insert, groups_fit, between};
 
-pub use kept::{Kept, MAX_KEPT};
+pub use kept::{Kept, MAX_KEPT, put_if};
 
 // An array of zeros.
 pub fn zeros<const N: usize>() -> [u32; N]
@@ -35,6 +35,16 @@ pub fn is_zero(s: &[u32]) -> bool
     ensures { result ≡ zeros s.now }
 {
     all_below(s, 1)
+}
+
+// Whether every number from place `from` on is 0, as it is of a place past the end.
+pub fn is_zero_from(s: &[u32], from: usize) -> bool
+    ensures { result ≡ zeros (drop from s.now) }
+{
+    if s.len() <= from {
+        return true;
+    }
+    is_zero(&s[from..])
 }
 
 // Whether the numbers are below `limit`.

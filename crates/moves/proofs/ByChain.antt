@@ -1,10 +1,12 @@
 -- A visit's records as code writes them, chain by chain. Assumes nothing.
-use Rattle.std.proofs.Common.{◌≡◌, sym, ap, ◌∙◌, List, [], ◌∷◌, ◌++◌, ℕ, suc, ◌+◌, ◌-◌, ◌≤◌, ◌<◌, min, arith, length, get_or, take, drop, length-take, length-drop, get_or-take, ext_get_or}
+use Rattle.std.proofs.Common.{◌≡◌, sym, ap, ◌∙◌, ◌⊎◌, inl, inr, List, [], ◌∷◌, ◌++◌, ℕ, suc, ◌+◌, ◌-◌, ◌≤◌, ◌<◌, min, arith, length, get_or, take, drop, length-take, length-drop, get_or-take, get_or-drop, ext_get_or}
+use lib.ListN.{get_or-eq_default}
 use Rattle.lists.specs.Areas.{part}
+use Rattle.lists.proofs.Truth.{lt_or_le}
 use Rattle.moves.specs.declared.writing.Kind.{Kind}
 use Rattle.moves.specs.declared.writing.Kind.TheVariants.{Retreat, Advance, Apply}
 use Rattle.moves.specs.Emit.{Rec, Writing, step_of, emit, emit_one}
-use Rattle.moves.specs.Stretches.{stretches}
+use Rattle.moves.specs.Stretches.{Below, stretches}
 use Rattle.moves.specs.Moves.{runs_of, moves_from, visit_of}
 use Rattle.moves.proofs.Emitting.{emit-append}
 
@@ -39,6 +41,14 @@ pub runs_none : (w : Writing) (st : List ℕ) (k : Kind) (b : ℕ) (members begi
 unfolding stretches emit runs_of part
 runs_none w st k b members begins from to c h =
     let e : get_or begins c 0 + get_or from c 0 - (get_or begins c 0 + get_or to c 0) ≡ 0 = omega arith in rw e
+
+-- A slice of numbers below n
+pub slice_below : (n k a : ℕ) (l : List ℕ) → 0 < n → Below n l → Below n (take k (drop a l))
+slice_below n k a l p h i = go (lt_or_le i k)
+  where
+    go : (i < k) ⊎ (k ≤ i) → get_or (take k (drop a l)) i 0 < n
+    go (inl q) = rw (get_or-take k (drop a l) i 0 q, get_or-drop a l i 0) (h (a + i))
+    go (inr q) = rw (get_or-eq_default (take k (drop a l)) 0 {n = i} (omega (arith, length-take k (drop a l)))) p
 
 -- A chain's moves written, and the rest after them, are the whole
 pub moves_next : (w : Writing) (st : List ℕ) (k : Kind) (b : ℕ) (members begins from to : List ℕ) (c n : ℕ) → c < n →

@@ -13,7 +13,7 @@ use Rattle.moves.specs.declared.writing.Kind.{Kind}
 use Rattle.moves.specs.declared.writing.Kind.TheVariants.{Retreat, Advance, Apply}
 use Rattle.moves.specs.Emit.{Rec, step_of}
 use Rattle.moves.specs.Stretches.{span_of, pick_l, stretch_from, stretches}
-use Rattle.moves.specs.Moves.{runs_of, moves_from, visit_of, rec_of, recs}
+use Rattle.moves.specs.Moves.{Inside, runs_of, moves_from, visit_of, rec_of, recs}
 use Rattle.tables.proofs.Prefixes.{Falls}
 use Rattle.moves.proofs.Pieces.{filter_falls, piece}
 
@@ -97,6 +97,11 @@ abbrev pub Prefixed : List (List ℕ) → List ℕ → Type 0
 Prefixed C s = (c : ℕ) → c < length C → Falls (λ m. mem m s) (at C c)
 
 module _ (C : List (List ℕ)) (begins members : List ℕ) (L : Listed C begins members) where
+  -- What a set has of a chain lies in the members
+  pub inside : (s version : List ℕ) → Reaches C s version → (c : ℕ) → c < length C → Inside members begins version c
+  unfolding Reaches
+  inside s version f c l = omega (arith, f c l, count_le (λ m. mem m s) (at C c), L.fits c l)
+
   -- All chains' moves
   module _ (gst : List ℕ) (k : Kind) (step : ℕ → ℕ → Step) (K : Recorded gst k step) (b : ℕ) (s t from to : List ℕ)
       (ps : Prefixed C s) (pt : Prefixed C t) (f : Reaches C s from) (g : Reaches C t to) where

@@ -4,7 +4,7 @@ use Rattle.model.specs.declared.answers.Walked.{Walked}
 use Rattle.model.specs.declared.answers.Refusal.TheVariants.{ListTooShort}
 use Rattle.model.specs.Refusals.{Outcome}
 use Rattle.moves.specs.declared.writing.Kind.{Kind}
-use Rattle.moves.specs.declared.writing.Kind.TheVariants.{Retreat, Advance, Apply, Open}
+use Rattle.moves.specs.declared.writing.Kind.TheVariants.{Retreat, Advance, Apply, Open, Other}
 use Rattle.moves.specs.declared.writing.Steps.{Steps}
 
 -- The word that stands for a kind of steps
@@ -13,6 +13,7 @@ kind_word Retreat = 0
 kind_word Advance = 1
 kind_word Apply = 2
 kind_word Open = 3
+kind_word (Other k) = k
 
 -- A record: a step's kind and its two other words, and the events that it moves
 pub record Rec : Type 0 where

@@ -1,5 +1,5 @@
 -- A visit's records, by the chains' members; the definitions' steps as records. Assumes nothing.
-use Rattle.std.specs.Prelude.{List, [], ◌∷◌, ◌++◌, map, ℕ, zero, suc, ◌+◌, ◌-◌, get_or}
+use Rattle.std.specs.Prelude.{List, [], ◌∷◌, ◌++◌, map, ℕ, zero, suc, ◌+◌, ◌-◌, ◌≤◌, length, get_or}
 use Rattle.lists.specs.Areas.{part}
 use Rattle.model.specs.Steps.{Step, retreat, advance, opened, apply}
 use Rattle.moves.specs.declared.writing.Kind.{Kind}
@@ -10,6 +10,10 @@ use Rattle.moves.specs.Stretches.{stretches}
 -- The runs of chain c in one version and not in the other
 unfoldable pub runs_of : List ℕ → List ℕ → List ℕ → List ℕ → ℕ → List ℕ
 runs_of members begins from to c = part (get_or begins c 0 + get_or to c 0) (get_or begins c 0 + get_or from c 0) members
+
+-- What a version has of chain c lies in the members
+abbrev pub Inside : List ℕ → List ℕ → List ℕ → ℕ → Type 0
+Inside members begins from c = get_or begins c 0 + get_or from c 0 ≤ length members
 
 -- The moves of kind k of n chains from chain c on
 unfoldable pub moves_from : List ℕ → Kind → ℕ → List ℕ → List ℕ → List ℕ → List ℕ → ℕ → ℕ → List Rec

@@ -3,14 +3,32 @@ ghost use Rattle.std.specs.Prelude.{◌≡◌, ◌+◌, ◌*◌, ◌-◌, ◌<�
 
 use model::{Refusal, Walked};
 
-// The kinds of steps, by the words that stand for them in a list. No model::WalkStep: that has its runs, and here a kind is passed on
-// before the runs of its steps are known.
+// The kinds of steps, and any other by its word. No model::WalkStep: that has its runs, and here a kind is passed on before the runs of its
+// steps are known.
 #[derive(Clone, Copy)]
 pub enum Kind {
-    Retreat = 0,
-    Advance = 1,
-    Apply = 2,
-    Open = 3,
+    Retreat,
+    Advance,
+    Apply,
+    Open,
+    Other(u32),
+}
+
+impl Kind {
+    ghost use Rattle.moves.specs.Emit.{kind_word};
+
+    // The word that stands for it in a list.
+    pub fn word(self) -> u32
+        ensures { result ≡ kind_word self }
+    {
+        match self {
+            Kind::Retreat => 0,
+            Kind::Advance => 1,
+            Kind::Apply => 2,
+            Kind::Open => 3,
+            Kind::Other(word) => word,
+        }
+    }
 }
 
 // A lent list, how many steps were written into it, and the events that they move. 128 bits hold the sum of any list's steps, so no function
@@ -21,7 +39,7 @@ pub struct Steps<'a> {
     list: &'a mut [u32],
     count: u64,
     moved: u128,
-    ghost small: { moved ≤ count * 2 ^ 64 },
+    ghost small: { moved < (count + 1) * 2 ^ 64 },
 }
 
 impl<'a> Steps<'a> {
@@ -32,10 +50,18 @@ impl<'a> Steps<'a> {
         ensures over { result.list.ghost_name ≡ list.entry.ghost_name }
         ensures begun { so_far result ≡ (going 0 0, list.old) }
     {
+        Steps::going_on(list, 0, 0)
+    }
+
+    // After so many steps that another writer left in the list, which moved so many events.
+    pub fn going_on(list: &'a mut [u32], count: u64, moved: u64) -> Steps<'a>
+        ensures over { result.list.ghost_name ≡ list.entry.ghost_name }
+        ensures begun { so_far result ≡ (going count moved, list.old) }
+    {
         Steps {
             list: list,
-            count: 0,
-            moved: 0,
+            count: count,
+            moved: u128::from(moved),
         }
     }
 
@@ -62,7 +88,7 @@ impl<'a> Steps<'a> {
         ensures same_list { same_list self.new self.old }
         ensures steps_after { written result self.new ≡ emit_one (so_far self.old) (step_of kind a b events) }
     {
-        self.put([kind as u32, a, b], events)
+        self.put([kind.word(), a, b], events)
     }
 
     // Apply of each run from `first` up to `end`.

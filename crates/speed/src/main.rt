@@ -6,7 +6,6 @@
 // ranges' words, and these. At most 16,384 words. A failed read or write ends it with an error.
 mod script;
 
-use byteorder::{ByteOrder, LittleEndian};
 use model::{CausalGraph, Walked, Written};
 use script::{Script, Task, WORDS};
 use std::{fmt, io};
@@ -132,7 +131,9 @@ fn main(rt: HostRuntime) -> io::Result<()> {
     let mut rows = [0; MAX_ROWS];
     let mut steps = [0; MAX_STEPS];
     stdio::fill(&mut rt.stdin(), &mut bytes).gave()?;
-    LittleEndian::read_u32_into(&bytes, &mut words);
+    for (word, b) in words.iter_mut().zip(bytes.chunks_exact(4)) {
+        *word = u32::from_le_bytes([b[0], b[1], b[2], b[3]]);
+    }
     let told = run(&Script::new(&words), &mut rows, &mut steps);
     println!(rt; "{told}")
 }

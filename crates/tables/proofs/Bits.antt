@@ -1,6 +1,6 @@
 -- The bits of words of any width: joined, counted, and set one by one. Assumes nothing.
 use Rattle.std.proofs.Common.{◌≡◌, refl, sym, ap, ap₂, ◌∙◌, Bool, true, false, ◌||◌, List, [], ◌∷◌, ◌++◌, ℕ, zero, suc, ◌+◌, ◌*◌, ◌/◌, ◌%◌, ◌^◌, ◌<◌, max, arith, pow-suc, zero-add, suc-add}
-use Rattle.std.proofs.Common.{zero-mul, suc-mul, length, get_or, set, replicate, length-append, eqb, bit_or}
+use Rattle.std.proofs.Common.{zero-mul, suc-mul, length, get_or, set, drop, replicate, length-append, drop-cons, drop_of_length-le, add-one, ◌≤◌, eqb, bit_or}
 use lib.ListN.{replicate-append-replicate}
 use lib.Seq.{set-append_left}
 use lib.Bits.{or_step, or_zero_r}
@@ -94,6 +94,15 @@ bits_counted k (x ∷ xs) f =
     sum_by-cons count_ones x xs
     ∙ ap₂ (λ (a b : ℕ). a + b) (sym (bits_ones k x (f 0 (omega arith)))) (bits_counted k xs (λ i h. f (suc i) (omega arith)))
     ∙ sym (count-append (bits_of k x) (bits_in k xs))
+
+-- The bits counted word by word
+pub count_next : (k : ℕ) (y : List ℕ) (i : ℕ) → i < length y → count (λ b. b) (bits_in k (drop i y)) ≡ count (λ b. b) (bits_of k (get_or y i 0)) + count (λ b. b) (bits_in k (drop (i + 1) y))
+unfolding bits_in
+count_next k y i h = rw (drop-cons y i 0 h, add-one i) (count-append (bits_of k (get_or y i 0)) (bits_in k (drop (suc i) y)))
+
+pub count_none : (k : ℕ) (y : List ℕ) (i : ℕ) → length y ≤ i → count (λ b. b) (bits_in k (drop i y)) ≡ 0
+unfolding bits_in count
+count_none k y i h = rw (drop_of_length-le y h)
 
 -- ---- a bit set
 

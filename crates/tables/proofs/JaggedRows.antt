@@ -5,7 +5,7 @@ use Rattle.std.proofs.lemmas.List.{ext_get_or, take_more}
 use Rattle.std.proofs.Math.Seq.{take_all}
 use Rattle.lists.specs.Lists.{concat}
 use Rattle.lists.specs.Areas.{part}
-use Rattle.lists.proofs.Groups.{concat-append, concat-split}
+use Rattle.lists.proofs.Groups.{concat-append, concat-split, length_part}
 use Rattle.model.specs.History.{at}
 use Rattle.tables.specs.Laid.{grouped, Sound}
 use Rattle.tables.specs.Jagged.{rows_in, Lies, Below}
@@ -44,6 +44,25 @@ rows_more rows r lt =
 
 pub rows-most : (rows : List (List ℕ)) (r : ℕ) → length (concat (take r rows)) ≤ length (concat rows)
 rows-most rows r = omega (arith, ap length (concat-split r rows), length-append (concat (take r rows)) (concat (drop r rows)))
+
+-- The items of rows that lie in a list are no more than the last start says
+pub rows-end : (starts items : List ℕ) (n : ℕ) → Lies starts items n → length (concat (rows_in starts items n)) ≤ get_or starts n 0
+rows-end starts items n lies =
+    omega (arith, up n (omega arith), ap (λ (l : List (List ℕ)). length (concat l)) (take_all n (rows_in starts items n) (omega (arith, rows-number starts items n))))
+  where
+    up : (r : ℕ) → r ≤ n → length (concat (take r (rows_in starts items n))) ≤ get_or starts r 0
+    up zero le = unfold concat in omega arith
+    up (suc r) le =
+        let e : suc r ≡ r + 1 = omega arith in
+        let lt : r < n = omega arith in
+        rw e
+        (omega (
+          arith,
+          up r (omega arith),
+          rows_more (rows_in starts items n) r (omega (arith, rows-number starts items n)),
+          ap length (row_part starts items n r lt),
+          length_part (get_or starts r 0) (get_or starts (r + 1) 0) items (lies.rise r lt) (lies.inside r lt),
+        ))
 
 -- Of starts that are long enough, the rows are the groups
 pub rows_grouped : (starts items : List ℕ) (n : ℕ) → n < length starts → rows_in starts items n ≡ grouped starts items n

@@ -67,3 +67,11 @@ putting_next x ps s₀ s i lt P =
 
 pub putting_end : (x : ℕ) (ps : List ℕ) (s₀ s : Placing) (i : ℕ) → i ≡ length ps → Putting x ps s₀ s i → s ≡ put_all x s₀ ps
 putting_end x ps s₀ s i e P = sym (ap (put_all x s) (ap (λ (k : ℕ). drop k ps) e ∙ drop-length ps) ∙ put-none x s) ∙ P.left
+
+-- Lengths stay
+pub put-sizes : (x : ℕ) (ps : List ℕ) (s : Placing) → (length (put_all x s ps).0 ≡ length s.0) × (length (put_all x s ps).1 ≡ length s.1)
+unfolding put_all
+put-sizes x [] s = (refl, refl)
+put-sizes x (p ∷ ps) s =
+    let h : (length (put_all x (put_one x s p) ps).0 ≡ length (put_one x s p).0) × (length (put_all x (put_one x s p) ps).1 ≡ length (put_one x s p).1) = put-sizes x ps (put_one x s p) in
+    (h.0 ∙ length-set s.0 p (get_or s.0 p 0 + 1), h.1 ∙ length-set s.1 (get_or s.0 p 0) x)

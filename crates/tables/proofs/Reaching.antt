@@ -10,7 +10,7 @@ use Rattle.model.specs.History.{at, histories}
 use Rattle.model.proofs.Histories.{Below}
 use Rattle.tables.specs.Laid.{chs, chain_of, place_of, row_at}
 use Rattle.tables.specs.Tables.{Reaches}
-use Rattle.tables.specs.Reached.{started, arrived, Holds}
+use Rattle.tables.specs.Reached.{started, arrived, Holds, Standing}
 use Rattle.tables.proofs.Chaining.{cnt, chain-short, place_at}
 use Rattle.tables.proofs.Holding.{own, own_here, own_there, row-later}
 use Rattle.tables.proofs.Standing.{chain_in, first-own, first-other, history-own}
@@ -23,6 +23,14 @@ set-read l k v i lt = go (eq_or-not i k)
     go : (i ≡ k) ⊎ (i ≡ k → ⊥) → get_or (set l k v) i 0 ≡ cond (eqb k i) v (get_or l i 0)
     go (inl e) = rw (eq-eqb k i (sym e), e) (get_or-set_same l k v 0 lt)
     go (inr n) = rw (ne_eqb k i (λ e. n (sym e))) (get_or-set_other l k i v 0 n)
+
+-- One more of the first n words
+pub holds-next : (f : ℕ → ℕ) (l : List ℕ) (n v : ℕ) → n < length l → v ≡ f n → Holds f n l → Holds f (n + 1) (set l n v)
+holds-next f l n v lt e h c cl = go (eq_or-not c n)
+  where
+    go : (c ≡ n) ⊎ (c ≡ n → ⊥) → get_or (set l n v) c 0 ≡ f c
+    go (inl q) = rw q (get_or-set_same l n v 0 lt ∙ e)
+    go (inr q) = get_or-set_other l n c v 0 q ∙ h c (omega arith)
 
 -- One more of the first runs
 pub started-next : (chain place l : List ℕ) (r n : ℕ) → get_or chain r 0 < length l → Holds (started chain place r) n l →
@@ -88,6 +96,10 @@ module _ (pss : List (List ℕ)) (b : Below pss) where
 
     pub place-fits : (m : ℕ) → m < length pss → get_or place m 0 < length pss
     place-fits m lt = omega (arith, places m lt, (place_at H m (length pss) lt).0, chain-short H (length pss) (chain_of H m))
+
+    -- the first runs stand as `start_version` needs it
+    pub first_standing : (known : ℕ) → known ≤ length pss → length pss ≤ 512 → Standing chain place (length C) known
+    first_standing known le few = record { chains = λ r lt. chain_fits r (omega arith); places = λ r lt. omega (arith, place-fits r (omega arith)) }
 
     started-is : (k c : ℕ) → k ≤ length pss → started chain place k c ≡ cnt (upto k) (at C c)
     unfolding started

@@ -1,13 +1,15 @@
 -- There is room for every run's kids: where they begin climbs, and there are no more of them than parents. Assumes nothing.
-use Rattle.std.proofs.Common.{◌≡◌, refl, ap, ◌⊎◌, inl, inr, List, [], ◌∷◌, ◌++◌, ℕ, zero, suc, ◌+◌, ◌≤◌, arith, length, take, replicate, length-append, eqb, eq-eqb, ne_eqb}
+use Rattle.std.proofs.Common.{◌≡◌, refl, ap, ◌⊎◌, inl, inr, List, [], ◌∷◌, ◌++◌, ℕ, zero, suc, ◌+◌, ◌≤◌, arith, length, get_or, take, replicate, length-append, eqb, eq-eqb, ne_eqb}
 use lib.ListN.{length-replicate}
 use Rattle.lists.specs.Lists.{bit, count, occurs, concat}
 use Rattle.lists.proofs.Truth.{eq_or-not}
 use Rattle.model.specs.History.{at}
+use Rattle.tables.specs.Laid.{grouped, Sound}
 use Rattle.tables.specs.Indexed.{sum_below}
 use Rattle.tables.specs.Counted.{tally, kids, kids_from}
 use Rattle.tables.proofs.Counting.{tally-none, tally-next}
-use Rattle.tables.proofs.JaggedRows.{rows_more, rows-most}
+use Rattle.tables.proofs.ParentGroups.{groups-size}
+use Rattle.tables.proofs.JaggedRows.{rows_more, rows-most, items-most}
 
 -- Sums of no terms above 0, of terms added, and of more terms
 sum-none : (n : ℕ) → sum_below (λ i. 0) n ≡ 0
@@ -64,6 +66,11 @@ tally-all pss n (suc x) le =
 pub kids-most : (pss : List (List ℕ)) (n : ℕ) → n ≤ length pss → kids_from pss n n ≤ length (concat pss)
 unfolding kids_from
 kids-most pss n le = omega (arith, tally-all pss n n le, rows-most pss n)
+
+pub kids_fit : (heads items : List ℕ) (n : ℕ) → Sound heads items n → kids_from (grouped heads items n) n n ≤ get_or heads n 0
+kids_fit heads items n sound =
+    let e : length (grouped heads items n) ≡ n = groups-size heads items n sound.long in
+    omega (arith, kids-most (grouped heads items n) n (omega (arith, e)), items-most heads items n sound)
 
 -- Where kids begin
 pub begin-is : (pss : List (List ℕ)) (n r : ℕ) → sum_below (λ k. tally pss k n) r ≡ kids_from pss n r

@@ -1,8 +1,9 @@
 -- Prefix sums and scattered places, written one by one. Assumes nothing.
 use Rattle.std.proofs.Common.{◌≡◌, refl, sym, ap, ap₂, ◌∙◌, ◌⊎◌, inl, inr, List, [], ◌∷◌, ℕ, zero, suc, ◌+◌, ◌≤◌, ◌<◌, arith, add-one, length, get_or, take, set, get_or-set_same}
-use Rattle.std.proofs.Common.{get_or-set_other, get_or-take, length-take-le}
+use Rattle.std.proofs.Common.{get_or-set_other, get_or-take, length-take-le, length-set}
+use lib.ListN.{get_or-eq_default}
 use Rattle.lists.specs.Lists.{sum, from}
-use Rattle.lists.proofs.Truth.{eq_or-not}
+use Rattle.lists.proofs.Truth.{eq_or-not, lt_or_le}
 use Rattle.model.specs.History.{at}
 use Rattle.tables.specs.Indexed.{sum_below, Summed, Bounded}
 
@@ -37,6 +38,24 @@ bound_set out c v b lt e old k = go (eq_or-not k c)
     go : (k ≡ c) ⊎ (k ≡ c → ⊥) → get_or (set out c v) k 0 ≤ b
     go (inl q) = rw (q, get_or-set_same out c v 0 lt) e
     go (inr n) = rw (get_or-set_other out c k v 0 n) (old k)
+
+-- and at any place
+pub bound_next : (out : List ℕ) (c v b : ℕ) → ((k : ℕ) → get_or out k 0 ≤ b) → v ≤ b → (k : ℕ) → get_or (set out c v) k 0 ≤ b
+bound_next out c v b old e k = go (eq_or-not k c) (lt_or_le c (length out))
+  where
+    go : (k ≡ c) ⊎ (k ≡ c → ⊥) → (c < length out) ⊎ (length out ≤ c) → get_or (set out c v) k 0 ≤ b
+    go (inl q) (inl l) = rw (q, get_or-set_same out c v 0 l) e
+    go (inl q) (inr l) = rw (get_or-eq_default (set out c v) 0 {n = k} (omega (arith, length-set out c v))) (omega arith)
+    go (inr n) l = rw (get_or-set_other out c k v 0 n) (old k)
+
+-- Runs scattered, one more
+pub scatter_next : (out : List ℕ) (p : ℕ → ℕ) (m : ℕ) → p m < length out → ((k : ℕ) → k < m → p k ≡ p m → ⊥) → ((k : ℕ) → k < m → get_or out (p k) 0 ≡ k) →
+    (k : ℕ) → k < m + 1 → get_or (set out (p m) m) (p k) 0 ≡ k
+scatter_next out p m lt other old k le = go (eq_or-not k m)
+  where
+    go : (k ≡ m) ⊎ (k ≡ m → ⊥) → get_or (set out (p m) m) (p k) 0 ≡ k
+    go (inl e) = rw e (get_or-set_same out (p m) m 0 lt)
+    go (inr n) = get_or-set_other out (p m) (p k) m 0 (other k (omega arith)) ∙ old k (omega arith)
 
 sum_shift : (f : ℕ → ℕ) (n : ℕ) → sum_below f (suc n) ≡ f 0 + sum_below (λ i. f (suc i)) n
 unfolding sum_below

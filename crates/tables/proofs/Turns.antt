@@ -1,7 +1,7 @@
 -- Turns of the loops that make a run's row, and of a run that is laid. Assumes nothing.
 use Rattle.std.proofs.Common.{◌≡◌, refl, sym, ap, ap₂, ◌∙◌, true, false, List, [], ◌∷◌, ◌++◌, ℕ, zero, suc, ◌+◌, ◌≤◌, ◌<◌, max, add-one, arith, length, get_or, take, drop, set}
 use Rattle.std.proofs.Common.{drop_of_length-le, take-append-drop, drop-cons, take-suc-set, drop-set-lt, ltb, lt-ltb, le-ltb}
-use Rattle.std.proofs.Common.{Bool, cond, eqb, get_or-take, length-take-le}
+use Rattle.std.proofs.Common.{Bool, cond, eqb, ne_eqb, ◌-◌, get_or-take, length-take-le}
 use Rattle.std.specs.Prelude.{Option, Some, None, unwrap_or}
 use Rattle.std.specs.List.{position, position_from, zip}
 use Rattle.std.proofs.lemmas.Iterator.Adapters.{position_from-zero}
@@ -92,6 +92,16 @@ spot_most row lens c (suc k) = go (eqb (get_or row c 0) (get_or lens c 0)) (spot
     go : (t : Bool) → spot_from row lens (c + 1) k ≤ c + 1 + k → cond t c (spot_from row lens (c + 1) k) ≤ c + suc k
     go true h = omega arith
     go false h = omega arith
+
+-- The search goes on from c where the chain does not end there
+pub spot-next : (row lens : List ℕ) (c n : ℕ) → c < n → (get_or row c 0 ≡ get_or lens c 0 → ⊥) → spot_from row lens (c + 1) (n - (c + 1)) ≡ spot_from row lens c (n - c)
+unfolding spot_from
+spot-next row lens c n h ne = let e : n - c ≡ suc (n - (c + 1)) = omega arith in rw (e, ne_eqb (get_or row c 0) (get_or lens c 0) ne)
+
+-- there is none
+pub spot-none : (row lens : List ℕ) (c n : ℕ) → c ≡ n → spot_from row lens c (n - c) ≡ n
+unfolding spot_from
+spot-none row lens c n h = let e : n - c ≡ 0 = omega arith in rw e h
 
 -- so from the first on
 pub spot_found : (row lens : List ℕ) (k : ℕ) (o : Option ℕ) → length row ≡ length lens → o ≡ position (λ p. eqb p.0 p.1) (zip row lens) → k ≡ unwrap_or o (length lens) →

@@ -1,5 +1,5 @@
 -- A run's cover written and weighed, the last run first, gives the weights of the definition. Assumes nothing.
-use Rattle.std.proofs.Common.{◌≡◌, sym, ap, ◌∙◌, Bool, List, map, ℕ, zero, suc, ◌+◌, ◌-◌, ◌*◌, ◌/◌, ◌%◌, min, ◌≤◌, ◌<◌, arith, div-lt_iff_lt-mul, mul-le-mul_right, le_of_eq, le_trans, length}
+use Rattle.std.proofs.Common.{◌≡◌, sym, ap, ◌∙◌, Bool, List, map, ℕ, zero, suc, ◌+◌, ◌-◌, ◌*◌, ◌/◌, ◌%◌, min, ◌^◌, ◌≤◌, ◌<◌, arith, div-lt_iff_lt-mul, mul-le-mul_right, le_of_eq, le_trans, length}
 use Rattle.std.proofs.Common.{get_or, take, drop, length-take, drop-drop, get_or-take}
 use native.Mathlib.Nat.{div-eq_of_lt-le}
 use lib.ListN.{get_or-map}
@@ -52,6 +52,10 @@ cover_stored covers z r bits after l h e s =
 pub per_pos : (events : ℕ) → 0 < per_bit events
 unfolding per_bit
 per_pos events = omega arith
+
+pub per_small : (events : ℕ) → events < 2 ^ 32 → per_bit events < 2 ^ 32
+unfolding per_bit ceil
+per_small events h = omega arith
 
 -- The library's quotient rounded up is the definition's
 pub ceil_is : (x m : ℕ) → 0 < m → x / m + min 1 (x % m) ≡ ceil x m

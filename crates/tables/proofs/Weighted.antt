@@ -30,6 +30,13 @@ pub record Weighed (starts begins children : List ℕ) (n r : ℕ) (ws covers : 
   pub top : (x : ℕ) → r ≤ x → x < n → get_or (cover_at covers x) 127 false ≡ false
   pub weight : (pss : List (List ℕ)) → Parents pss begins children n → (x : ℕ) → r ≤ x → x < n → get_or ws x 0 ≡ count (λ b. b) (get_or (covers_of starts pss n) x [])
 
+pub weighed_none : (starts begins children : List ℕ) (n : ℕ) (ws covers : List ℕ) → Weighed starts begins children n n ws covers
+weighed_none starts begins children n ws covers = record {
+  bits = λ pss p x h g. absurd (omega arith);
+  top = λ x h g. absurd (omega arith);
+  weight = λ pss p x h g. absurd (omega arith);
+}
+
 -- Run r's bits, where those of later runs are the definition's
 turn_bits : (starts begins children : List ℕ) (n r : ℕ) (covers : List ℕ) (pss : List (List ℕ)) → Parents pss begins children n → Weighable starts begins children n → r < n →
     ((x : ℕ) → r < x → x < n → take 127 (cover_at covers x) ≡ get_or (covers_of starts pss n) x []) →

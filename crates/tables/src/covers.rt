@@ -5,7 +5,7 @@ ghost use Rattle.model.specs.Limits.{cover_bits, max_runs};
 ghost use Rattle.model.specs.Cover.{per_bit, either};
 ghost use Rattle.tables.specs.Covers.{word_bits, cover_words, bits_in, cover_at, range_bits, join_of, offset, Inside, Covered, Weighable, Weighted};
 
-use crate::groups::Groups;
+use crate::jagged::Jagged;
 use crate::words::item;
 use model::COVER_BITS;
 
@@ -95,20 +95,20 @@ fn weigh_run(covers: &mut [CoverWord], low: usize, high: usize, r: usize, childr
     count_bits(&z)
 }
 
-// The weights of n runs, the last first: of each area, which has room for any range since no heap is used, the
-// first n places.
+// The weights of n runs, the last first: of each list, which may have room for more, the first n places.
 pub fn weights_of(
     weights: &mut [u32],
     covers: &mut [CoverWord],
     starts: &[u32],
-    children: &Groups,
+    begins: &[u32],
+    children: &[u32],
     n: usize,
 )
-    requires { (n ≤ length weights.old) × (n * cover_words ≤ length covers.old) × Weighable starts.now children.now.starts children.now.items n }
-    ensures { Weighted starts.now children.now.starts children.now.items n weights.new }
+    requires { (n ≤ length weights.old) × (n * cover_words ≤ length covers.old) × Weighable starts.now begins.now children.now n }
+    ensures { Weighted starts.now begins.now children.now n weights.new }
 {
     let per = per_bit(offset_of(starts, n));
-    let kids = children.rows(n);
+    let kids = Jagged::new(begins, children, n);
     for r in (0..n).rev() {
         let low = offset_of(starts, r) / per;
         let high = offset_of(starts, r + 1).div_ceil(per);

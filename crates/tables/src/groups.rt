@@ -40,6 +40,24 @@ fn put_parents(items: &mut [u32], at: usize, ps: &[u32], a: u32) -> usize
     to
 }
 
+// The parents of the runs from run a on, of those of all runs: where each run's begin and the last run's end, and the parents.
+pub fn gather(starts: &mut [u32], items: &mut [u32], all: &Jagged, a: u32)
+    requires from { a ≤ length all.now }
+    requires below { Below all.now }
+    requires starts { length all.now - a < length starts.old }
+    requires items { length (concat all.now) ≤ length items.old }
+    ensures grouped { grouped starts.new items.new (length all.now - a) ≡ shares_of all.now a (length all.now - a) }
+    ensures sound { Sound starts.new items.new (length all.now - a) }
+{
+    let n = all.len() - a as usize;
+    starts[0] = 0;
+    let mut at = 0;
+    for j in 0..n {
+        at = put_parents(items, at, all.row(a as usize + j), a);
+        starts[j + 1] = at as u32;
+    }
+}
+
 impl Groups {
     // Nothing is grouped.
     pub fn new() -> Groups
@@ -68,12 +86,7 @@ impl Groups {
         ensures grouped { grouped self.new.starts self.new.items (length all.now - a) ≡ shares_of all.now a (length all.now - a) }
         ensures sound { Sound self.new.starts self.new.items (length all.now - a) }
     {
-        let n = all.len() - a as usize;
-        self.starts[0] = 0;
-        let mut at = 0;
-        for j in 0..n {
-            at = put_parents(&mut self.items, at, all.row(a as usize + j), a);
-            self.starts[j + 1] = at as u32;
-        }
+        prove!(all.len() < MAX_STARTS);
+        gather(&mut self.starts, &mut self.items, all, a);
     }
 }

@@ -1,11 +1,17 @@
 // Rows of words that lie one after another in a list: lent, and seen as a list of rows.
-ghost use Rattle.std.specs.Prelude.{◌≡◌, List, ℕ, ◌<◌, ◌≤◌, length};
+ghost use Rattle.std.specs.Prelude.{◌≡◌, List, ℕ, ◌<◌, ◌≤◌, ◌^◌, length, get_or};
+ghost use Rattle.lists.specs.Lists.{concat};
 ghost use Rattle.model.specs.Limits.{max_runs};
 ghost use Rattle.model.specs.History.{at};
 ghost use Rattle.tables.specs.Jagged.{rows_in, Lies};
 
 use crate::words::item;
 use std::marker::Model;
+
+// Starts are numbers of 32 bits: by that the items are fewer than 2 ^ 32.
+fn starts_fit(starts: &[u32])
+    ensures { (r : ℕ) → get_or starts.now r 0 < 2 ^ 32 }
+{}
 
 // Where each of `rows` rows starts, where the last ends, and the items.
 // That each row is below its number, and how many items there are, is asked where it is needed: rows of parents are so, rows of other numbers not.
@@ -40,7 +46,9 @@ impl<'a> Jagged<'a> {
     pub fn len(&self) -> usize
         ensures value { result ≡ length self.now }
         ensures few { result ≤ max_runs }
+        ensures words { length (concat self.now) < 2 ^ 32 }
     {
+        starts_fit(self.starts);
         self.rows
     }
 

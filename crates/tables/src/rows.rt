@@ -109,74 +109,106 @@ impl ChainTables {
     {
         Jagged::new(&self.row_starts, area, n)
     }
+}
 
-    // Run r put on chain k, its row ending at `used`.
-    fn place(&mut self, r: usize, k: usize, used: usize)
-        requires { (r + 1 < max_starts) × (k < max_starts) × (used < 2 ^ 32) × (get_or self.old.lens k 0 ≤ max_runs) }
-        ensures { self.new ≡ place_in self.old r k used }
-    {
-        let len = self.lens[k];
-        self.row_starts[r + 1] = used as u32;
-        self.chains[r] = k as u32;
-        self.places[r] = len;
-        self.lens[k] = len + 1;
-    }
+// Run r put on chain k, its row ending at `used`.
+fn place(
+    row_starts: &mut [u32],
+    chains: &mut [u32],
+    places: &mut [u32],
+    lens: &mut [u32],
+    r: usize,
+    k: usize,
+    used: usize,
+)
+    requires room { (r + 1 < length row_starts.old) × (r < length chains.old) × (r < length places.old) × (k < length lens.old) }
+    requires small { (r < max_runs) × (k < max_starts) × (used < 2 ^ 32) × (get_or lens.old k 0 ≤ max_runs) }
+    ensures { place_in (record { row_starts = row_starts.old; chains = chains.old; places = places.old; lens = lens.old }) r k used
+        ≡ record { row_starts = row_starts.new; chains = chains.new; places = places.new; lens = lens.new } }
+{
+    let len = lens[k];
+    row_starts[r + 1] = used as u32;
+    chains[r] = k as u32;
+    places[r] = len;
+    lens[k] = len + 1;
 }
 
 // Run r's row, made of its parents', and written; none where it finds no room.
 fn lay_run(
     rows: &mut [u32],
-    tables: &mut ChainTables,
+    row_starts: &mut [u32],
+    chains: &mut [u32],
+    places: &mut [u32],
+    lens: &mut [u32],
     row: &mut [u32],
     area: Area,
     r: usize,
     parents: &[u32],
 ) -> Option<Area>
-    requires safe { Safe (length row.old) rows.old (chains_of area (length row.old) tables.old) r parents.now }
-    ensures { let laid = lay_of (chains_of area (length row.old) tables.old, rows.old) r parents.now in
-        MatchOption result ((laid ≡ None) × (rows.new ≡ rows.old)) (λ a. laid ≡ Some (chains_of a (length row.old) tables.new, rows.new)) }
+    requires safe { Safe (length row.old) rows.old
+        (chains_of area (length row.old) (record { row_starts = row_starts.old; chains = chains.old; places = places.old; lens = lens.old })) r parents.now }
+    requires long { (length row.old ≤ length row_starts.old) × (length row.old ≤ length chains.old) × (length row.old ≤ length places.old) × (length row.old ≤ length lens.old) }
+    ensures { let laid = lay_of (chains_of area (length row.old) (record { row_starts = row_starts.old; chains = chains.old; places = places.old; lens = lens.old }), rows.old) r parents.now in
+        MatchOption result ((laid ≡ None) × (rows.new ≡ rows.old))
+        (λ a. laid ≡ Some (chains_of a (length row.old) (record { row_starts = row_starts.new; chains = chains.new; places = places.new; lens = lens.new }), rows.new)) }
 {
     let w = row.len();
     let laid = Rows {
         words: rows,
-        starts: &tables.row_starts[..w],
-        chain: &tables.chains[..w],
-        place: &tables.places[..w],
+        starts: &row_starts[..w],
+        chain: &chains[..w],
+        place: &places[..w],
     };
     row.fill(0);
     laid.join_all(row, parents);
     let n = area.chains;
-    let k = pick_chain(&row[..n], &tables.lens[..n]);
+    let k = pick_chain(&row[..n], &lens[..n]);
     let width = n.max(k + 1);
     let used = area.used;
     if rows.len() < used + width {
         return None;
     }
     rows[used..used + width].copy_from_slice(&row[..width]);
-    tables.place(r, k, used + width);
+    place(row_starts, chains, places, lens, r, k, used + width);
     Some(Area {
         chains: width,
         used: used + width,
     })
 }
 
-// All runs' rows and chains; none where a row finds no room, and then the rows before it are written. A row is made in `row`.
+// All runs' rows, where each starts and the last ends, each run's chain, its place along it, and each chain's length; none where a row finds no room,
+// and then the rows before it are written. A row is made in `row`.
 pub fn lay(
     rows: &mut [u32],
-    tables: &mut ChainTables,
+    row_starts: &mut [u32],
+    chains: &mut [u32],
+    places: &mut [u32],
+    lens: &mut [u32],
     row: &mut [u32],
     parents: &Jagged,
 ) -> Option<Area>
     requires below { Below parents.now }
     requires row { length row.old ≡ length parents.now + 1 }
-    ensures { LaidOut parents.now (length parents.now) rows.old result rows.new tables.new }
+    requires long { (length row.old ≤ length row_starts.old) × (length row.old ≤ length chains.old) × (length row.old ≤ length places.old) × (length row.old ≤ length lens.old) }
+    ensures { LaidOut parents.now (length parents.now) rows.old result rows.new
+        (record { row_starts = row_starts.new; chains = chains.new; places = places.new; lens = lens.new }) }
 {
     let n = parents.len();
-    tables.row_starts[0] = 0;
-    tables.lens[..n + 1].fill(0);
+    row_starts[0] = 0;
+    lens[..n + 1].fill(0);
     let mut area = Area { chains: 0, used: 0 };
     for r in 0..n {
-        area = lay_run(rows, tables, row, area, r, parents.row(r))?;
+        area = lay_run(
+            rows,
+            row_starts,
+            chains,
+            places,
+            lens,
+            row,
+            area,
+            r,
+            parents.row(r),
+        )?;
     }
     Some(area)
 }

@@ -4,18 +4,17 @@ ghost use Rattle.std.specs.Prelude.{◌+◌, ◌≤◌, ◌<◌, length, get_or}
 ghost use Rattle.model.specs.Limits.{max_runs};
 ghost use Rattle.tables.specs.Reached.{started, arrived, Holds, Standing};
 
-use crate::rows::ChainTables;
 use crate::words::item;
 
 // The version that holds the first `known` runs.
-pub fn start_version(current: &mut [u32], tables: &ChainTables, chains: usize, known: usize)
-    requires { (chains ≤ length current.old) × Standing tables.now.chains tables.now.places chains known }
-    ensures { Holds (started tables.now.chains tables.now.places known) chains current.new }
+pub fn start_version(current: &mut [u32], chain: &[u32], place: &[u32], chains: usize, known: usize)
+    requires { (chains ≤ length current.old) × Standing chain.now place.now chains known }
+    ensures { Holds (started chain.now place.now known) chains current.new }
 {
     current[..chains].fill(0);
     for r in 0..known {
-        let k = item(&tables.chains, r, 0) as usize;
-        current[k] = item(&tables.places, r, 0) + 1;
+        let k = item(chain, r, 0) as usize;
+        current[k] = item(place, r, 0) + 1;
     }
 }
 

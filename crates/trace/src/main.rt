@@ -86,11 +86,13 @@ fn main(rt: HostRuntime) -> ExitCode {
     };
     let mut out = Out::new(rt.stdout());
     let ended = run(&mut source, &mut lists, &mut out);
+    // What is left is written before anything is told of a failed read: the lines come first.
+    let finished = finish(ended, &mut out);
     let mut status = ExitCode::SUCCESS;
     if let Err(Stop::Read(why)) = ended {
         status = tell(&rt, "read", why);
     }
-    if let Err(why) = finish(ended, &mut out) {
+    if let Err(why) = finished {
         status = tell(&rt, "write", why);
     }
     status

@@ -2,6 +2,7 @@
 ghost use Rattle.std.specs.Prelude.{◌≡◌, ◌≤◌, OnOk};
 ghost use Rattle.stdio.specs.declared.TheConstants.{BUFFER};
 
+use itoa::Buffer;
 use std::io;
 use std::io::{Stdout, Write};
 use stdio::BUFFER;
@@ -23,6 +24,12 @@ impl Write for Out {
 
     // Puts bytes into the buffer. Where it is full, it is written first.
     fn write_all(&mut self, text: &[u8]) -> io::Result<()> {
+        let end = self.used + text.len();
+        if end <= BUFFER {
+            self.bytes[self.used..end].copy_from_slice(text);
+            self.used = end;
+            return Ok(());
+        }
         for byte in text {
             if self.used == BUFFER {
                 self.empty()?;
@@ -57,15 +64,38 @@ impl Out {
         Ok(())
     }
 
+    // Puts a space and a number in decimal, if they fit in the buffer; whether they did. A `bool`, since an `io::Result` has 96 bytes: with one
+    // for each number a list took a third more time.
+    fn put_number(&mut self, n: u64) -> bool {
+        let mut buffer = Buffer::new();
+        let digits = buffer.format(n).as_bytes();
+        let at = self.used;
+        let end = at + 1 + digits.len();
+        if BUFFER < end {
+            return false;
+        }
+        self.bytes[at] = b' ';
+        self.bytes[at + 1..end].copy_from_slice(digits);
+        self.used = end;
+        true
+    }
+
     // A space and a number in decimal.
     pub(crate) fn number(&mut self, n: u64) -> io::Result<()> {
-        write!(self, " {n}")
+        if self.put_number(n) {
+            return Ok(());
+        }
+        self.write_all(b" ")?;
+        self.write_all(Buffer::new().format(n).as_bytes())
     }
 
     // A list's words, a space before each.
     pub(crate) fn words(&mut self, list: &[u32]) -> io::Result<()> {
         for word in list {
-            self.number(u64::from(*word))?;
+            let n = u64::from(*word);
+            if !self.put_number(n) {
+                self.number(n)?;
+            }
         }
         Ok(())
     }

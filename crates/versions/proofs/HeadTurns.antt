@@ -7,7 +7,8 @@ use Rattle.std.proofs.lemmas.List.Recursion.{is_count_by}
 use Rattle.lists.specs.Lists.{bit, count}
 use Rattle.lists.proofs.Truth.{eq_or-not, lt_of_ne, lt_or_le}
 use Rattle.versions.specs.Heads.{Child, last_in, highest_by, noted, note_all, first_children, is_head, head_count}
-use Rattle.versions.proofs.Passes.{left-first, left_none, row_each}
+use Rattle.lists.specs.Areas.{part}
+use Rattle.versions.proofs.Passes.{left-first, left_none, part-first, part_none, row_each}
 use Rattle.versions.proofs.FirstChildren.{firsts-length}
 
 -- The items of a list, one by one
@@ -21,6 +22,16 @@ module _ (xs : List ℕ) (i : ℕ) where
   pub note-none : (firsts : List Child) (c : ℕ) → length xs ≤ i → firsts ≡ note_all firsts c (drop i xs)
   unfolding note_all
   note-none firsts c h = sym (ap (note_all firsts c) (left_none xs i h))
+
+-- The items of a part, one by one: counted
+module _ (items : List ℕ) (to : ℕ) (fits : to ≤ length items) (i : ℕ) where
+  pub part_count : (p : ℕ → Bool) → i < to → count p (part i to items) ≡ bit (p (get_or items i 0)) + count p (part (i + 1) to items)
+  unfolding count
+  part_count p h = ap (count p) (part-first items to fits i h)
+
+  pub part-ends : (p : ℕ → Bool) → to ≤ i → count p (part i to items) ≡ 0
+  unfolding count
+  part-ends p h = ap (count p) (part_none items to fits i h)
 
 -- How many pass a test, in std's word
 pub count_is : (p : ℕ → Bool) (xs : List ℕ) → count p xs ≡ count_by p xs

@@ -1,9 +1,11 @@
 -- The loops of the passes that flag runs, turn by turn. Assumes nothing.
-use Rattle.std.proofs.Common.{◌≡◌, refl, sym, ap, Bool, true, false, not, cond, ◌||◌, List, [], ◌∷◌, ◌++◌, length-append, ℕ, zero, suc, ◌+◌, ◌-◌, ◌<◌, ◌≤◌, add-one, arith, length, get_or, set}
+use Rattle.std.proofs.Common.{◌≡◌, refl, sym, ap, ◌∙◌, Bool, true, false, not, cond, ◌||◌, List, [], ◌∷◌, ◌++◌, length-append, ℕ, zero, suc, ◌+◌, ◌-◌, ◌<◌, ◌≤◌, add-one, arith, length, get_or, set}
 use Rattle.std.proofs.Common.{take, drop, length-take, drop-cons, get_or-take, ltb, ltb-true}
 use Rattle.std.proofs.lemmas.List.{drop_all}
 use Rattle.std.specs.List.{list_any, All}
 use Rattle.lists.specs.Lists.{any, all, filter, from, upto, below}
+use Rattle.lists.specs.Areas.{part}
+use Rattle.lists.proofs.Bounds.{below_of, below_at}
 use Rattle.lists.proofs.Truth.{and_left, and_right}
 use Rattle.lists.proofs.Members.{filter_agree}
 use Rattle.lists.proofs.Counts.{mem-from, upto_snoc}
@@ -27,6 +29,32 @@ module _ (xs : List ℕ) (i : ℕ) where
   unfolding flag_all
   flag_none flags h = sym (ap (flag_all flags) (left_none h))
 
+-- A part of a list, item by item
+module _ (items : List ℕ) (to : ℕ) (fits : to ≤ length items) (i : ℕ) where
+  pub part-first : i < to → part i to items ≡ get_or items i 0 ∷ part (i + 1) to items
+  unfolding part
+  part-first h = let e : to - i ≡ suc (to - suc i) = omega arith in rw (add-one i, e, drop-cons items i 0 (omega arith))
+
+  pub part_none : to ≤ i → part i to items ≡ []
+  unfolding part
+  part_none h = let e : to - i ≡ 0 = omega arith in rw e
+
+  pub part_here : (n : ℕ) → i < to → below n (part i to items) ≡ true → get_or items i 0 < n
+  unfolding below all
+  part_here n h e = ltb-true (get_or items i 0) n (and_left (ltb (get_or items i 0) n) (below n (part (i + 1) to items)) (sym (ap (below n) (part-first h)) ∙ e))
+
+  pub part-later : (n : ℕ) → i < to → below n (part i to items) ≡ true → below n (part (i + 1) to items) ≡ true
+  unfolding below all
+  part-later n h e = and_right (ltb (get_or items i 0) n) (below n (part (i + 1) to items)) (sym (ap (below n) (part-first h)) ∙ e)
+
+  pub any_next : (p : ℕ → Bool) → i < to → any p (part i to items) ≡ p (get_or items i 0) || any p (part (i + 1) to items)
+  unfolding any
+  any_next p h = ap (any p) (part-first h)
+
+  pub any_none : (p : ℕ → Bool) → to ≤ i → any p (part i to items) ≡ false
+  unfolding any
+  any_none p h = ap (any p) (part_none h)
+
 -- Whether a test passes somewhere, in std's word
 pub any_is : (p : ℕ → Bool) (xs : List ℕ) → any p xs ≡ list_any p xs
 unfolding any
@@ -43,6 +71,11 @@ each_below n m (x ∷ xs) h le (suc k) d lt = each_below n m xs (and_right (ltb 
 -- A row's numbers are runs
 pub row_each : (starts items : List ℕ) (n m r : ℕ) → Rows starts items n → r < n → r ≤ m → All (λ x. x < m) (row starts items r)
 row_each starts items n m r rows lt le = each_below r m (row starts items r) (rows.low r lt) le
+
+pub row_below : (starts items : List ℕ) (n m r : ℕ) → Rows starts items n → r < n → n ≤ m →
+    below m (part (get_or starts r 0) (get_or starts (r + 1) 0) items) ≡ true
+unfolding row
+row_below starts items n m r rows h le = below_of m _ (λ x k. omega (arith, below_at r (part (get_or starts r 0) (get_or starts (r + 1) 0) items) (rows.low r h) x k))
 
 module _ (rows : ℕ → List ℕ) where
   -- The way down

@@ -1,11 +1,12 @@
 -- The loops behind the wanted parents, turn by turn, and whether words are ranges. Assumes nothing.
-use Rattle.std.proofs.Common.{◌≡◌, refl, sym, ap, ◌∙◌, ◌⊎◌, inl, inr, Bool, true, false, cond, List, [], ◌∷◌, ◌++◌, map, ℕ, zero, suc, ◌+◌, ◌-◌, ◌≤◌, ◌<◌, add-one, arith, length, get_or, take}
-use Rattle.std.proofs.Common.{drop, get_or-take, get_or-drop, take_all, length-drop, take_while, leb, leb-false, Some, None, is_some}
+use Rattle.std.proofs.Common.{◌≡◌, refl, sym, ap, ◌∙◌, ◌⊎◌, inl, inr, Bool, true, false, cond, List, [], ◌∷◌, ◌++◌, map, ℕ, zero, suc, ◌+◌, ◌-◌, ◌%◌, ◌≤◌, ◌<◌, add-one, arith, length, get_or, take}
+use Rattle.std.proofs.Common.{drop, get_or-take, get_or-drop, take_all, length-drop, take_while, leb, leb-false, le-leb, eq-eqb, ne_eqb, Some, None, is_some}
+use borrow.Author.Tests.{lt-leb}
 use Rattle.std.specs.List.{prefix_len}
 use Rattle.std.proofs.lemmas.List.{map-append, length-map}
 use Rattle.std.proofs.lemmas.List.Folds.{length-prefix_len}
 use Rattle.lists.specs.Lists.{bit, all, filter, count, from, upto, rising}
-use Rattle.lists.proofs.Truth.{false_true, not_so, and_false, and_true}
+use Rattle.lists.proofs.Truth.{lt_or_le, false_true, not_so, and_false, and_true}
 use Rattle.lists.proofs.Members.{all-at, all_both}
 use Rattle.lists.proofs.Counts.{upto-mem, upto_snoc}
 use Rattle.lists.proofs.Rising.{rising_tail, rising_above}
@@ -13,8 +14,8 @@ use Rattle.lists.proofs.Keeping.{filter_snoc}
 use Rattle.model.specs.declared.record.EventIndex.{EventIndex}
 use Rattle.model.specs.Wanted.{ranges}
 use Rattle.versions.specs.Flags.{flag_all}
-use Rattle.versions.specs.Ranges.{End, end_number, is_odd, place_of, clear_at, end_at, clear_in, end_in, flag_marked, is_top, tops, Starts}
-use Rattle.versions.proofs.RangeWords.{ranges_even, paired_even, none-at_most, place_most, place_mono}
+use Rattle.versions.specs.Ranges.{End, end_number, is_odd, place_of, words_within, clear_at, end_at, clear_in, end_in, flag_marked, is_top, tops, Starts}
+use Rattle.versions.proofs.RangeWords.{ranges_even, paired_even, none-at_most, word_le, place_most, place_mono}
 use Rattle.versions.proofs.Flagging.{decided}
 use Rattle.versions.proofs.Passes.{few_pass}
 
@@ -42,6 +43,18 @@ pub place_on : (ws : List ℕ) → rising ws ≡ true → (e k : ℕ) → k ≤ 
 place_on ws rises e k h =
     rw (take_all (length ws - k) (drop k ws) (omega (arith, length-drop k ws)))
     (ap (λ (n : ℕ). k + n) (length-prefix_len (λ w. leb w e) (drop k ws)) ∙ prefix_on ws rises e k h)
+
+-- The words' place, at a word and at the end
+module _ (ws : List ℕ) (rises : rising ws ≡ true) (e k : ℕ) where
+  pub place_here : k ≤ place_of ws e → e < get_or ws k 0 → k ≡ place_of ws e
+  place_here h lt = cases (lt_or_le k (place_of ws e))
+    where
+      cases : (k < place_of ws e) ⊎ (place_of ws e ≤ k) → k ≡ place_of ws e
+      cases (inl c) = absurd (omega (arith, word_le ws rises k e c))
+      cases (inr c) = omega arith
+
+  pub place_end : k ≤ place_of ws e → length ws ≤ k → k ≡ place_of ws e
+  place_end h q = omega (arith, place_most ws rises e)
 
 -- The start after the n-th, as the loop over neighbours has it
 pub next_start : (starts : List ℕ) (n : ℕ) → n < length starts - 1 → get_or (take (length starts - 1) (drop 1 starts)) n 0 ≡ get_or starts (n + 1) 0
@@ -74,6 +87,28 @@ module _ (ws : List ℕ) where
   pub ranges-is : is_odd (length ws) ≡ false → (b : Bool) → b ≡ rising ws → b ≡ ranges ws
   unfolding ranges
   ranges-is h b e = e ∙ rw (paired_even ws, h) (sym (and_true (rising ws)))
+
+  module _ (first end : ℕ) where
+    pub within_none : length ws ≡ 0 → true ≡ words_within first end ws
+    unfolding words_within
+    within_none h = rw (eq-eqb (length ws) 0 h)
+
+    pub within_low : (length ws ≡ 0 → ⊥) → get_or ws 0 0 < first → false ≡ words_within first end ws
+    unfolding words_within
+    within_low h k = rw (ne_eqb (length ws) 0 h, lt-leb first (get_or ws 0 0) k)
+
+    pub within-is : (length ws ≡ 0 → ⊥) → first ≤ get_or ws 0 0 → leb (get_or ws (length ws - 1) 0) end ≡ words_within first end ws
+    unfolding words_within
+    within-is h k = rw (ne_eqb (length ws) 0 h, le-leb first (get_or ws 0 0) k)
+
+  module _ (k end : ℕ) where
+    pub clear_end : length ws ≤ k + k % 2 → true ≡ clear_at ws k end
+    unfolding clear_at
+    clear_end h = rw (le-leb (length ws) (k + k % 2) h)
+
+    pub clear_is : k + k % 2 < length ws → leb end (get_or ws (k + k % 2) 0) ≡ clear_at ws k end
+    unfolding clear_at
+    clear_is h = rw (lt-leb (length ws) (k + k % 2) h)
 
 -- A test of the numbers below a bound, one by one
 module _ (p : ℕ → Bool) where

@@ -53,7 +53,7 @@ shares_up g all a (suc n) le same =
     rw (same (a + n) (omega arith), shares_up g all a n (omega arith) (λ r lt. same r (omega arith)))
     (sym (ap (parents_in g a) e ∙ parents-next g a (a + n) (omega arith) (omega arith)))
 
-shares_are : (g : Graph) (starts items : List ℕ) (a n : ℕ) → a + n ≤ length g.parents → ((r : ℕ) → r < a + n → row starts items r ≡ at g.parents r) →
+pub shares_are : (g : Graph) (starts items : List ℕ) (a n : ℕ) → a + n ≤ length g.parents → ((r : ℕ) → r < a + n → row starts items r ≡ at g.parents r) →
     shares starts items a n ≡ parents_in g a (a + n)
 unfolding shares row
 shares_are g starts items a n le same = shares_up g (rows_in starts items (a + n)) a n le (λ r lt. row_part starts items (a + n) r lt ∙ same r lt)

@@ -1,5 +1,5 @@
 -- The records of a cut read from the list that holds them. Assumes nothing.
-use Rattle.std.proofs.Common.{◌≡◌, refl, sym, ap, ap₂, ◌∙◌, subst, ◌⊎◌, inl, inr, true, cond, List, [], ◌∷◌, ◌++◌, map, ℕ, zero, suc, ◌+◌, ◌*◌, ◌/◌, ◌≤◌, ◌<◌, arith, length, get_or, take, drop}
+use Rattle.std.proofs.Common.{◌≡◌, refl, sym, ap, ap₂, ◌∙◌, subst, ◌⊎◌, inl, inr, true, cond, List, [], ◌∷◌, ◌++◌, map, ℕ, zero, suc, ◌+◌, ◌*◌, ◌/◌, ◌≤◌, ◌<◌, add-one, arith, length, get_or, take, drop}
 use Rattle.std.proofs.Common.{length-append, take_at, take_all, lt-ltb, le-ltb}
 use lib.ListN.{length-map}
 use borrow.Author.Tests.{lt-leb}
@@ -95,6 +95,25 @@ ranges_stand lo (concurrent a b ∷ cs) end h zero lt = (omega (arith, h.1), ome
 ranges_stand lo (linear a b ∷ cs) end h (suc i) lt = ranges_stand b cs end h.2 i (omega (arith, lt))
 ranges_stand lo (concurrent a b ∷ cs) end h (suc i) lt = ranges_stand b cs end h.2 i (omega (arith, lt))
 
+-- and after the one before it
+ranges_next : (lo : ℕ) (cs : List HistoryRange) (end : ℕ) → Laid lo cs end → (i : ℕ) → suc i < length (map range_words cs) →
+    get_or (at (map range_words cs) i) 2 0 ≤ get_or (at (map range_words cs) (suc i)) 1 0
+unfolding at
+ranges_next lo [] end h i lt = absurd (omega arith)
+ranges_next lo (r ∷ []) end h i lt = absurd (omega arith)
+ranges_next lo (r ∷ s ∷ cs) end h zero lt =
+    let n = laid_next lo r (s ∷ cs) end h in
+    omega (arith, past_word r, first_word s, (laid_next (past r) s cs end n.2).0)
+  where
+    first_word : (r : HistoryRange) → get_or (range_words r) 1 0 ≡ first r
+    first_word (linear a b) = unfold first range_words in refl
+    first_word (concurrent a b) = unfold first range_words in refl
+
+    past_word : (r : HistoryRange) → get_or (range_words r) 2 0 ≡ past r
+    past_word (linear a b) = unfold past range_words in refl
+    past_word (concurrent a b) = unfold past range_words in refl
+ranges_next lo (r ∷ s ∷ cs) end h (suc i) lt = ranges_next (past r) (s ∷ cs) end (laid_next lo r (s ∷ cs) end h).2 i (omega (arith, lt))
+
 module _ (g : CausalGraph) (held : Held g) where
   abbrev ranges : List HistoryRange
   ranges = cut_from (view g) 0
@@ -179,4 +198,5 @@ module _ (g : CausalGraph) (held : Held g) where
     cut_tiled rs q = subst (Tiled g) (sym q) (record {
       order = λ i lt. (ranges_stand 0 ranges (runs (view g)) (cut_laid (view g) 0) i lt).0;
       arrays = λ i lt. arrays_of g held _ (omega (arith, (ranges_stand 0 ranges (runs (view g)) (cut_laid (view g) 0) i lt).1, runs-view g held));
+      next = λ i lt. rw (add-one i) (ranges_next 0 ranges (runs (view g)) (cut_laid (view g) 0) i (omega arith));
     })

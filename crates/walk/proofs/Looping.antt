@@ -1,5 +1,5 @@
 -- The walk's loop over the tables of its range: what a visit needs, and what it leaves. Assumes nothing.
-use Rattle.std.proofs.Common.{◌≡◌, refl, sym, ap, ap₂, ◌∙◌, subst, ◌⊎◌, inl, inr, true, not, List, [], ◌∷◌, ◌++◌, ℕ, ◌-◌, ◌≤◌, ◌<◌, min, max, arith, length, get_or}
+use Rattle.std.proofs.Common.{◌≡◌, refl, sym, ap, ap₂, ◌∙◌, subst, ◌⊎◌, inl, inr, true, not, List, [], ◌∷◌, ◌++◌, ℕ, ◌+◌, ◌-◌, ◌*◌, ◌^◌, ◌≤◌, ◌<◌, min, max, arith, length, get_or, length-take}
 use Rattle.std.proofs.Common.{take, replicate, get_or-take, eqb, eqb-true}
 use mathlib.Core.Option.{Option, none, some}
 use Rattle.std.specs.Prelude as code
@@ -27,9 +27,11 @@ use Rattle.tables.proofs.ClosedSets.{Closed, closed_falls, history-closed, visit
 use Rattle.tables.proofs.Distances.{distance_is}
 use Rattle.moves.specs.Emit.{Writing, emit}
 use Rattle.moves.specs.Moves.{recs}
+use Rattle.moves.specs.Stretches as stretches
 use Rattle.moves.proofs.Emitting.{ends_refused}
 use Rattle.moves.proofs.Written.{emit_then}
-use Rattle.moves.proofs.Defined.{visit-is}
+use Rattle.moves.proofs.Bounds.{visit_moved}
+use Rattle.moves.proofs.Defined.{inside, visit-is}
 use Rattle.walk.specs.Ranges.{range_by}
 use Rattle.walk.specs.Given.{Given, chains_in, places_in, begins_in, members_in, sums_in, row_for, children_for, parents_for, range_for, chains_for, Prepared}
 use Rattle.walk.specs.Choose.{index_of, is_only, only_c, cost_c, weight_c}
@@ -146,8 +148,17 @@ module _ (g : Given) (P : Prepared g) where
   unfolding chains_for
   prefixed s cl c lt = closed_falls pss s cl (length pss) c
 
-  -- Where the walk stands: `fuel` visits at most are left
-  module _ (whole : Writing) where
+  pub few-members : length (members_in g) ≤ 513
+  unfolding members_in
+  few-members = omega (arith, length-take (g.runs + 1) g.areas.members.runs, P.few)
+
+  -- A visit moves 2 ^ 52 events at most, where runs start at numbers of 32 bits
+  visit_moves : stretches.Below (2 ^ 32) g.starts → (t : Progress) (v : Writing) → (emit v (visited g t)).0.moved ≤ v.0.moved + 2 ^ 52
+  unfolding visited
+  visit_moves small t v = visit_moved g.starts g.base (members_in g) (begins_in g) t.version (row_for g (run_at g t)) g.chains (run_at g t) v small few-chains few-members
+
+  -- Where the walk stands: `fuel` visits at most are left, and by them all moves no more than `most`
+  module _ (whole : Writing) (most : ℕ) where
     pub record Walks (fuel : ℕ) (t : Progress) (v : Writing) : Type 0 where
       pub version : List ℕ
       pub last : Option ℕ
@@ -159,6 +170,7 @@ module _ (g : Given) (P : Prepared g) where
       pub tells : Tells W g.known g.first visited ready t.waits
       pub left : t.left ≡ left_of W g.known g.first visited
       pub last-is : last ≡ last_of t.last
+      pub moved : stretches.Below (2 ^ 32) g.starts → v.0.moved + fuel * 2 ^ 52 ≤ most
 
     module _ (fuel : ℕ) (t : Progress) (v : Writing) (S : Walks fuel t v) where
       -- A run of the ready list
@@ -200,7 +212,17 @@ module _ (g : Given) (P : Prepared g) where
 
       -- What a visit needs
       pub fit : Fit g t
-      fit = record { ready = is_ready_list fuel t v S; below = found }
+      unfolding chains_for
+      fit = record {
+        ready = is_ready_list fuel t v S;
+        below = found;
+        from = λ c lt. inside C (begins_in g) (members_in g) P.listed S.version t.version S.reaches c (omega (arith, P.number));
+        to = λ c lt. inside C (begins_in g) (members_in g) P.listed (at H r) (row_for g r) (row_is r low) c (omega (arith, P.number));
+      }
+
+      -- and if all fits 63 bits, what the visit moves does too
+      pub fit-moved : stretches.Below (2 ^ 32) g.starts → most + 2 ^ 52 < 2 ^ 63 → v.0.moved + 2 ^ 52 < 2 ^ 63
+      fit-moved small budget = omega (arith, S.moved small, budget)
 
       -- The run visited is the one that the definitions choose
       only-is : (o : code.Option ℕ) (x : ℕ) → only_c g o x ≡ is_last (last_of o) (at pss x)
@@ -240,6 +262,10 @@ module _ (g : Given) (P : Prepared g) where
             S.version S.last S.visited S.ready fuel v S.walking r choice-is,
       )
 
+      -- and with what is left the visit moves no more than that
+      pub next-moved : stretches.Below (2 ^ 32) g.starts → (v₂ : Writing) → v₂ ≡ emit v (visited g t) → v₂.0.moved + (fuel - 1) * 2 ^ 52 ≤ most
+      next-moved small v₂ e = omega (arith, ap (λ (x : Writing). x.0.moved) e, visit_moves small t v, S.moved small, fuel_some)
+
       visit-written : visited g t ≡ recs g.starts (visit W g.base S.version r)
       unfolding visited
       visit-written = visit-is C (begins_in g) (members_in g) P.listed W g.starts g.base r g.chains S.version t.version (row_for g r) (sym chains-is) P.number
@@ -271,6 +297,7 @@ module _ (g : Given) (P : Prepared g) where
         left = T.left ∙ left-told W g.known g.first S.visited S.ready r S.walking.going ready-is
             (t.waits.0 - 1, t.waits.1, taken_out t.waits.2 t.waits.0 (index_of (best_in g t))) taken t.left S.left;
         last-is = sym (ap last_of T.last);
+        moved = λ small. next-moved small v₂ e;
       }
         where
           run_is : get_or t.waits.2 (index_of (best_in g t)) 0 ≡ r
@@ -307,7 +334,7 @@ module _ (g : Given) (P : Prepared g) where
         (told_none W g.known g.first S.visited S.ready t.waits S.tells none-ready S.version S.last)
 
   -- How it begins
-  pub begun : (t : Progress) (v : Writing) → Begun g t → Walks (emit v (recs g.starts (steps_of W g.base g.known g.first))) g.runs t v
+  pub begun : (t : Progress) (v : Writing) → Begun g t → Walks (emit v (recs g.starts (steps_of W g.base g.known g.first))) (v.0.moved + g.runs * 2 ^ 52) g.runs t v
   unfolding chains_for
   begun t v B = record {
     version = upto g.known;
@@ -330,6 +357,7 @@ module _ (g : Given) (P : Prepared g) where
         (omega (arith, length-replicate {A = ℕ} 512 0, P.few, ap length parents_are, size)));
     left = B.left ∙ sym (left-start W g.known g.first);
     last-is = sym (ap last_of B.last);
+    moved = λ small. omega arith;
   }
     where
       clamp : max g.known (min g.first (length W.parents)) ≡ g.first

@@ -29,6 +29,9 @@ module _ (w : Range) (known first : ℕ) (visited ready : List ℕ) (s : Wakes) 
   pub told_list : take s.0 s.2 ≡ ready
   told_list = ap (λ (k : ℕ). take k s.2) T.says.number ∙ T.says.ready
 
+  pub told-few : Going w known first visited ready → s.0 ≤ length w.parents
+  told-few G = omega (arith, T.says.number, few (length w.parents) ready G.once G.under)
+
   pub told_none : s.0 ≤ 0 → (now : List ℕ) (last : Option ℕ) → choice w now last ready ≡ none
   told_none h now last = ap (choice w now last) (empty ready (omega (arith, T.says.number))) ∙ nothing
     where

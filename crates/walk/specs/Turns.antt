@@ -3,7 +3,7 @@ use Rattle.std.specs.Prelude.{◌≡◌, Option, Some, None, List, ℕ, ◌-◌,
 use Rattle.model.specs.Limits.{max_weighed}
 use Rattle.tables.specs.Reached.{started, arrived, Holds}
 use Rattle.moves.specs.Emit.{Rec}
-use Rattle.moves.specs.Moves.{visit_of}
+use Rattle.moves.specs.Moves.{Inside, visit_of}
 use Rattle.walk.specs.declared.choice.Best.{Best}
 use Rattle.walk.specs.declared.visiting.Progress.{Progress}
 use Rattle.walk.specs.Given.{Given, chains_in, places_in, begins_in, members_in, row_for, children_for}
@@ -34,10 +34,16 @@ pub record Ready (g : Given) (p : Progress) : Type 0 where
   pub room : p.waits.0 ≤ length p.waits.2
   pub low : AllIn p.waits.2 p.waits.0 g.runs
 
--- What a visit needs: the best of them is one
+-- What a version has of each of n chains lies in the members
+abbrev pub AllInside : List ℕ → List ℕ → List ℕ → ℕ → Type 0
+AllInside members begins version n = (c : ℕ) → c < n → Inside members begins version c
+
+-- What a visit needs: the best of them is one, and what the version and that run's row have of the chains lies in the members
 pub record Fit (g : Given) (p : Progress) : Type 0 where
   pub ready : Ready g p
   pub below : index_of (best_in g p) < p.waits.0
+  pub from : AllInside (members_in g) (begins_in g) p.version g.chains
+  pub to : AllInside (members_in g) (begins_in g) (row_for g (run_at g p)) g.chains
 
 -- A walk that begins: the version is "the known runs", those ready are told, no run was visited
 pub record Begun (g : Given) (p : Progress) : Type 0 where

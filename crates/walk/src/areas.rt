@@ -65,12 +65,18 @@ impl Areas {
         ensures measured { (self.new.members ≡ self.old.members) × (self.new.sizes ≡ self.old.sizes) }
     {
         let parents = self.parents.rows(n);
-        tabling::children(&parents, &mut self.children, &mut self.scratch);
+        tabling::children(
+            &parents,
+            &mut self.children.starts,
+            &mut self.children.items,
+            &mut self.scratch,
+        );
         covers::weights_of(
             &mut self.weights,
             &mut self.covers,
             starts,
-            &self.children,
+            &self.children.starts,
+            &self.children.items,
             n,
         );
     }

@@ -1,5 +1,5 @@
 // Full replay: the ranges of the cut, one after another.
-ghost use Rattle.std.specs.Prelude.{◌≡◌, ◌≤◌};
+ghost use Rattle.std.specs.Prelude.{◌≡◌, ◌+◌, ◌-◌, ◌*◌, ◌^◌, ◌≤◌};
 ghost use Rattle.model.specs.Replay.{replay_of};
 ghost use Rattle.moves.specs.Emit.{so_far, written, same_list};
 ghost use Rattle.walk.specs.Ranges.{ArraysOf, range_at};
@@ -28,6 +28,7 @@ fn replay_next(
     requires order { a.0 ≤ b.0 }
     ensures same_list { same_list steps.new steps.old }
     ensures steps_after { (written result steps.new, rows.new) ≡ replay_on graph.now.starts (range_at graph.now) (so_far steps.old, rows.old) (range_by kind a.0 b.0) }
+    ensures moved_bound { (so_far steps.new).0.moved ≤ (so_far steps.old).0.moved + (b.0 - a.0) * 2 ^ 52 }
 {
     steps.put_step(Kind::Open, a.0, b.0, 0)?;
     match kind {

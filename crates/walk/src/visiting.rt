@@ -1,5 +1,5 @@
 // The visits of a range's runs.
-ghost use Rattle.std.specs.Prelude.{◌≡◌, ◌<◌, get_or, IfOk};
+ghost use Rattle.std.specs.Prelude.{◌≡◌, ◌+◌, ◌*◌, ◌^◌, ◌≤◌, ◌<◌, get_or, IfOk};
 ghost use Rattle.tables.specs.Reached.{arrived, Holds};
 ghost use Rattle.moves.specs.Emit.{so_far, written, same_list, emit};
 ghost use Rattle.moves.specs.Moves.{visit_of, recs};
@@ -9,9 +9,9 @@ ghost use Rattle.walk.specs.Readiness.{none_waits};
 ghost use Rattle.walk.specs.Choose.{index_of};
 ghost use Rattle.walk.specs.Turns.{best_in, visited, Turned, Fit, Begun};
 
-use crate::choice;
 use crate::given::Given;
 use crate::ready::Waits;
+use crate::{choice, walking};
 use model::{MAX_RUNS, Refusal};
 use moves::moving;
 use moves::moving::Chains;
@@ -36,7 +36,8 @@ impl Progress {
     {
         versions::start_version(
             &mut self.version,
-            &given.areas.chains,
+            &given.areas.chains.chains,
+            &given.areas.chains.places,
             given.chains,
             given.known as usize,
         );
@@ -51,6 +52,7 @@ impl Progress {
         requires fit { Fit given.now self.old }
         ensures same_list { same_list steps.new steps.old }
         ensures steps_after { written result steps.new ≡ emit (so_far steps.old) (visited given.now self.old) }
+        ensures moved_bound { (so_far steps.new).0.moved ≤ (so_far steps.old).0.moved + 2 ^ 52 }
         ensures turned { IfOk result (λ _. Turned given.now self.old self.new) }
     {
         let run = self.waits.remove(at);
@@ -66,7 +68,9 @@ impl Progress {
         ensures same_list { same_list steps.new steps.old }
         ensures steps_after { written result steps.new ≡ emit (so_far steps.old)
             (recs given.now.starts (steps_of (range_for given.now) given.now.base given.now.known given.now.first)) }
+        ensures moved_bound { (so_far steps.new).0.moved ≤ (so_far steps.old).0.moved + given.now.runs * 2 ^ 52 }
     {
+        walking::starts_fit(given.starts);
         for _ in 0..given.runs {
             let Some(best) = choice::nearest(given, &self.version, &self.waits, self.last) else {
                 return Ok(());
@@ -88,8 +92,10 @@ fn visit(
     ensures same_list { same_list steps.new steps.old }
     ensures steps_after { written result steps.new ≡ emit (so_far steps.old)
         (visit_of given.now.starts given.now.base (members_in given.now) (begins_in given.now) current.old (row_for given.now run) given.now.chains run) }
+    ensures moved_bound { (so_far steps.new).0.moved ≤ (so_far steps.old).0.moved + 2 ^ 52 }
     ensures version { IfOk result (λ _. Holds (arrived (row_for given.now run) (get_or (chains_in given.now) run 0) (get_or (places_in given.now) run 0)) given.now.chains current.new) }
 {
+    walking::starts_fit(given.starts);
     let r = run as usize;
     let row = given.row(r);
     let runs = Runs {
@@ -111,6 +117,7 @@ pub(crate) fn visits(given: &Given, steps: &mut Steps) -> Result<(), Refusal>
     ensures same_list { same_list steps.new steps.old }
     ensures steps_after { written result steps.new ≡ emit (so_far steps.old)
         (recs given.now.starts (steps_of (range_for given.now) given.now.base given.now.known given.now.first)) }
+    ensures moved_bound { (so_far steps.new).0.moved ≤ (so_far steps.old).0.moved + given.now.runs * 2 ^ 52 }
 {
     let mut walk = Progress {
         version: [0; MAX_RUNS],

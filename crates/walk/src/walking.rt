@@ -1,5 +1,5 @@
 // `walk` over a range of runs.
-ghost use Rattle.std.specs.Prelude.{◌≡◌, ◌-◌, ◌≤◌, ◌^◌, max, min};
+ghost use Rattle.std.specs.Prelude.{◌≡◌, ◌+◌, ◌-◌, ◌*◌, ◌≤◌, ◌^◌, max, min};
 ghost use Rattle.model.specs.Record.{view};
 ghost use Rattle.model.specs.Walk.{walk_of, walk_range};
 ghost use Rattle.walk.specs.Ranges.{ArraysOf, range_at};
@@ -49,6 +49,7 @@ pub(crate) fn walk_range(
     ensures same_list { same_list steps.new steps.old }
     ensures steps_after { (written result steps.new, rows.new) ≡ walked_in graph.now.starts
         (range_at graph.now bounds.from.0 bounds.end.0) bounds.from.0 bounds.known bounds.first (so_far steps.old) rows.old }
+    ensures moved_bound { (so_far steps.new).0.moved ≤ (so_far steps.old).0.moved + (bounds.end.0 - bounds.from.0) * 2 ^ 52 }
 {
     let a = bounds.from;
     let n = (bounds.end.0 - a.0) as usize;
@@ -57,8 +58,12 @@ pub(crate) fn walk_range(
         &all,
         a.0,
         rows,
-        &mut areas.parents,
-        &mut areas.chains,
+        &mut areas.parents.starts,
+        &mut areas.parents.items,
+        &mut areas.chains.row_starts,
+        &mut areas.chains.chains,
+        &mut areas.chains.places,
+        &mut areas.chains.lens,
         &mut areas.scratch,
     ) else {
         return Err(Refusal::RowsTooLong);

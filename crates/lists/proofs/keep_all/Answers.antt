@@ -1,7 +1,7 @@
 -- `lists::keep_all` meets its contract: a turn filters one item more. Assumes nothing.
 use Rattle.std.proofs.Common.{◌∙◌, not, arith}
 use Rattle.lists.specs.Lists.{mem, filter}
-use Rattle.lists.proofs.Keeping.{filter-first, keep_turn}
+use Rattle.lists.proofs.Keeping.{filter-first, keep_other}
 use Rattle.lists.proofs.keep_all.Goals as goal
 
 pub loop-x-init : goal.loop-x-init
@@ -12,4 +12,4 @@ pub push_if-requires : goal.push_if-requires
 push_if-requires c = rw c.loop-x.invariant (omega (arith, c.requires, filter-first (λ e. not (mem e c.args.ps.now)) c.args.a.now c.loop-x.x-index))
 
 pub loop-x-preserved : goal.loop-x-preserved
-loop-x-preserved c = c.push_if.ensures ∙ keep_turn c.args.ps.now c.args.a.now c.loop-x.x-index _ _ (omega arith) c.loop-x.invariant c.contains.ensures.value
+loop-x-preserved c = c.push_if.ensures ∙ keep_other c.args.ps.now c.args.a.now c.loop-x.x-index _ _ (omega arith) c.loop-x.invariant c.contains.ensures.value

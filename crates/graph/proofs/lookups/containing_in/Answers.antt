@@ -1,25 +1,10 @@
--- `graph::lookups::containing_in` meets its contract: no start is at most the event, or the end is, or a run's start is the last one. Assumes
--- nothing.
-use Rattle.std.proofs.Common.{rules, sym, ap, subst}
-use Rattle.std.proofs.iter.runs.Made.{chains}
+-- `graph::lookups::containing_in` meets its contract: an event below the first start is before the graph. Assumes nothing.
+use Rattle.std.proofs.Common.{◌-◌, length, sym, ap}
 use Rattle.model.specs.Answers.{containing_at}
-use Rattle.graph.proofs.Placing.{LastPlace, at_none, at_end, at_run}
+use Rattle.graph.proofs.Placing.{in_before}
 use Rattle.graph.proofs.lookups.containing_in.Goals as goal
 
-pub returns-in_default : goal.returns-in_default
-returns-in_default c =
+pub returns-then-event-starts : goal.returns-then-event-starts
+returns-then-event-starts c =
     let a = c.args in
-    let found : LastPlace a.starts.now a.event.0 c.rposition.result = search (rules, chains) in
-    ap containing_at (sym (at_none a.starts.now a.event.0 c.requires.some (subst (LastPlace a.starts.now a.event.0) c.in_default.is found)))
-
-pub returns-then-place-starts : goal.returns-then-place-starts
-returns-then-place-starts c =
-    let a = c.args in
-    let found : LastPlace a.starts.now a.event.0 c.rposition.result = search (rules, chains) in
-    ap containing_at (sym (at_end a.starts.now a.event.0 _ c.requires.rises (subst (LastPlace a.starts.now a.event.0) c.in-Some.is found) c.if-place-starts.true))
-
-pub returns : goal.returns
-returns c =
-    let a = c.args in
-    let found : LastPlace a.starts.now a.event.0 c.rposition.result = search (rules, chains) in
-    ap containing_at (sym (at_run a.starts.now a.event.0 _ c.requires.rises (subst (LastPlace a.starts.now a.event.0) c.in-Some.is found) c.if-place-starts.false))
+    ap containing_at (sym (in_before a.starts.now (length a.starts.now - 1) a.event.0 c.if-event-starts.true))

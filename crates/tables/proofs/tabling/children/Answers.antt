@@ -9,5 +9,5 @@ pub returns : goal.returns
 returns c =
     let a = c.args in
     let begins = c.starts_of.new.starts in
-    let size : length begins ≡ length a.parents.now + 1 = omega (arith, c.starts_of.auto.starts, length-take-le (c.len-w.result + 1) a.children.now.starts (omega (arith, c.len-w.ensures.few)), c.len-w.ensures.value) in
+    let size : length begins ≡ length a.parents.now + 1 = omega (arith, c.starts_of.auto.starts, length-take-le (c.len-w.result + 1) a.starts.now (omega (arith, c.len-w.ensures.value, c.requires.starts)), c.len-w.ensures.value) in
     kids-tabled a.parents.now _ _ (omega arith) (λ k le. get_or-append begins _ 0 k (omega (arith, size)) ∙ c.starts_of.ensures k le) c.children_of.ensures

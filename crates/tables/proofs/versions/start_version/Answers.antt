@@ -7,11 +7,11 @@ pub loop-r-init : goal.loop-r-init
 loop-r-init c =
     let a = c.args in
     let cleared : c.fill.new.self ≡ replicate a.chains 0 = search rules in
-    rw cleared (started_none a.tables.now.chains a.tables.now.places _ a.chains (front_cleared a.current.now a.chains))
+    rw cleared (started_none a.chain.now a.place.now _ a.chains (front_cleared a.current.now a.chains))
 
 pub loop-r-preserved : goal.loop-r-preserved
 loop-r-preserved c =
     let a = c.args in
     let l = c.loop-r in
-    let within : get_or a.tables.now.chains l.r 0 < length l.current = omega (arith, c.requires.1.chains l.r) in
-    rw (c.item-k.ensures, c.item.ensures) (started-next a.tables.now.chains a.tables.now.places l.current l.r a.chains within l.invariant)
+    let within : get_or a.chain.now l.r 0 < length l.current = omega (arith, c.requires.1.chains l.r) in
+    rw (c.item-k.ensures, c.item.ensures) (started-next a.chain.now a.place.now l.current l.r a.chains within l.invariant)

@@ -3,4 +3,4 @@ use Rattle.tables.specs.Reached.{started, Holds}
 use Rattle.tables.proofs.versions.start_version.Given as goal
 
 abbrev pub invariant-loop-r : goal.invariant-loop-r
-invariant-loop-r l = Holds (started l.tables.chains l.tables.places l.r) l.chains l.current
+invariant-loop-r l = Holds (started l.chain l.place l.r) l.chains l.current

@@ -12,16 +12,34 @@ use Rattle.walk.proofs.RangeReady.{measurable, relatable, prepared, range_same}
 use Rattle.walk.proofs.RangeWalked.{arrays_end, laid_by_arrays, range_short, range_walked}
 use Rattle.walk.proofs.walking.walk_range.Goals as goal
 
-pub lay-requires : goal.lay-requires
-lay-requires c =
+pub lay-requires-clause-from : goal.lay-requires-clause-from
+lay-requires-clause-from c =
     let g = c.args.graph.now in
-    let A = c.requires in
+    omega (arith, c.args.bounds.inside.0, rows_size g.parent_starts g.parents c.args.bounds.end.0 c.requires.sound c.new-all.result c.new-all.ensures)
+
+pub lay-requires-clause-below : goal.lay-requires-clause-below
+lay-requires-clause-below c =
+    let g = c.args.graph.now in
+    rows-below g.parent_starts g.parents c.args.bounds.end.0 c.requires.sound c.new-all.result c.new-all.ensures
+
+pub lay-requires-clause-groups : goal.lay-requires-clause-groups
+lay-requires-clause-groups c =
+    let g = c.args.graph.now in
     let end = c.args.bounds.end.0 in
-    record {
-      from = omega (arith, c.args.bounds.inside.0, rows_size g.parent_starts g.parents end A.sound c.new-all.result c.new-all.ensures);
-      below = rows-below g.parent_starts g.parents end A.sound c.new-all.result c.new-all.ensures;
-      few = omega (arith, A.few, rows-fit g.parent_starts g.parents end A.sound c.new-all.result c.new-all.ensures);
-    }
+    let size = rows_size g.parent_starts g.parents end c.requires.sound c.new-all.result c.new-all.ensures in
+    (omega (arith, size, c.requires.sound.few), omega (arith, c.requires.few, rows-fit g.parent_starts g.parents end c.requires.sound c.new-all.result c.new-all.ensures))
+
+pub lay-requires-clause-tables : goal.lay-requires-clause-tables
+lay-requires-clause-tables c =
+    let g = c.args.graph.now in
+    let size = rows_size g.parent_starts g.parents c.args.bounds.end.0 c.requires.sound c.new-all.result c.new-all.ensures in
+    let few = c.requires.sound.few in
+    (omega (arith, size, few), omega (arith, size, few), omega (arith, size, few), omega (arith, size, few))
+
+pub lay-requires-clause-scratch : goal.lay-requires-clause-scratch
+lay-requires-clause-scratch c =
+    let g = c.args.graph.now in
+    omega (arith, c.requires.sound.few, rows_size g.parent_starts g.parents c.args.bounds.end.0 c.requires.sound c.new-all.result c.new-all.ensures)
 
 pub returns-in_default-clause-steps_after : goal.returns-in_default-clause-steps_after
 unfolding range_at
@@ -29,10 +47,12 @@ returns-in_default-clause-steps_after c =
     let a = c.args in
     let g = a.graph.now in
     let l = c.lay in
+    let gs : Groups = record { starts = l.new.starts; items = l.new.items } in
+    let ts : ChainTables = record { row_starts = l.new.row_starts; chains = l.new.chains; places = l.new.places; lens = l.new.lens } in
     let laid =
     laid_by_arrays g.parent_starts g.parents a.bounds.from.0 a.bounds.end.0 a.bounds.inside.0 c.new-all.result c.new-all.ensures
-    a.rows.now l.new.area l.new.groups l.new.tables l.result l.ensures in
-    range_short g.starts g.parent_starts g.parents a.bounds.from.0 (a.bounds.end.0 - a.bounds.from.0) a.rows.now l.new.area l.new.groups l.new.tables l.result laid
+    a.rows.now l.new.area gs ts l.result l.ensures in
+    range_short g.starts g.parent_starts g.parents a.bounds.from.0 (a.bounds.end.0 - a.bounds.from.0) a.rows.now l.new.area gs ts l.result laid
     (a.bounds.end.0 - a.bounds.from.0) a.bounds.known a.bounds.first (so_far a.steps.now) refl c.in_default.is
 
 pub prepare-requires-clause-measurable : goal.prepare-requires-clause-measurable
@@ -42,10 +62,12 @@ prepare-requires-clause-measurable c =
     let n = (a.bounds.end.0 - a.bounds.from.0) in
     let A = arrays_end g.starts g.parent_starts g.parents a.bounds.from.0 a.bounds.end.0 n a.bounds.inside.0 refl c.requires in
     let l = c.lay in
+    let gs : Groups = record { starts = l.new.starts; items = l.new.items } in
+    let ts : ChainTables = record { row_starts = l.new.row_starts; chains = l.new.chains; places = l.new.places; lens = l.new.lens } in
     let laid =
     laid_by_arrays g.parent_starts g.parents a.bounds.from.0 a.bounds.end.0 a.bounds.inside.0 c.new-all.result c.new-all.ensures
-    a.rows.now l.new.area l.new.groups l.new.tables (Some c.in-Some.area) c.in-Some.ensures in
-    measurable g.starts g.parent_starts g.parents a.bounds.from.0 n A a.rows.now l.new.area l.new.groups l.new.tables c.in-Some.area laid
+    a.rows.now l.new.area gs ts (Some c.in-Some.area) c.in-Some.ensures in
+    measurable g.starts g.parent_starts g.parents a.bounds.from.0 n A a.rows.now l.new.area gs ts c.in-Some.area laid
 
 pub prepare-requires-clause-relatable : goal.prepare-requires-clause-relatable
 prepare-requires-clause-relatable c =
@@ -54,12 +76,14 @@ prepare-requires-clause-relatable c =
     let n = (a.bounds.end.0 - a.bounds.from.0) in
     let A = arrays_end g.starts g.parent_starts g.parents a.bounds.from.0 a.bounds.end.0 n a.bounds.inside.0 refl c.requires in
     let l = c.lay in
+    let gs : Groups = record { starts = l.new.starts; items = l.new.items } in
+    let ts : ChainTables = record { row_starts = l.new.row_starts; chains = l.new.chains; places = l.new.places; lens = l.new.lens } in
     let laid =
     laid_by_arrays g.parent_starts g.parents a.bounds.from.0 a.bounds.end.0 a.bounds.inside.0 c.new-all.result c.new-all.ensures
-    a.rows.now l.new.area l.new.groups l.new.tables (Some c.in-Some.area) c.in-Some.ensures in
+    a.rows.now l.new.area gs ts (Some c.in-Some.area) c.in-Some.ensures in
     let own_is = own_lent g.starts g.parent_starts g.parents a.bounds.from.0 n A a.bounds.from.0 (a.bounds.from.0 + n + 1) refl refl in
-    subst (λ (s : List ℕ). Relatable s n l.new.groups) (sym own_is)
-    (relatable g.starts g.parent_starts g.parents a.bounds.from.0 n A a.rows.now l.new.area l.new.groups l.new.tables c.in-Some.area laid)
+    subst (λ (s : List ℕ). Relatable s n gs) (sym own_is)
+    (relatable g.starts g.parent_starts g.parents a.bounds.from.0 n A a.rows.now l.new.area gs ts c.in-Some.area laid)
 
 pub invariant_of-given : goal.invariant_of-given
 invariant_of-given c =
@@ -68,12 +92,14 @@ invariant_of-given c =
     let n = (a.bounds.end.0 - a.bounds.from.0) in
     let A = arrays_end g.starts g.parent_starts g.parents a.bounds.from.0 a.bounds.end.0 n a.bounds.inside.0 refl c.requires in
     let l = c.lay in
+    let gs : Groups = record { starts = l.new.starts; items = l.new.items } in
+    let ts : ChainTables = record { row_starts = l.new.row_starts; chains = l.new.chains; places = l.new.places; lens = l.new.lens } in
     let laid =
     laid_by_arrays g.parent_starts g.parents a.bounds.from.0 a.bounds.end.0 a.bounds.inside.0 c.new-all.result c.new-all.ensures
-    a.rows.now l.new.area l.new.groups l.new.tables (Some c.in-Some.area) c.in-Some.ensures in
+    a.rows.now l.new.area gs ts (Some c.in-Some.area) c.in-Some.ensures in
     let q = c.prepare.new.self in
     let own_is = own_lent g.starts g.parent_starts g.parents a.bounds.from.0 n A a.bounds.from.0 (a.bounds.from.0 + n + 1) refl refl in
-    let R₀ = subst (λ (gs : Groups). RangeLaid (shares g.parent_starts g.parents a.bounds.from.0 n) n a.rows.now (Some c.in-Some.area) l.new.area gs l.new.tables)
+    let R₀ = subst (λ (u : Groups). RangeLaid (shares g.parent_starts g.parents a.bounds.from.0 n) n a.rows.now (Some c.in-Some.area) l.new.area u ts)
     (sym c.prepare.ensures.kept.0) laid in
     let R = subst (λ (t : ChainTables). RangeLaid (shares g.parent_starts g.parents a.bounds.from.0 n) n a.rows.now (Some c.in-Some.area) l.new.area q.parents t) (sym c.prepare.ensures.kept.1) R₀ in
     let M = subst (λ (s : List ℕ). Measured s n c.in-Some.area.chains l.new.area q.chains q.members q.sizes) own_is c.prepare.ensures.measured in
@@ -90,12 +116,14 @@ returns-clause-steps_after c =
     let n = (a.bounds.end.0 - a.bounds.from.0) in
     let A = arrays_end g.starts g.parent_starts g.parents a.bounds.from.0 a.bounds.end.0 n a.bounds.inside.0 refl c.requires in
     let l = c.lay in
+    let gs : Groups = record { starts = l.new.starts; items = l.new.items } in
+    let ts : ChainTables = record { row_starts = l.new.row_starts; chains = l.new.chains; places = l.new.places; lens = l.new.lens } in
     let laid =
     laid_by_arrays g.parent_starts g.parents a.bounds.from.0 a.bounds.end.0 a.bounds.inside.0 c.new-all.result c.new-all.ensures
-    a.rows.now l.new.area l.new.groups l.new.tables (Some c.in-Some.area) c.in-Some.ensures in
+    a.rows.now l.new.area gs ts (Some c.in-Some.area) c.in-Some.ensures in
     let q = c.prepare.new.self in
     let own_is = own_lent g.starts g.parent_starts g.parents a.bounds.from.0 n A a.bounds.from.0 (a.bounds.from.0 + n + 1) refl refl in
-    let R₀ = subst (λ (gs : Groups). RangeLaid (shares g.parent_starts g.parents a.bounds.from.0 n) n a.rows.now (Some c.in-Some.area) l.new.area gs l.new.tables)
+    let R₀ = subst (λ (u : Groups). RangeLaid (shares g.parent_starts g.parents a.bounds.from.0 n) n a.rows.now (Some c.in-Some.area) l.new.area u ts)
     (sym c.prepare.ensures.kept.0) laid in
     let R = subst (λ (t : ChainTables). RangeLaid (shares g.parent_starts g.parents a.bounds.from.0 n) n a.rows.now (Some c.in-Some.area) l.new.area q.parents t) (sym c.prepare.ensures.kept.1) R₀ in
     let M = subst (λ (s : List ℕ). Measured s n c.in-Some.area.chains l.new.area q.chains q.members q.sizes) own_is c.prepare.ensures.measured in

@@ -1,6 +1,6 @@
 -- `walk::areas::Areas::relate`: children and then weights.
 use Rattle.std.proofs.Common.{arith}
-use Rattle.tables.proofs.JaggedRows.{rows-below, rows-fit}
+use Rattle.tables.proofs.JaggedRows.{rows-below, rows-fit, rows_size}
 use Rattle.walk.proofs.Kinship.{kids, weighable}
 use Rattle.walk.proofs.areas.Areas.relate.Goals as goal
 
@@ -9,8 +9,18 @@ children-requires-clause-below c =
     let gs = c.args.self.now.parents in
     rows-below gs.starts gs.items c.args.n c.requires.sound c.rows-parents.result c.rows-parents.ensures.rows
 
-pub children-requires-clause-few : goal.children-requires-clause-few
-children-requires-clause-few c =
+pub children-requires-clause-starts : goal.children-requires-clause-starts
+children-requires-clause-starts c =
+    let gs = c.args.self.now.parents in
+    omega (arith, c.requires.sound.few, rows_size gs.starts gs.items c.args.n c.requires.sound c.rows-parents.result c.rows-parents.ensures.rows)
+
+pub children-requires-clause-scratch : goal.children-requires-clause-scratch
+children-requires-clause-scratch c =
+    let gs = c.args.self.now.parents in
+    omega (arith, c.requires.sound.few, rows_size gs.starts gs.items c.args.n c.requires.sound c.rows-parents.result c.rows-parents.ensures.rows)
+
+pub children-requires-clause-room : goal.children-requires-clause-room
+children-requires-clause-room c =
     let gs = c.args.self.now.parents in
     omega (arith, c.rows-parents.ensures.few, rows-fit gs.starts gs.items c.args.n c.requires.sound c.rows-parents.result c.rows-parents.ensures.rows)
 

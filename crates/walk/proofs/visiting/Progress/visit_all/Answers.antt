@@ -1,11 +1,12 @@
 -- `walk::visiting::Progress::visit_all`: how it begins, a visit more, one refused, and its two ends.
-use Rattle.std.proofs.Common.{◌≡◌, ◌+◌, ◌-◌, refl, sym, ap, ◌∙◌, subst, arith}
+use Rattle.std.proofs.Common.{◌≡◌, ◌+◌, ◌-◌, ◌^◌, refl, sym, ap, ◌∙◌, subst, arith}
 use Rattle.std.proofs.lemmas.Result.{err_from_is_err_and}
 use Rattle.moves.specs.Emit.{so_far}
+use Rattle.moves.specs.Stretches.{Below}
 use Rattle.walk.specs.Given.{Given, Prepared}
 use Rattle.walk.specs.Choose.{index_of}
 use Rattle.walk.specs.Turns.{best_in}
-use Rattle.walk.proofs.Looped.{looped_start, looped_ready, looped_fit, looped_none, looped_next, looped_refused, looped_end, none_ready, some_ready}
+use Rattle.walk.proofs.Looped.{looped_start, looped_ready, looped_fit, looped_none, looped_next, looped_refused, looped_moved, looped_refused_moved, looped_end, none_ready, some_ready}
 use Rattle.walk.proofs.visiting.Progress.visit_all.Goals as goal
 
 pub loop-init : goal.loop-init
@@ -57,3 +58,16 @@ returns-clause-steps_after c =
     let runs = ap (λ (g : Given). g.runs) c.given.view_is in
     let L = c.loop.invariant.looped in
     looped_end _ _ _ _ _ L (looped_none _ _ _ _ _ L (omega (arith, runs, c.loop-test.false)))
+
+-- What it moves
+pub returns-in_default-clause-moved_bound : goal.returns-in_default-clause-moved_bound
+returns-in_default-clause-moved_bound c = looped_moved _ _ _ _ _ c.loop.invariant.looped (subst (λ (g : Given). Below (2 ^ 32) g.starts) c.given.view_is c.starts_fit.ensures)
+
+pub returns-in_err-visit_next-clause-moved_bound : goal.returns-in_err-visit_next-clause-moved_bound
+unfolding best_in
+returns-in_err-visit_next-clause-moved_bound c =
+    let some = some_ready c.args.given.now c.loop.self c.in-Some.best (sym c.nearest.ensures ∙ c.in-Some.is) in
+    looped_refused_moved _ _ _ _ _ c.loop.invariant.looped some (subst (λ (g : Given). Below (2 ^ 32) g.starts) c.given.view_is c.starts_fit.ensures) _ c.in_err-visit_next.ensures.steps_after
+
+pub returns-clause-moved_bound : goal.returns-clause-moved_bound
+returns-clause-moved_bound c = looped_moved _ _ _ _ _ c.loop.invariant.looped (subst (λ (g : Given). Below (2 ^ 32) g.starts) c.given.view_is c.starts_fit.ensures)
