@@ -111,6 +111,11 @@ module _ (st : List ℕ) (k : Kind) (b : ℕ) where
         let runs : List ℕ = runs_of members begins from to c in
         light_append (stretches st k b runs) (moves_from st k b members begins from to (c + 1) n) (stretches_light h runs) (moves_light h (c + 1) n)
 
+    -- The events that the moves of one kind move on n chains: half of what a visit may
+    pub moves_moved : Below (2 ^ 32) st → length members ≤ 513 → (w : Writing) (c n : ℕ) → n ≤ max_runs →
+        (emit w (moves_from st k b members begins from to c n)).0.moved ≤ w.0.moved + 2 ^ 51
+    moves_moved h short w c n few = omega (arith, emit_moved w (moves_from st k b members begins from to c n) (moves_light h c n), moves_few short c n, few)
+
 -- The events that a visit moves: it retreats and advances on n chains, and its Apply moves none
 pub visit_moved : (st : List ℕ) (b : ℕ) (members begins current row : List ℕ) (n run : ℕ) (w : Writing) → Below (2 ^ 32) st → n ≤ max_runs → length members ≤ 513 →
     (emit w (visit_of st b members begins current row n run)).0.moved ≤ w.0.moved + 2 ^ 52

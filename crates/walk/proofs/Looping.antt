@@ -62,6 +62,11 @@ abbrev pub last_of : code.Option ℕ → Option ℕ
 last_of code.None = none
 last_of (code.Some r) = some r
 
+-- The last run visited, if there is one, is one of a range
+abbrev pub LastLow : Option ℕ → Type 0
+LastLow none = Unit {0}
+LastLow (some r) = r < 512
+
 -- What holds of all holds of a member
 all-mem : (Q : ℕ → Type 0) (xs : List ℕ) → All Q xs → (x : ℕ) → mem x xs ≡ true → Q x
 unfolding mem
@@ -170,6 +175,7 @@ module _ (g : Given) (P : Prepared g) where
       pub tells : Tells W g.known g.first visited ready t.waits
       pub left : t.left ≡ left_of W g.known g.first visited
       pub last-is : last ≡ last_of t.last
+      pub last-low : LastLow last
       pub moved : stretches.Below (2 ^ 32) g.starts → v.0.moved + fuel * 2 ^ 52 ≤ most
 
     module _ (fuel : ℕ) (t : Progress) (v : Writing) (S : Walks fuel t v) where
@@ -297,6 +303,7 @@ module _ (g : Given) (P : Prepared g) where
         left = T.left ∙ left-told W g.known g.first S.visited S.ready r S.walking.going ready-is
             (t.waits.0 - 1, t.waits.1, taken_out t.waits.2 t.waits.0 (index_of (best_in g t))) taken t.left S.left;
         last-is = sym (ap last_of T.last);
+        last-low = omega (arith, low, P.few);
         moved = λ small. next-moved small v₂ e;
       }
         where
@@ -357,6 +364,7 @@ module _ (g : Given) (P : Prepared g) where
         (omega (arith, length-replicate {A = ℕ} 512 0, P.few, ap length parents_are, size)));
     left = B.left ∙ sym (left-start W g.known g.first);
     last-is = sym (ap last_of B.last);
+    last-low = tt;
     moved = λ small. omega arith;
   }
     where
