@@ -65,7 +65,7 @@ impl Out {
     }
 
     // Puts a space and a number in decimal, if they fit in the buffer; whether they did. A `bool`, since an `io::Result` has 96 bytes: with one
-    // for each number a list took a third more time.
+    // for each number a list took a seventh more time.
     fn put_number(&mut self, n: u64) -> bool {
         let mut buffer = Buffer::new();
         let digits = buffer.format(n).as_bytes();
