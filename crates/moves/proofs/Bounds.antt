@@ -6,7 +6,7 @@ use Rattle.model.specs.Refusals.{Outcome}
 use Rattle.lists.specs.Areas.{part}
 use Rattle.moves.specs.declared.writing.Kind.{Kind}
 use Rattle.moves.specs.declared.writing.Kind.TheVariants.{Retreat, Advance, Apply}
-use Rattle.moves.specs.Emit.{Rec, Writing, step_of, going, stopped, if_going, pick, put3, kind_word, emit_one, emit, applies}
+use Rattle.moves.specs.Emit.{Rec, Writing, step_of, going, stopped, if_going, pick, put3, kind_word, emit_one, emit, applies, ByCount}
 use Rattle.moves.specs.Stretches.{Below, span_of, pick_l, stretch_from, stretches}
 use Rattle.moves.specs.Moves.{runs_of, moves_from, visit_of}
 
@@ -36,6 +36,16 @@ one_moved w r =
     let fits : Bool = ltb w.0.count (length w.1 / 3) in
     if_moved w.0.outcome (pick fits put full) w (w.0.moved + r.events) (pick_moved fits put full (w.0.moved + r.events) (omega arith) (omega arith)) (omega arith)
 
+-- and where all before it moved at most 2 ^ 64 for each step, all with it does
+pub one_by_count : (w : Writing) (r : Rec) → r.events ≤ 2 ^ 64 → ByCount w → ByCount (emit_one w r)
+one_by_count w r low h = go w.0.outcome (ltb w.0.count (length w.1 / 3))
+  where
+    go : (o : Outcome) (t : Bool) → ByCount (if_going o (pick t (going (w.0.count + 1) (w.0.moved + r.events), put3 w.1 (3 * w.0.count) (kind_word r.kind) r.first r.past)
+        (stopped w.0.count w.0.moved, w.1)) w)
+    go (Ok u) true = omega (arith, low, h)
+    go (Ok u) false = h
+    go (Err e) t = h
+
 -- Applies move none
 pub applies_moved : (w : Writing) (a n : ℕ) → (emit w (applies a n)).0.moved ≤ w.0.moved
 unfolding emit applies
@@ -49,6 +59,11 @@ pub emit_moved : (w : Writing) (rs : List Rec) → Light rs → (emit w rs).0.mo
 unfolding emit
 emit_moved w [] h = omega arith
 emit_moved w (r ∷ rs) h = omega (arith, emit_moved (emit_one w r) rs h.1, one_moved w r, h.0)
+
+pub emit_by_count : (w : Writing) (rs : List Rec) → Light rs → ByCount w → ByCount (emit w rs)
+unfolding emit
+emit_by_count w [] h low = low
+emit_by_count w (r ∷ rs) h low = emit_by_count (emit_one w r) rs h.1 (one_by_count w r (omega (arith, h.0)) low)
 
 module _ (st : List ℕ) (k : Kind) (b : ℕ) where
   -- A stretch has a run at least

@@ -1,5 +1,5 @@
 -- Records written one after another into a lent list, as long as they fit. Assumes nothing.
-use Rattle.std.specs.Prelude.{◌≡◌, Bool, true, false, List, [], ◌∷◌, ℕ, zero, suc, ◌+◌, ◌*◌, ◌/◌, length, set, ltb, Ok, Err}
+use Rattle.std.specs.Prelude.{◌≡◌, Bool, true, false, List, [], ◌∷◌, ℕ, zero, suc, ◌+◌, ◌*◌, ◌/◌, ◌≤◌, ◌^◌, length, set, ltb, Ok, Err}
 use Rattle.model.specs.declared.answers.Walked.{Walked}
 use Rattle.model.specs.declared.answers.Refusal.TheVariants.{ListTooShort}
 use Rattle.model.specs.Refusals.{Outcome}
@@ -28,6 +28,11 @@ step_of k a b e = record { kind = k; first = a; past = b; events = e }
 -- What stands in a list and what came of it, as a call answers it, and the list
 abbrev pub Writing : Type 0
 Writing = Walked × List ℕ
+
+-- What stands there moves at most 2 ^ 64 events for each step. It is so where nothing stands, and each record of no more events keeps it (`one_by_count`,
+-- proofs/Bounds.antt), so it is of a writer that begins with nothing
+abbrev pub ByCount : Writing → Type 0
+ByCount w = w.0.moved ≤ w.0.count * 2 ^ 64
 
 -- k records stand there, which moved m, and all found room; or one found none
 abbrev pub going : ℕ → ℕ → Walked

@@ -1,7 +1,7 @@
 // A visit's steps: retreats and advances, chain by chain, consecutive runs joined, and Apply.
 ghost use Rattle.std.specs.Prelude.{◌≡◌, ◌<◌};
 ghost use Rattle.model.specs.Limits.{max_runs};
-ghost use Rattle.moves.specs.Emit.{so_far, written, same_list, emit};
+ghost use Rattle.moves.specs.Emit.{so_far, written, same_list, emit, ByCount};
 ghost use Rattle.moves.specs.Stretches.{Below, stretches};
 ghost use Rattle.moves.specs.Moves.{runs_of, moves_from, visit_of};
 
@@ -34,6 +34,7 @@ fn put_chain(
     ensures same_list { same_list steps.new steps.old }
     ensures steps_after { written result steps.new ≡ emit (so_far steps.old)
         (stretches runs.entry.starts.now kind runs.entry.base (runs_of chains.entry.members.now chains.entry.begins.now from.now to.now c)) }
+    ensures small { ByCount (so_far steps.old) → ByCount (so_far steps.new) }
 {
     let lo = item(to, c, 0) as usize;
     let hi = item(from, c, 0) as usize;
@@ -58,6 +59,7 @@ fn put_moves(
     ensures same_list { same_list steps.new steps.old }
     ensures steps_after { written result steps.new ≡ emit (so_far steps.old)
         (moves_from runs.entry.starts.now kind runs.entry.base chains.entry.members.now chains.entry.begins.now from.now to.now 0 chains.entry.count) }
+    ensures small { ByCount (so_far steps.old) → ByCount (so_far steps.new) }
 {
     for c in 0..chains.count {
         put_chain(steps, runs, kind, chains, from, to, c)?;
@@ -78,6 +80,7 @@ pub fn put_visit(
     ensures same_list { same_list steps.new steps.old }
     ensures steps_after { written result steps.new ≡ emit (so_far steps.old)
         (visit_of runs.entry.starts.now runs.entry.base chains.entry.members.now chains.entry.begins.now current.now row.now chains.entry.count run) }
+    ensures small { ByCount (so_far steps.old) → ByCount (so_far steps.new) }
 {
     put_moves(steps, runs, Kind::Retreat, chains, current, row)?;
     put_moves(steps, runs, Kind::Advance, chains, row, current)?;

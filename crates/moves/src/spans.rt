@@ -1,7 +1,7 @@
 // Runs in stretches of consecutive numbers, a step for each.
 ghost use Rattle.std.specs.Prelude.{◌≡◌, ◌+◌, ◌-◌, ◌<◌, ◌^◌, get_or};
 ghost use Rattle.model.specs.Limits.{max_runs};
-ghost use Rattle.moves.specs.Emit.{so_far, written, same_list, emit_one, emit};
+ghost use Rattle.moves.specs.Emit.{so_far, written, same_list, emit_one, emit, ByCount};
 ghost use Rattle.moves.specs.Stretches.{Below, span_of, stretches};
 
 use crate::writing::{Kind, Steps};
@@ -29,6 +29,7 @@ fn put_span(steps: &mut Steps, runs: Runs, kind: Kind, first: u32, last: u32) ->
     requires { (first < max_runs) × (last < max_runs) }
     ensures same_list { same_list steps.new steps.old }
     ensures steps_after { written result steps.new ≡ emit_one (so_far steps.old) (span_of runs.entry.starts.now kind runs.entry.base first last) }
+    ensures small { ByCount (so_far steps.old) → ByCount (so_far steps.new) }
 {
     let a = runs.base + first;
     let b = runs.base + last + 1;
@@ -41,6 +42,7 @@ pub fn put_stretches(steps: &mut Steps, runs: Runs, kind: Kind, list: &[u32]) ->
     requires { Below max_runs list.now }
     ensures same_list { same_list steps.new steps.old }
     ensures steps_after { written result steps.new ≡ emit (so_far steps.old) (stretches runs.entry.starts.now kind runs.entry.base list.now) }
+    ensures small { ByCount (so_far steps.old) → ByCount (so_far steps.new) }
 {
     let [head, more @ ..] = list else {
         return Ok(());

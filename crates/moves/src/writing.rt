@@ -43,12 +43,13 @@ pub struct Steps<'a> {
 }
 
 impl<'a> Steps<'a> {
-    ghost use Rattle.moves.specs.Emit.{going, so_far, written, same_list, put_words, step_of, emit_one, emit, applies};
+    ghost use Rattle.moves.specs.Emit.{going, so_far, written, same_list, put_words, step_of, emit_one, emit, applies, ByCount};
 
     // Nothing written yet.
     pub fn over(list: &'a mut [u32]) -> Steps<'a>
         ensures over { result.list.ghost_name ≡ list.entry.ghost_name }
         ensures begun { so_far result ≡ (going 0 0, list.old) }
+        ensures small { ByCount (so_far result) }
     {
         Steps::going_on(list, 0, 0)
     }
@@ -69,6 +70,7 @@ impl<'a> Steps<'a> {
     pub fn put(&mut self, words: [u32; 3], events: u64) -> Result<(), Refusal>
         ensures same_list { same_list self.new self.old }
         ensures steps_after { written result self.new ≡ put_words (so_far self.old) (get_or words 0 0) (get_or words 1 0) (get_or words 2 0) events }
+        ensures small { ByCount (so_far self.old) → ByCount (so_far self.new) }
     {
         let n = self.count as usize;
         if self.list.len() / 3 <= n {
@@ -87,6 +89,7 @@ impl<'a> Steps<'a> {
     pub fn put_step(&mut self, kind: Kind, a: u32, b: u32, events: u64) -> Result<(), Refusal>
         ensures same_list { same_list self.new self.old }
         ensures steps_after { written result self.new ≡ emit_one (so_far self.old) (step_of kind a b events) }
+        ensures small { ByCount (so_far self.old) → ByCount (so_far self.new) }
     {
         self.put([kind.word(), a, b], events)
     }
@@ -95,6 +98,7 @@ impl<'a> Steps<'a> {
     pub fn put_applies(&mut self, first: u32, end: u32) -> Result<(), Refusal>
         ensures same_list { same_list self.new self.old }
         ensures steps_after { written result self.new ≡ emit (so_far self.old) (applies first (end - first)) }
+        ensures small { ByCount (so_far self.old) → ByCount (so_far self.new) }
     {
         for run in first..end {
             self.put_step(Kind::Apply, run, run + 1, 0)?;

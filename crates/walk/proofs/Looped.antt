@@ -13,33 +13,29 @@ use Rattle.walk.specs.Given.{Given, range_for, Prepared}
 use Rattle.walk.specs.Choose.{only_c, cost_c, weight_c, scan_c}
 use Rattle.walk.specs.Turns.{best_in, visited, Turned, Ready, Fit, Begun}
 use Rattle.walk.proofs.Chosen.{Found, found_some, found_none}
-use Rattle.walk.proofs.Looping.{Walks, is_ready_list, fit, next, next-moved, next-refused, fuel_some, ended, begun}
+use Rattle.walk.proofs.Looping.{Walks, WalksWithin, is_ready_list, fit, next, next-within, next-moved, next-refused, fuel_some, ended, begun, begun-within}
 
 -- What a walk that begins with v written writes
 abbrev pub whole_of : Given → Writing → Writing
 whole_of g v = emit v (recs g.starts (steps_of (range_for g) g.base g.known g.first))
 
--- and moves at most: 2 ^ 52 events more for each run
-abbrev pub most_of : Given → Writing → ℕ
-most_of g v₀ = v₀.0.moved + g.runs * 2 ^ 52
-
 -- It stands at t with v written, with `fuel` visits at most left; it began with v₀
 pub record Looped (g : Given) (v₀ : Writing) (fuel : ℕ) (t : Progress) (v : Writing) : Type 0 where
   pub prepared : Prepared g
-  pub walks : Walks g prepared (whole_of g v₀) (most_of g v₀) fuel t v
+  pub walks : Walks g prepared (whole_of g v₀) fuel t v
 
 pub looped_start : (g : Given) (t : Progress) (v : Writing) → Prepared g → Begun g t → Looped g v g.runs t v
 looped_start g t v P B = record { prepared = P; walks = begun g P t v B }
 
 module _ (g : Given) (v₀ : Writing) (fuel : ℕ) (t : Progress) (v : Writing) (L : Looped g v₀ fuel t v) where
   pub looped_ready : Ready g t
-  looped_ready = is_ready_list g L.prepared (whole_of g v₀) (most_of g v₀) fuel t v L.walks
+  looped_ready = is_ready_list g L.prepared (whole_of g v₀) fuel t v L.walks
 
   pub looped_fit : 0 < t.waits.0 → Fit g t
-  looped_fit some = fit g L.prepared (whole_of g v₀) (most_of g v₀) fuel t v L.walks some
+  looped_fit some = fit g L.prepared (whole_of g v₀) fuel t v L.walks some
 
   pub looped_some : 0 < t.waits.0 → 1 ≤ fuel
-  looped_some some = fuel_some g L.prepared (whole_of g v₀) (most_of g v₀) fuel t v L.walks some
+  looped_some some = fuel_some g L.prepared (whole_of g v₀) fuel t v L.walks some
 
   -- Where no visit is left, no run is ready
   pub looped_none : fuel ≤ 0 → t.waits.0 ≤ 0
@@ -50,11 +46,33 @@ module _ (g : Given) (v₀ : Writing) (fuel : ℕ) (t : Progress) (v : Writing) 
       none (inr le) = le
 
   pub looped_next : 0 < t.waits.0 → (u : Progress) (v₂ : Writing) → Turned g t u → v₂ ≡ emit v (visited g t) → Looped g v₀ (fuel - 1) u v₂
-  looped_next some u v₂ T e = record { prepared = L.prepared; walks = next g L.prepared (whole_of g v₀) (most_of g v₀) fuel t v L.walks some u v₂ T e }
+  looped_next some u v₂ T e = record { prepared = L.prepared; walks = next g L.prepared (whole_of g v₀) fuel t v L.walks some u v₂ T e }
 
   pub looped_refused : 0 < t.waits.0 → {f : Refusal} {k m : ℕ} {ws : List ℕ} → let v₂ : Writing = (record { count = k; moved = m; outcome = Err f }, ws) in
       v₂ ≡ emit v (visited g t) → v₂ ≡ whole_of g v₀
-  looped_refused some e = next-refused g L.prepared (whole_of g v₀) (most_of g v₀) fuel t v L.walks some e
+  looped_refused some e = next-refused g L.prepared (whole_of g v₀) fuel t v L.walks some e
+
+  pub looped_end : t.waits.0 ≤ 0 → v ≡ whole_of g v₀
+  looped_end none = ended g L.prepared (whole_of g v₀) fuel t v L.walks none
+
+-- It moves at most 2 ^ 52 events more for each run
+abbrev pub most_of : Given → Writing → ℕ
+most_of g v₀ = v₀.0.moved + g.runs * 2 ^ 52
+
+-- It stands so, and moves no more than that in all
+pub record LoopedWithin (g : Given) (v₀ : Writing) (fuel : ℕ) (t : Progress) (v : Writing) : Type 0 where
+  pub prepared : Prepared g
+  pub walks : WalksWithin g prepared (whole_of g v₀) (most_of g v₀) fuel t v
+
+pub within_start : (g : Given) (t : Progress) (v : Writing) → Prepared g → Begun g t → LoopedWithin g v g.runs t v
+within_start g t v P B = record { prepared = P; walks = begun-within g P t v B }
+
+module _ (g : Given) (v₀ : Writing) (fuel : ℕ) (t : Progress) (v : Writing) (L : LoopedWithin g v₀ fuel t v) where
+  pub within_looped : Looped g v₀ fuel t v
+  within_looped = record { prepared = L.prepared; walks = L.walks.walks }
+
+  pub within_next : 0 < t.waits.0 → (u : Progress) (v₂ : Writing) → Turned g t u → v₂ ≡ emit v (visited g t) → LoopedWithin g v₀ (fuel - 1) u v₂
+  within_next some u v₂ T e = record { prepared = L.prepared; walks = next-within g L.prepared (whole_of g v₀) (most_of g v₀) fuel t v L.walks some u v₂ T e }
 
   -- What it moves
   pub looped_moved : Below (2 ^ 32) g.starts → v.0.moved ≤ most_of g v₀
@@ -62,9 +80,6 @@ module _ (g : Given) (v₀ : Writing) (fuel : ℕ) (t : Progress) (v : Writing) 
 
   pub looped_refused_moved : 0 < t.waits.0 → Below (2 ^ 32) g.starts → (v₂ : Writing) → v₂ ≡ emit v (visited g t) → v₂.0.moved ≤ most_of g v₀
   looped_refused_moved some small v₂ e = omega (arith, next-moved g L.prepared (whole_of g v₀) (most_of g v₀) fuel t v L.walks some small v₂ e)
-
-  pub looped_end : t.waits.0 ≤ 0 → v ≡ whole_of g v₀
-  looped_end none = ended g L.prepared (whole_of g v₀) (most_of g v₀) fuel t v L.walks none
 
 -- No run is ready where none is best, and some is where one is
 module _ (g : Given) (t : Progress) where

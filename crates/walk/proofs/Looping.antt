@@ -162,8 +162,8 @@ module _ (g : Given) (P : Prepared g) where
   unfolding visited
   visit_moves small t v = visit_moved g.starts g.base (members_in g) (begins_in g) t.version (row_for g (run_at g t)) g.chains (run_at g t) v small few-chains few-members
 
-  -- Where the walk stands: `fuel` visits at most are left, and by them all moves no more than `most`
-  module _ (whole : Writing) (most : ℕ) where
+  -- Where the walk stands: `fuel` visits at most are left
+  module _ (whole : Writing) where
     pub record Walks (fuel : ℕ) (t : Progress) (v : Writing) : Type 0 where
       pub version : List ℕ
       pub last : Option ℕ
@@ -175,8 +175,6 @@ module _ (g : Given) (P : Prepared g) where
       pub tells : Tells W g.known g.first visited ready t.waits
       pub left : t.left ≡ left_of W g.known g.first visited
       pub last-is : last ≡ last_of t.last
-      pub last-low : LastLow last
-      pub moved : stretches.Below (2 ^ 32) g.starts → v.0.moved + fuel * 2 ^ 52 ≤ most
 
     module _ (fuel : ℕ) (t : Progress) (v : Writing) (S : Walks fuel t v) where
       -- A run of the ready list
@@ -226,10 +224,6 @@ module _ (g : Given) (P : Prepared g) where
         to = λ c lt. inside C (begins_in g) (members_in g) P.listed (at H r) (row_for g r) (row_is r low) c (omega (arith, P.number));
       }
 
-      -- and if all fits 63 bits, what the visit moves does too
-      pub fit-moved : stretches.Below (2 ^ 32) g.starts → most + 2 ^ 52 < 2 ^ 63 → v.0.moved + 2 ^ 52 < 2 ^ 63
-      fit-moved small budget = omega (arith, S.moved small, budget)
-
       -- The run visited is the one that the definitions choose
       only-is : (o : code.Option ℕ) (x : ℕ) → only_c g o x ≡ is_last (last_of o) (at pss x)
       unfolding only_c is_only is_last
@@ -268,10 +262,6 @@ module _ (g : Given) (P : Prepared g) where
             S.version S.last S.visited S.ready fuel v S.walking r choice-is,
       )
 
-      -- and with what is left the visit moves no more than that
-      pub next-moved : stretches.Below (2 ^ 32) g.starts → (v₂ : Writing) → v₂ ≡ emit v (visited g t) → v₂.0.moved + (fuel - 1) * 2 ^ 52 ≤ most
-      next-moved small v₂ e = omega (arith, ap (λ (x : Writing). x.0.moved) e, visit_moves small t v, S.moved small, fuel_some)
-
       visit-written : visited g t ≡ recs g.starts (visit W g.base S.version r)
       unfolding visited
       visit-written = visit-is C (begins_in g) (members_in g) P.listed W g.starts g.base r g.chains S.version t.version (row_for g r) (sym chains-is) P.number
@@ -303,8 +293,6 @@ module _ (g : Given) (P : Prepared g) where
         left = T.left ∙ left-told W g.known g.first S.visited S.ready r S.walking.going ready-is
             (t.waits.0 - 1, t.waits.1, taken_out t.waits.2 t.waits.0 (index_of (best_in g t))) taken t.left S.left;
         last-is = sym (ap last_of T.last);
-        last-low = omega (arith, low, P.few);
-        moved = λ small. next-moved small v₂ e;
       }
         where
           run_is : get_or t.waits.2 (index_of (best_in g t)) 0 ≡ r
@@ -341,7 +329,7 @@ module _ (g : Given) (P : Prepared g) where
         (told_none W g.known g.first S.visited S.ready t.waits S.tells none-ready S.version S.last)
 
   -- How it begins
-  pub begun : (t : Progress) (v : Writing) → Begun g t → Walks (emit v (recs g.starts (steps_of W g.base g.known g.first))) (v.0.moved + g.runs * 2 ^ 52) g.runs t v
+  pub begun : (t : Progress) (v : Writing) → Begun g t → Walks (emit v (recs g.starts (steps_of W g.base g.known g.first))) g.runs t v
   unfolding chains_for
   begun t v B = record {
     version = upto g.known;
@@ -364,8 +352,6 @@ module _ (g : Given) (P : Prepared g) where
         (omega (arith, length-replicate {A = ℕ} 512 0, P.few, ap length parents_are, size)));
     left = B.left ∙ sym (left-start W g.known g.first);
     last-is = sym (ap last_of B.last);
-    last-low = tt;
-    moved = λ small. omega arith;
   }
     where
       clamp : max g.known (min g.first (length W.parents)) ≡ g.first
@@ -373,3 +359,35 @@ module _ (g : Given) (P : Prepared g) where
 
       waits-are : t.waits ≡ start_all g.known g.first (0, replicate g.runs 0, replicate 512 0) 0 W.parents
       waits-are = B.waits ∙ (unfold start_waits in (ap (start_all g.known g.first (0, replicate g.runs 0, replicate 512 0) 0) (sym parents_are)))
+
+  -- So it stands, and the last run visited is one of a range, and by the visits that are left all moves no more than `most`
+  module _ (whole : Writing) (most : ℕ) where
+    pub record WalksWithin (fuel : ℕ) (t : Progress) (v : Writing) : Type 0 where
+      pub walks : Walks whole fuel t v
+      pub last-low : LastLow walks.last
+      pub moved : stretches.Below (2 ^ 32) g.starts → v.0.moved + fuel * 2 ^ 52 ≤ most
+
+    -- While a run is ready
+    module _ (fuel : ℕ) (t : Progress) (v : Writing) (S : WalksWithin fuel t v) (some-ready : 0 < t.waits.0) where
+      -- If all fits 63 bits, what the visit moves does too
+      pub fit-moved : stretches.Below (2 ^ 32) g.starts → most + 2 ^ 52 < 2 ^ 63 → v.0.moved + 2 ^ 52 < 2 ^ 63
+      fit-moved small budget = omega (arith, S.moved small, budget)
+
+      -- and with what is left the visit moves no more than that
+      pub next-moved : stretches.Below (2 ^ 32) g.starts → (v₂ : Writing) → v₂ ≡ emit v (visited g t) → v₂.0.moved + (fuel - 1) * 2 ^ 52 ≤ most
+      next-moved small v₂ e =
+          omega (arith, ap (λ (x : Writing). x.0.moved) e, visit_moves small t v, S.moved small, fuel_some whole fuel t v S.walks some-ready)
+
+      -- A visit goes on with the walk
+      pub next-within : (u : Progress) (v₂ : Writing) → Turned g t u → v₂ ≡ emit v (visited g t) → WalksWithin (fuel - 1) u v₂
+      unfolding next
+      next-within u v₂ T e = record {
+        walks = next whole fuel t v S.walks some-ready u v₂ T e;
+        last-low = omega (arith, low whole fuel t v S.walks some-ready, P.few);
+        moved = λ small. next-moved small v₂ e;
+      }
+
+  -- How it begins
+  pub begun-within : (t : Progress) (v : Writing) → Begun g t → WalksWithin (emit v (recs g.starts (steps_of W g.base g.known g.first))) (v.0.moved + g.runs * 2 ^ 52) g.runs t v
+  unfolding begun
+  begun-within t v B = record { walks = begun t v B; last-low = tt; moved = λ small. omega arith }

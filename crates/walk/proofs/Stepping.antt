@@ -7,9 +7,9 @@ use Rattle.walk.specs.declared.visiting.Progress.{Progress}
 use Rattle.walk.specs.Given.{Given, chains_in, places_in, begins_in, members_in, row_for, children_for}
 use Rattle.walk.specs.Choose.{index_of}
 use Rattle.walk.specs.Readiness.{woken_of, left_after, taken_out}
-use Rattle.walk.specs.Turns.{best_in, run_at, visited, Turned, Fit}
+use Rattle.walk.specs.Turns.{best_in, run_at, visited, Turned}
 
-module _ (g : Given) (t : Progress) (F : Fit g t) (at run : ℕ) (p : at ≡ index_of (best_in g t)) (q : run ≡ get_or t.waits.2 at 0) where
+module _ (g : Given) (t : Progress) (at run : ℕ) (p : at ≡ index_of (best_in g t)) (q : run ≡ get_or t.waits.2 at 0) where
   run_is : run ≡ run_at g t
   unfolding run_at
   run_is = q ∙ ap (λ (i : ℕ). get_or t.waits.2 i 0) p

@@ -21,6 +21,9 @@ returns-in_err-put_span-clause-steps_after c =
     ∙ ap (rest a.runs.starts.now a.kind a.runs.base (so_far a.steps.now) (get_or a.list.now 0 0) (get_or a.list.now 0 0)) (tail_is a.list.now)
     ∙ stretch_start a.runs.starts.now a.kind a.runs.base (so_far a.steps.now) a.list.now (omega arith)) c.in_err-put_span.ensures.steps_after)
 
+pub returns-in_err-put_span-clause-small : goal.returns-in_err-put_span-clause-small
+returns-in_err-put_span-clause-small c s = c.in_err-put_span.ensures.small (c.loop-run.invariant.small s)
+
 pub loop-run-preserved : goal.loop-run-preserved
 loop-run-preserved c =
     let a = c.args in
@@ -32,6 +35,7 @@ loop-run-preserved c =
           let put = w.in_ok-put_span.ensures in
           rw (w.steps-is, w.first-is, w.last-is) (record {
             same_list = put.same_list ∙ l.invariant.same_list;
+            small = λ s. put.small (l.invariant.small s);
             first = low;
             last = low;
             left = goes_on _ (stretch_next a.runs.starts.now a.kind a.runs.base
@@ -40,6 +44,7 @@ loop-run-preserved c =
       | else-run-last w ↦
           rw (w.steps-is, w.first-is, w.last-is) (record {
             same_list = l.invariant.same_list;
+            small = l.invariant.small;
             first = l.invariant.first;
             last = low;
             left = stretch_on a.runs.starts.now a.kind a.runs.base (so_far l.steps) l.first l.last more l.run-index c.loop-run-test.true w.if-run-last.false ∙ l.invariant.left;
@@ -53,3 +58,6 @@ returns-clause-steps_after c =
     c.put_span-2.ensures.steps_after ∙ stretch_last a.runs.starts.now a.kind a.runs.base (so_far l.steps) l.first l.last _ l.run-index c.loop-run-test.false ∙ l.invariant.left
     ∙ ap (rest a.runs.starts.now a.kind a.runs.base (so_far a.steps.now) (get_or a.list.now 0 0) (get_or a.list.now 0 0)) (tail_is a.list.now)
     ∙ stretch_start a.runs.starts.now a.kind a.runs.base (so_far a.steps.now) a.list.now (omega arith)
+
+pub returns-clause-small : goal.returns-clause-small
+returns-clause-small c s = c.put_span-2.ensures.small (c.loop-run.invariant.small s)

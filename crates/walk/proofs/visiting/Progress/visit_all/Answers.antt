@@ -6,21 +6,21 @@ use Rattle.moves.specs.Stretches.{Below}
 use Rattle.walk.specs.Given.{Given, Prepared}
 use Rattle.walk.specs.Choose.{index_of}
 use Rattle.walk.specs.Turns.{best_in}
-use Rattle.walk.proofs.Looped.{looped_start, looped_ready, looped_fit, looped_none, looped_next, looped_refused, looped_moved, looped_refused_moved, looped_end, none_ready, some_ready}
+use Rattle.walk.proofs.Looped.{looped_ready, looped_fit, looped_none, looped_refused, looped_end, within_start, within_looped, within_next, looped_moved, looped_refused_moved, none_ready, some_ready}
 use Rattle.walk.proofs.visiting.Progress.visit_all.Goals as goal
 
 pub loop-init : goal.loop-init
 loop-init c = let g = c.args.given.now in
     let z : g.runs - 0 ≡ g.runs = omega arith in
-    record { same_list = refl; looped = rw z (looped_start g _ (so_far c.args.steps.now) (subst Prepared c.given.view_is c.given.invariant) c.requires) }
+    record { same_list = refl; looped = rw z (within_start g _ (so_far c.args.steps.now) (subst Prepared c.given.view_is c.given.invariant) c.requires) }
 
 pub nearest-requires-clause-ready : goal.nearest-requires-clause-ready
-nearest-requires-clause-ready c = (looped_ready _ _ _ _ _ c.loop.invariant.looped).low
+nearest-requires-clause-ready c = (looped_ready _ _ _ _ _ (within_looped _ _ _ _ _ c.loop.invariant.looped)).low
 
 pub returns-in_default-clause-steps_after : goal.returns-in_default-clause-steps_after
 unfolding best_in
 returns-in_default-clause-steps_after c =
-    looped_end _ _ _ _ _ c.loop.invariant.looped (none_ready c.args.given.now c.loop.self (sym c.nearest.ensures ∙ c.in_default.is))
+    looped_end _ _ _ _ _ (within_looped _ _ _ _ _ c.loop.invariant.looped) (none_ready c.args.given.now c.loop.self (sym c.nearest.ensures ∙ c.in_default.is))
 
 pub visit_next-requires-clause-at : goal.visit_next-requires-clause-at
 unfolding best_in
@@ -29,14 +29,14 @@ visit_next-requires-clause-at c = ap index_of (sym c.in-Some.is ∙ c.nearest.en
 pub visit_next-requires-clause-fit : goal.visit_next-requires-clause-fit
 unfolding best_in
 visit_next-requires-clause-fit c =
-    looped_fit _ _ _ _ _ c.loop.invariant.looped (some_ready c.args.given.now c.loop.self c.in-Some.best (sym c.nearest.ensures ∙ c.in-Some.is))
+    looped_fit _ _ _ _ _ (within_looped _ _ _ _ _ c.loop.invariant.looped) (some_ready c.args.given.now c.loop.self c.in-Some.best (sym c.nearest.ensures ∙ c.in-Some.is))
 
 pub returns-in_err-visit_next-clause-steps_after : goal.returns-in_err-visit_next-clause-steps_after
 unfolding best_in
 returns-in_err-visit_next-clause-steps_after c =
     let some = some_ready c.args.given.now c.loop.self c.in-Some.best (sym c.nearest.ensures ∙ c.in-Some.is) in
     let p = err_from_is_err_and c.from_residual.result c.from_residual.ensures.1 in
-    rw (p.1, p.2) (looped_refused _ _ _ _ _ c.loop.invariant.looped some c.in_err-visit_next.ensures.steps_after)
+    rw (p.1, p.2) (looped_refused _ _ _ _ _ (within_looped _ _ _ _ _ c.loop.invariant.looped) some c.in_err-visit_next.ensures.steps_after)
 
 pub loop-preserved : goal.loop-preserved
 unfolding best_in
@@ -48,7 +48,7 @@ loop-preserved c = let a = c.args in
     let z : g.runs - (l.counter + 1) ≡ g.runs - l.counter - 1 = omega arith in
     record {
       same_list = v.same_list ∙ l.invariant.same_list;
-      looped = rw z (looped_next g (so_far a.steps.now) (g.runs - l.counter) l.self (so_far l.steps) l.invariant.looped some c.visit_next.new.self
+      looped = rw z (within_next g (so_far a.steps.now) (g.runs - l.counter) l.self (so_far l.steps) l.invariant.looped some c.visit_next.new.self
           (so_far c.visit_next.new.steps) v.turned v.steps_after);
     }
 
@@ -56,7 +56,7 @@ loop-preserved c = let a = c.args in
 pub returns-clause-steps_after : goal.returns-clause-steps_after
 returns-clause-steps_after c =
     let runs = ap (λ (g : Given). g.runs) c.given.view_is in
-    let L = c.loop.invariant.looped in
+    let L = within_looped _ _ _ _ _ c.loop.invariant.looped in
     looped_end _ _ _ _ _ L (looped_none _ _ _ _ _ L (omega (arith, runs, c.loop-test.false)))
 
 -- What it moves
