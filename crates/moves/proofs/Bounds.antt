@@ -36,7 +36,7 @@ one_moved w r =
     let fits : Bool = ltb w.0.count (length w.1 / 3) in
     if_moved w.0.outcome (pick fits put full) w (w.0.moved + r.events) (pick_moved fits put full (w.0.moved + r.events) (omega arith) (omega arith)) (omega arith)
 
--- and where all before it moved at most 2 ^ 64 for each step, all with it does
+-- and where what stood before it moved at most 2 ^ 64 events for each step, so does what stands with it
 pub one_by_count : (w : Writing) (r : Rec) → r.events ≤ 2 ^ 64 → ByCount w → ByCount (emit_one w r)
 one_by_count w r low h = go w.0.outcome (ltb w.0.count (length w.1 / 3))
   where
@@ -60,6 +60,7 @@ unfolding emit
 emit_moved w [] h = omega arith
 emit_moved w (r ∷ rs) h = omega (arith, emit_moved (emit_one w r) rs h.1, one_moved w r, h.0)
 
+-- nor do they take away that what stands there moved at most 2 ^ 64 for each step
 pub emit_by_count : (w : Writing) (rs : List Rec) → Light rs → ByCount w → ByCount (emit w rs)
 unfolding emit
 emit_by_count w [] h low = low
